@@ -1,18 +1,13 @@
 -- What is shown of a list of tokens is judged as what was read of it.
 use Rattle.std.proofs.Common.{Bool, true, List, Result, Ok, Err, refl, sym, subst, ◌∙◌}
-use Rattle.swc_context.specs.declared.context.Context.{Context}
-use Rattle.swc_context.specs.declared.context.Syntax.{Syntax}
-use Rattle.swc_context.specs.declared.error.Error.{Error}
+use Rattle.swc_context.specs.{declared.context.Context.Context, declared.context.Syntax.Syntax, declared.error.Error.Error}
 use Rattle.swc_input.specs.declared.token.TokenAndSpan.{TokenAndSpan}
-use Rattle.swc_ast.specs.Tree.{Tree}
-use Rattle.swc_ast.specs.declared.spanned.Spanned.{Ghosts}
-use Rattle.swc_bodies.specs.Body.{Body}
-use Rattle.swc_bodies.specs.Taking.{token_forms}
+use Rattle.swc_ast.specs.{Tree.Tree, declared.spanned.Spanned.Ghosts}
+use Rattle.swc_bodies.specs.{Body.Body, Taking.token_forms}
 use Rattle.swc_grammar.specs.Symbols.{Symbol}
 use Rattle.swc_nodes.specs.declared.nodes.Nodes.{Nodes}
 use Rattle.swc_ecma_parser.specs.WholeList.{plain_list, IsHeeded, Headline}
-use Rattle.show.specs.Answers.{Judged, Shows}
-use Rattle.show.specs.declared.answer.Shown.{Shown}
+use Rattle.show.specs.{Answers.Judged, Answers.Shows, declared.answer.Shown.Shown}
 
 module _ {N : Type 0} {fg cg kg : Ghosts Body} (s : Symbol) (tree : Nodes Body Body Body fg cg kg → N → Tree Body Body Body)
     (c : Context) (x : Syntax) (ts : List TokenAndSpan) (nodes : Nodes Body Body Body fg cg kg)

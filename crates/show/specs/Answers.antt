@@ -1,25 +1,16 @@
 -- What is answered of a source text.
 use Rattle.std.specs.Prelude.{◌≡◌, ℕ, ◌<◌, ◌≤◌, Bool, true, false, List, [], length, Result, Err, IfOk, MatchResult}
-use Rattle.swc_context.specs.Contexts.{view}
-use Rattle.swc_context.specs.declared.context.Context.{Context}
-use Rattle.swc_context.specs.declared.context.Syntax.{Syntax}
-use Rattle.swc_context.specs.declared.error.Error.{Error}
-use Rattle.swc_context.specs.declared.error.SyntaxError.TheVariants.{OutOfMemory}
+use Rattle.swc_context.specs.{Contexts.view, declared.context.Context.Context, declared.context.Syntax.Syntax, declared.error.Error.Error, declared.error.SyntaxError.TheVariants.OutOfMemory}
 use Rattle.swc_input.specs.declared.token.TokenAndSpan.{TokenAndSpan}
 use Rattle.swc_ast.specs.Tree.{Tree}
-use Rattle.swc_bodies.specs.Body.{Body}
-use Rattle.swc_bodies.specs.Taking.{token_forms}
+use Rattle.swc_bodies.specs.{Body.Body, Taking.token_forms}
 use Rattle.swc_tokens.specs.Faults.{lex_fault, between, IsRefusal}
-use Rattle.swc_tokens.specs.Nesting.{AreNested}
-use Rattle.swc_tokens.specs.Reading.{AreRead}
+use Rattle.swc_tokens.specs.{Nesting.AreNested, Reading.AreRead}
 use Rattle.swc_grammar.specs.Symbols.{Symbol, Expr, Pat}
 use Rattle.swc_grammar.specs.Reads.{Reads}
 use Rattle.swc_steps.specs.Parsing.{scope_of}
-use Rattle.swc_ecma_parser.specs.Promise.{Finished, covers_done}
-use Rattle.swc_ecma_parser.specs.WholeList.{plain_list}
-use Rattle.show.specs.declared.answer.Shown.{Shown}
-use Rattle.show.specs.declared.answer.What.{What}
-use Rattle.show.specs.declared.answer.What.TheVariants as kind
+use Rattle.swc_ecma_parser.specs.{Promise.Finished, Promise.covers_done, WholeList.plain_list}
+use Rattle.show.specs.{declared.answer.Shown.Shown, declared.answer.What.What, declared.answer.What.What as kind}
 
 -- the syntax in which the program reads, if no flag asks for another
 abbrev pub as_default : Syntax

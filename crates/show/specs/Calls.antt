@@ -1,17 +1,9 @@
 -- What the program is asked to do, and what it answers.
-use Rattle.std.specs.Prelude.{◌≡◌, ℕ, true, if◌then◌else◌, List, [], ◌∷◌, Option, Some, None, IsSome, IfSome}
-use Rattle.std.specs.Prelude.{Result, Ok, Err, codes}
+use Rattle.std.specs.Prelude.{◌≡◌, ℕ, true, if◌then◌else◌, List, [], ◌∷◌, Option, Some, None, IsSome, IfSome, Result, Ok, Err, codes}
 use Rattle.swc_context.specs.Contexts.{script_context, module_context, strict_context, generator_context, async_context}
-use Rattle.swc_context.specs.Texts.{is_text}
-use Rattle.swc_context.specs.declared.context.Context.{Context}
-use Rattle.swc_context.specs.declared.context.Syntax.{Syntax}
-use Rattle.swc_context.specs.declared.error.Error.{Error}
+use Rattle.swc_context.specs.{Texts.is_text, declared.context.Context.Context, declared.context.Syntax.Syntax, declared.error.Error.Error}
 use Rattle.swc_grammar.specs.Symbols.{Symbol}
-use Rattle.show.specs.declared.answer.Asked.{Asked}
-use Rattle.show.specs.declared.answer.Shown.{Shown}
-use Rattle.show.specs.declared.answer.What.{What}
-use Rattle.show.specs.declared.answer.What.TheVariants as kind
-use Rattle.show.specs.Answers.{as_default, Answers}
+use Rattle.show.specs.{declared.answer.Asked.Asked, declared.answer.Shown.Shown, declared.answer.What.What, declared.answer.What.What as kind, Answers.as_default, Answers.Answers}
 
 -- the context of a mode
 abbrev pub context_of_mode : List ℕ → Option Context

@@ -3,8 +3,7 @@ ghost use Rattle.std.specs.Prelude.{◌≡◌, IfOk};
 ghost use Rattle.show.specs.Answers.{Answers, Judged, Shows, symbol_of};
 ghost use Rattle.show.specs.Calls as calls;
 ghost use Rattle.swc_grammar.specs.Symbols.{Expr, Pat};
-ghost use Rattle.swc_nodes.specs.NodeParts.{expr_part, pat_part};
-ghost use Rattle.swc_nodes.specs.GrowingNodes.{From};
+ghost use Rattle.swc_nodes.specs.{NodeParts.expr_part, NodeParts.pat_part, GrowingNodes.From};
 ghost use Rattle.swc_ecma_parser.specs.WholeList.{IsHeeded};
 
 use std::alloc::Global;

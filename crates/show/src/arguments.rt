@@ -7,7 +7,7 @@ use crate::answer::{Asked, What};
 use swc_context::context::{Context, Syntax};
 
 /// What the arguments ask for, or `None` where they are bad. The good ones are `expr` or `pat`, and a mode, after
-/// which `pedantic` may stand.
+/// which `pedantic` may come.
 pub(crate) fn asked_by(arguments: &[&str]) -> Option<Asked>
     ensures value { result ≡ calls.asked_by (map (λ a. a.now) arguments.now) }
     ensures heeded { IfSome result (λ a. IsHeeded a.context a.syntax) }

@@ -1,52 +1,34 @@
 -- What the clean parser reads where an assignment expression begins with an operand that may have been the parameters
 -- of an arrow function (13.2.9, 13.3.8, 15.9): the grammar derives it, and so it holds nothing that was refused.
-use Rattle.std.proofs.Common.{◌≡◌, ℕ, Bool, true, false, not, ◌&&◌, ◌||◌, if◌then◌else◌, List, [], ◌∷◌, ◌++◌, Option}
-use Rattle.std.proofs.Common.{Some, None, map}
-use Rattle.std.proofs.Common.{refl, sym, ap, subst, ◌∙◌, arith}
-use Rattle.swc_context.specs.declared.span.Span.{Span}
-use Rattle.swc_context.specs.declared.word.Word.TheVariants as word
-use Rattle.swc_input.specs.declared.token.Token.{Token}
+use Rattle.std.proofs.Common.{◌≡◌, ℕ, Bool, true, false, not, ◌&&◌, ◌||◌, if◌then◌else◌, List, [], ◌∷◌, ◌++◌, Option, Some, None, map, refl, sym, ap, subst, ◌∙◌, arith}
+use Rattle.swc_context.specs.{declared.span.Span.Span, declared.word.Word.Word as word}
+use Rattle.swc_input.specs.{declared.token.Token.Token, declared.token.TokenAndSpan.TokenAndSpan, Kinds.at_token, Source.Model, declared.buffer.Buffer.Buffer}
 use Rattle.swc_input.specs.declared.token.Token.TheVariants as token
-use Rattle.swc_input.specs.declared.token.TokenAndSpan.{TokenAndSpan}
-use Rattle.swc_input.specs.Kinds.{at_token}
-use Rattle.swc_input.specs.Source.{Model}
-use Rattle.swc_input.specs.declared.buffer.Buffer.{Buffer}
-use Rattle.swc_ast.specs.Tree.{Tree}
 use Rattle.swc_ast.specs.Trees.{ident_e, is_valid, covers_ok, paren_ok}
-use Rattle.swc_ast.specs.declared.expr.ExprOrSpread.{ExprOrSpread}
-use Rattle.swc_ast.specs.declared.spanned.Spanned.{Ghosts}
+use Rattle.swc_ast.specs.{Tree.Tree, declared.expr.ExprOrSpread.ExprOrSpread, declared.spanned.Spanned.Ghosts}
 use Rattle.swc_bodies.specs.Readings.{Hook, LawfulHook, is_async as is_async_token, is_function}
-use Rattle.swc_grammar.specs.Arrows.{async_name, goes_on_async, is_arrow, is_bindable, is_of, of_arrow}
+use Rattle.swc_grammar.specs.Arrows.{async_name, goes_on_async, is_arrow, is_bindable, is_of, of_arrow, before_of as of_follows}
 use Rattle.swc_grammar.specs.Clean.{Out, first, second, run, links, updates, climb}
 use Rattle.swc_grammar.specs.Grammar.{async-ident, base-primary, call, left-base, lhs-left, paren-expr}
 use Rattle.swc_grammar.specs.Names.{Spelling, spelled, may_refer}
 use Rattle.swc_grammar.specs.Reads.{Reads, by, gave, took, held, calm, calm-two, part}
-use Rattle.swc_grammar.specs.Rule.{sees, sees_two}
-use Rattle.swc_grammar.specs.Scope.{Scope, inner}
 use Rattle.swc_grammar.specs.Symbols.{Args, Left, Level}
 use Rattle.swc_grammar.specs.Tokens.{with_in, is_await, is_lparen, is_put_off}
 use Rattle.swc_grammar.specs.Words.{◌>>=◌, one, word as word_at}
+use Rattle.swc_grammar.specs.{Rule.sees, Rule.sees_two, Scope.Scope, Scope.inner}
 use Rattle.swc_grammar.proofs.Answers.{only, unless, inj}
-use Rattle.swc_grammar.proofs.Good.{valid}
-use Rattle.swc_grammar.proofs.Induct.{follows-given}
 use Rattle.swc_grammar.proofs.Sound.{sound, run-sound, alone}
+use Rattle.swc_grammar.proofs.{Good.valid, Induct.follows-given}
 use Rattle.swc_nodes.specs.GrowingNodes.{first_start, last_end, Apart}
-use Rattle.swc_nodes.specs.NodeParts.{args_parts}
-use Rattle.swc_nodes.specs.declared.node.ExprId.{ExprId}
-use Rattle.swc_nodes.specs.declared.nodes.Nodes.{Nodes}
+use Rattle.swc_nodes.specs.{NodeParts.args_parts, declared.node.ExprId.ExprId, declared.nodes.Nodes.Nodes}
 use Rattle.swc_steps.specs.Args.{args_inside, paren_closed, paren_of, paren_from}
-use Rattle.swc_steps.specs.Keys.{expected, expected_by}
-use Rattle.swc_steps.specs.Lists.{eaten, eaten_by}
-use Rattle.swc_steps.specs.declared.tokens.Listed.{Listed}
-use Rattle.swc_steps.proofs.Args.{inside_args}
-use Rattle.swc_steps.proofs.Steps.Inner.{inner_is}
-use Rattle.swc_arrows.proofs.Closes.{closed_clean}
-use Rattle.swc_arrows.specs.Readers.{async_base, async_call, base_look, base_plain}
-use Rattle.swc_arrows.specs.Readers.{before_of, is_of_alone, list_opening, listed_base, of_base, operators_behind}
-use Rattle.swc_arrows.specs.Answers.{HearsOperand, Operand}
 use Rattle.swc_steps.specs.Parsing.{scope, args_at, Here, Told, On, Heard}
+use Rattle.swc_steps.specs.{Keys.expected, Keys.expected_by, Lists.eaten, Lists.eaten_by, declared.tokens.Listed.Listed}
 use Rattle.swc_steps.proofs.Steps.{Reader, give, on_call_read, on_then, on_told, heard_after, heard_more}
-use Rattle.swc_grammar.specs.Arrows.{before_of as of_follows}
+use Rattle.swc_steps.proofs.{Args.inside_args, Steps.Inner.inner_is}
+use Rattle.swc_arrows.proofs.Closes.{closed_clean}
+use Rattle.swc_arrows.specs.Readers.{async_base, async_call, base_look, base_plain, before_of, is_of_alone, list_opening, listed_base, of_base, operators_behind}
+use Rattle.swc_arrows.specs.Answers.{HearsOperand, Operand}
 
 -- ---- tokens
 

@@ -1,38 +1,18 @@
 -- The steps of the code where what may be an arrow function is an operand, which links may follow (13.2.9, 13.3.8).
-use Rattle.std.proofs.Common.{◌≡◌, Bool, if◌then◌else◌, true, false, List, Option, Some, None, Result, Ok, Err, IfOk}
-use Rattle.std.proofs.Common.{ℕ, [], refl, sym, ap, subst}
-use Rattle.swc_context.specs.declared.error.Error.{Error}
-use Rattle.swc_context.specs.declared.span.BytePos.{BytePos}
-use Rattle.swc_context.specs.declared.span.Span.{Span}
-use Rattle.swc_input.specs.declared.buffer.Buffer.{Buffer}
-use Rattle.swc_input.specs.declared.token.TokenAndSpan.{TokenAndSpan}
-use Rattle.swc_input.specs.Kinds.{at_token}
-use Rattle.swc_input.specs.Source.{Model, Laws}
-use Rattle.swc_ast.specs.Tree.{Tree}
-use Rattle.swc_ast.specs.declared.spanned.Spanned.{Ghosts}
+use Rattle.std.proofs.Common.{◌≡◌, Bool, if◌then◌else◌, true, false, List, Option, Some, None, Result, Ok, Err, IfOk, ℕ, [], refl, sym, ap, subst}
+use Rattle.swc_context.specs.{declared.error.Error.Error, declared.span.BytePos.BytePos, declared.span.Span.Span}
+use Rattle.swc_input.specs.{declared.buffer.Buffer.Buffer, declared.token.TokenAndSpan.TokenAndSpan, Kinds.at_token, Source.Model, Source.Laws}
+use Rattle.swc_ast.specs.{Tree.Tree, declared.spanned.Spanned.Ghosts}
 use Rattle.swc_bodies.specs.Readings.{is_async as is_async_token}
-use Rattle.swc_grammar.specs.Arrows.{is_arrow}
-use Rattle.swc_grammar.specs.Clean.{first}
-use Rattle.swc_grammar.specs.Names.{Spelling, may_refer}
-use Rattle.swc_grammar.specs.Scope.{Scope}
-use Rattle.swc_grammar.specs.Tokens.{is_lparen}
-use Rattle.swc_grammar.specs.Words.{◌>>=◌, word}
-use Rattle.swc_nodes.specs.GrowingNodes.{Apart, Grows}
-use Rattle.swc_nodes.specs.NodeParts.{expr_part}
-use Rattle.swc_nodes.specs.declared.node.ExprId.{ExprId}
-use Rattle.swc_nodes.specs.declared.node.PatId.{PatId}
-use Rattle.swc_nodes.specs.declared.nodes.Nodes.{Nodes}
+use Rattle.swc_grammar.specs.{Arrows.is_arrow, Clean.first, Names.Spelling, Names.may_refer, Scope.Scope, Tokens.is_lparen, Words.◌>>=◌, Words.word}
+use Rattle.swc_nodes.specs.{GrowingNodes.Apart, GrowingNodes.Grows, NodeParts.expr_part, declared.node.ExprId.ExprId, declared.node.PatId.PatId, declared.nodes.Nodes.Nodes}
 use Rattle.swc_nodes.proofs.Held.{from-apart, tree-later}
 use Rattle.swc_steps.specs.Keys.{expected}
 use Rattle.swc_steps.specs.Parsing.{seen, On, Heard}
 use Rattle.swc_steps.proofs.Steps.{give, here_now, seen_some, on_seen, on_call, on_then, heard_after, heard_more}
 use Rattle.swc_arrows.specs.Answers.{callee_at, callee_parts, HearsBase, IsArrow, IsBase, OneParam}
-use Rattle.swc_arrows.specs.Readers.{async_alone, async_base, async_opening, base_closed, base_look, before_of}
-use Rattle.swc_arrows.specs.Readers.{list_opening}
-use Rattle.swc_arrows.specs.Readers.{of_alone, of_base}
-use Rattle.swc_arrows.specs.declared.names.ArrowHead.{ArrowHead}
-use Rattle.swc_arrows.specs.declared.names.Beginning.{Beginning}
-use Rattle.swc_arrows.specs.declared.names.Beginning.TheVariants as begins
+use Rattle.swc_arrows.specs.Readers.{async_alone, async_base, async_opening, base_closed, base_look, before_of, list_opening, of_alone, of_base}
+use Rattle.swc_arrows.specs.{declared.names.ArrowHead.ArrowHead, declared.names.Beginning.Beginning, declared.names.Beginning.Beginning as begins}
 
 -- ---- what is answered
 

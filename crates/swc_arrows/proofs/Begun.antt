@@ -1,32 +1,20 @@
 -- Where an assignment expression may be an arrow function: what is answered, and what is left to read.
 use Rattle.std.proofs.Common.{◌≡◌, ℕ, ◌≤◌, Bool, false, List, Option, Some, Result, Ok, Err, IsErrAnd, refl, sym, ap}
-use Rattle.swc_context.specs.declared.error.Error.{Error}
-use Rattle.swc_context.specs.declared.span.BytePos.{BytePos}
-use Rattle.swc_context.specs.declared.span.Span.{Span}
-use Rattle.swc_input.specs.declared.token.TokenAndSpan.{TokenAndSpan}
-use Rattle.swc_input.specs.Source.{Model}
+use Rattle.swc_context.specs.{declared.error.Error.Error, declared.span.BytePos.BytePos, declared.span.Span.Span}
+use Rattle.swc_input.specs.{declared.token.TokenAndSpan.TokenAndSpan, Source.Model}
 use Rattle.swc_ast.specs.Tree.{Tree, Trees, span_of}
-use Rattle.swc_ast.specs.declared.expr.BlockStmtOrExpr.{BlockStmtOrExpr}
-use Rattle.swc_ast.specs.declared.spanned.Spanned.{Ghosts}
+use Rattle.swc_ast.specs.{declared.expr.BlockStmtOrExpr.BlockStmtOrExpr, declared.spanned.Spanned.Ghosts}
 use Rattle.swc_bodies.specs.Readings.{Hook, LawfulHook}
 use Rattle.swc_grammar.specs.Clean.{run, assigns, sym as at}
-use Rattle.swc_grammar.specs.Scope.{Scope}
-use Rattle.swc_grammar.specs.Symbols.{ArrowBody, Level}
-use Rattle.swc_grammar.specs.Words.{◌>>=◌}
+use Rattle.swc_grammar.specs.{Scope.Scope, Symbols.ArrowBody, Symbols.Level, Words.◌>>=◌}
 use Rattle.swc_nodes.specs.GrowingNodes.{tree_at, body_end, Apart, From, Grows}
-use Rattle.swc_nodes.specs.NodeParts.{body_parts, expr_part}
-use Rattle.swc_nodes.specs.declared.node.ExprId.{ExprId}
-use Rattle.swc_nodes.specs.declared.nodes.Nodes.{Nodes}
-use Rattle.swc_nodes.proofs.Held.{from-down}
-use Rattle.swc_nodes.proofs.Standing.{grows-then}
-use Rattle.swc_steps.specs.Args.{args_inside}
-use Rattle.swc_steps.specs.Parsing.{On, Unheard}
-use Rattle.swc_steps.specs.declared.productions.Productions.{Productions}
+use Rattle.swc_nodes.specs.{NodeParts.body_parts, NodeParts.expr_part, declared.node.ExprId.ExprId, declared.nodes.Nodes.Nodes}
+use Rattle.swc_nodes.proofs.{Held.from-down, Standing.grows-then}
+use Rattle.swc_steps.specs.{Args.args_inside, Parsing.On, Parsing.Unheard, declared.productions.Productions.Productions}
 use Rattle.swc_steps.proofs.Steps.{Reader, less, heard_after, unheard_after}
 use Rattle.swc_arrows.specs.Answers.{Based, body_at, MayBeArrow, EndsArrow, Opens, ReadsArrow}
 use Rattle.swc_arrows.specs.Readers.{others, base_behind, arrow_behind, arrow_end, list_behind, list_rest}
-use Rattle.swc_arrows.specs.declared.bodies.ArrowOrBase.{ArrowOrBase}
-use Rattle.swc_arrows.specs.declared.bodies.ArrowOrBase.TheVariants as arrow_or
+use Rattle.swc_arrows.specs.declared.bodies.ArrowOrBase.{ArrowOrBase, ArrowOrBase as arrow_or}
 use Rattle.swc_arrows.proofs.BodyEnds.{body_ended}
 use Rattle.swc_arrows.proofs.Dooms.{fails_after, opens_fails, opens_heard, opens_later}
 

@@ -1,18 +1,10 @@
 -- Where the body of an arrow function ends: it holds nothing that was refused, so that its place says it.
 use Rattle.std.proofs.Common.{◌≡◌, ℕ, Bool, List, Some, refl}
 use Rattle.swc_input.specs.declared.token.TokenAndSpan.{TokenAndSpan}
-use Rattle.swc_ast.specs.Tree.{span_of}
-use Rattle.swc_ast.specs.declared.expr.BlockStmtOrExpr.{BlockStmtOrExpr}
-use Rattle.swc_ast.specs.declared.expr.BlockStmtOrExpr.TheVariants as body
-use Rattle.swc_ast.specs.declared.spanned.Spanned.{Ghosts}
+use Rattle.swc_ast.specs.{Tree.span_of, declared.expr.BlockStmtOrExpr.BlockStmtOrExpr, declared.expr.BlockStmtOrExpr.BlockStmtOrExpr as body, declared.spanned.Spanned.Ghosts}
 use Rattle.swc_bodies.specs.Readings.{Hook, LawfulHook}
-use Rattle.swc_grammar.specs.Clean.{run, sym as at}
-use Rattle.swc_grammar.specs.Scope.{Scope}
-use Rattle.swc_grammar.specs.Symbols.{ArrowBody}
-use Rattle.swc_nodes.specs.GrowingNodes.{body_end, Apart}
-use Rattle.swc_nodes.specs.NodeParts.{body_parts}
-use Rattle.swc_nodes.specs.declared.node.ExprId.{ExprId}
-use Rattle.swc_nodes.specs.declared.nodes.Nodes.{Nodes}
+use Rattle.swc_grammar.specs.{Clean.run, Clean.sym as at, Scope.Scope, Symbols.ArrowBody}
+use Rattle.swc_nodes.specs.{GrowingNodes.body_end, GrowingNodes.Apart, NodeParts.body_parts, declared.node.ExprId.ExprId, declared.nodes.Nodes.Nodes}
 use Rattle.swc_nodes.proofs.ArrowNodes.{body-from}
 use Rattle.swc_steps.proofs.Endings.{ended}
 use Rattle.swc_arrows.specs.Answers.{body_at}

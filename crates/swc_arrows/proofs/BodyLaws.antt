@@ -1,19 +1,15 @@
 -- What the clean parser reads of the body of an arrow function (15.3, 15.9), as the code goes it.
 use Rattle.std.specs.Prelude.{◌≡◌, Bool, true, false, List, [], ◌∷◌, Some, None}
 use Rattle.std.proofs.Common.{refl, sym, ap, ◌∙◌}
-use Rattle.swc_context.specs.Contexts.{arrow_body}
-use Rattle.swc_context.specs.declared.span.Span.{Span}
-use Rattle.swc_input.specs.declared.token.TokenAndSpan.{TokenAndSpan}
-use Rattle.swc_input.specs.Kinds.{at_token}
+use Rattle.swc_context.specs.{Contexts.arrow_body, declared.span.Span.Span}
+use Rattle.swc_input.specs.{declared.token.TokenAndSpan.TokenAndSpan, Kinds.at_token}
 use Rattle.swc_ast.specs.Trees.{block_e}
 use Rattle.swc_bodies.specs.Readings.{Hook, LawfulHook, is_brace}
 use Rattle.swc_grammar.specs.Clean.{Out, first, sym as at, run, hear_then}
-use Rattle.swc_grammar.specs.Scope.{Scope, in_context}
 use Rattle.swc_grammar.specs.Symbols.{Assign, ArrowBody, block}
-use Rattle.swc_grammar.specs.Words.{◌>>=◌}
+use Rattle.swc_grammar.specs.{Scope.Scope, Scope.in_context, Words.◌>>=◌}
 use Rattle.swc_grammar.proofs.Bodies.{hears, hears-place, hears-run}
-use Rattle.swc_grammar.proofs.Complete.{last}
-use Rattle.swc_grammar.proofs.Knot.{knot}
+use Rattle.swc_grammar.proofs.{Complete.last, Knot.knot}
 use Rattle.swc_arrows.specs.Readers.{block_inside}
 
 module _ {F C K : Type 0} (hook : Hook F C K) where

@@ -1,31 +1,20 @@
 -- A list in parentheses that was read (13.2.9), in whatever scope these are closed: the first of its items begins, and
 -- the last one ends, where their places say.
-use Rattle.std.proofs.Common.{◌≡◌, ℕ, true, false, if◌then◌else◌, List, [], ◌∷◌, ◌++◌, Option, Some, None, map}
-use Rattle.std.proofs.Common.{refl, sym, ap, subst, ◌∙◌}
+use Rattle.std.proofs.Common.{◌≡◌, ℕ, true, false, if◌then◌else◌, List, [], ◌∷◌, ◌++◌, Option, Some, None, map, refl, sym, ap, subst, ◌∙◌}
 use Rattle.swc_context.specs.declared.span.Span.{Span}
 use Rattle.swc_input.specs.declared.token.TokenAndSpan.{TokenAndSpan}
-use Rattle.swc_ast.specs.Parts.{item_of, item_tree}
 use Rattle.swc_ast.specs.Tree.{Tree, Trees, trees, span_of}
 use Rattle.swc_ast.specs.Trees.{is_valid, are_valid, to, seq_of, paren_e, paren_ok}
-use Rattle.swc_ast.specs.declared.expr.ExprOrSpread.{ExprOrSpread}
-use Rattle.swc_ast.specs.declared.spanned.Spanned.{Ghosts}
+use Rattle.swc_ast.specs.{Parts.item_of, Parts.item_tree, declared.expr.ExprOrSpread.ExprOrSpread, declared.spanned.Spanned.Ghosts}
 use Rattle.swc_bodies.specs.Readings.{Hook, LawfulHook}
-use Rattle.swc_grammar.specs.Scope.{Scope}
-use Rattle.swc_grammar.specs.Symbols.{Args}
-use Rattle.swc_grammar.specs.Tokens.{with_in}
-use Rattle.swc_nodes.specs.Lists.{seq_between}
-use Rattle.swc_nodes.specs.NumberedTrees.{chain}
+use Rattle.swc_grammar.specs.{Scope.Scope, Symbols.Args, Tokens.with_in}
 use Rattle.swc_nodes.specs.NodeParts.{flat, one_expr, args_parts}
 use Rattle.swc_nodes.specs.GrowingNodes.{count, seat_at, first_start, last_end, Apart}
-use Rattle.swc_nodes.specs.declared.node.ExprId.{ExprId}
-use Rattle.swc_nodes.specs.declared.nodes.Nodes.{Nodes}
-use Rattle.swc_nodes.proofs.Chains.{both_true, true_both}
-use Rattle.swc_nodes.proofs.Sequences.{held-trees, held-parts}
+use Rattle.swc_nodes.specs.{Lists.seq_between, NumberedTrees.chain, declared.node.ExprId.ExprId, declared.nodes.Nodes.Nodes}
+use Rattle.swc_nodes.proofs.{Chains.both_true, Chains.true_both, Sequences.held-trees, Sequences.held-parts}
 use Rattle.swc_steps.specs.Args.{args_inside, paren_closed, paren_of, paren_from}
-use Rattle.swc_steps.specs.Parsing.{tree_of, args_at}
-use Rattle.swc_steps.specs.declared.tokens.Listed.{Listed}
-use Rattle.swc_steps.proofs.Args.{inside_args}
-use Rattle.swc_steps.proofs.Endings.{read-valid, seq-clean}
+use Rattle.swc_steps.specs.{Parsing.tree_of, Parsing.args_at, declared.tokens.Listed.Listed}
+use Rattle.swc_steps.proofs.{Args.inside_args, Endings.read-valid, Endings.seq-clean}
 
 module _ {F C K : Type 0} where
   item_valid : (s : Option Span) (t : Tree F C K) → is_valid (item_of s t) ≡ true → is_valid t ≡ true

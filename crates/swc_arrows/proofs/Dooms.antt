@@ -1,22 +1,12 @@
 -- A fault that was recorded, so that nothing is read, whatever follows.
-use Rattle.std.proofs.Common.{◌≡◌, ◌≢◌, ◌<◌, Bool, List, Some, None, Result, Ok, Err}
-use Rattle.std.proofs.Common.{refl, ap, ◌∙◌, arith, ⊎_elim}
+use Rattle.std.proofs.Common.{◌≡◌, ◌≢◌, ◌<◌, Bool, List, Some, None, Result, Ok, Err, refl, ap, ◌∙◌, arith, ⊎_elim}
 use Rattle.std.proofs.lemmas.Bool.{cases_lt}
 use Rattle.swc_context.specs.declared.error.Error.{Error}
-use Rattle.swc_input.specs.declared.buffer.Buffer.{Buffer}
-use Rattle.swc_input.specs.declared.token.TokenAndSpan.{TokenAndSpan}
-use Rattle.swc_input.specs.Source.{Model}
-use Rattle.swc_input.specs.Laws.{Known-after, Known-Future}
-use Rattle.swc_grammar.specs.Scope.{Scope}
-use Rattle.swc_grammar.specs.Clean.{Out, first}
-use Rattle.swc_grammar.specs.Words.{◌>>=◌}
-use Rattle.swc_steps.specs.Parsing.{scope, recorded, seen, Loud, Leads, Here, Refuses, Tries, On, Heard}
-use Rattle.swc_steps.specs.Parsing.{Unheard}
-use Rattle.swc_steps.proofs.Steps.{Reader, onward_then, onward_later, more_recorded, loud_after, refuses_later}
-use Rattle.swc_steps.proofs.Steps.{forgoes_later, on_seen}
-use Rattle.swc_steps.proofs.Steps.Calls.{on_call, on_call_read}
-use Rattle.swc_steps.proofs.Steps.Consumed.{leads_then, spent}
-use Rattle.swc_steps.proofs.Steps.Tokens.{on_then}
+use Rattle.swc_input.specs.{declared.buffer.Buffer.Buffer, declared.token.TokenAndSpan.TokenAndSpan, Source.Model, Laws.Known-after, Laws.Known-Future}
+use Rattle.swc_grammar.specs.{Scope.Scope, Clean.Out, Clean.first, Words.◌>>=◌}
+use Rattle.swc_steps.specs.Parsing.{scope, recorded, seen, Loud, Leads, Here, Refuses, Tries, On, Heard, Unheard}
+use Rattle.swc_steps.proofs.Steps.{Reader, onward_then, onward_later, more_recorded, loud_after, refuses_later, forgoes_later, on_seen}
+use Rattle.swc_steps.proofs.{Steps.Calls.on_call, Steps.Calls.on_call_read, Steps.Consumed.leads_then, Steps.Consumed.spent, Steps.Tokens.on_then}
 use Rattle.swc_arrows.specs.Answers.{Doomed, Fails, Opens}
 
 module _ {S : Type 0} {model : Model S} where

@@ -1,43 +1,21 @@
 -- Arrow functions after their bodies: their nodes, and operators that may not follow.
-use Rattle.std.proofs.Common.{◌≡◌, ℕ, suc, zero, ◌<◌, Bool, true, false, ◌&&◌, ◌||◌, if◌then◌else◌, List, [], ◌∷◌}
-use Rattle.std.proofs.Common.{Some, None, OnOk, Result, Ok, Err, IsErrAnd, length, refl, sym, ap, subst, ◌∙◌, arith}
+use Rattle.std.proofs.Common.{◌≡◌, ℕ, suc, zero, ◌<◌, Bool, true, false, ◌&&◌, ◌||◌, if◌then◌else◌, List, [], ◌∷◌, Some, None, OnOk, Result, Ok, Err, IsErrAnd, length, refl, sym, ap, subst, ◌∙◌, arith}
 use Rattle.std.specs.Prelude.{slice_index_or}
-use Rattle.swc_context.specs.Spans.{from_to}
-use Rattle.swc_context.specs.declared.error.Error.{Error}
-use Rattle.swc_context.specs.declared.span.BytePos.{BytePos}
-use Rattle.swc_context.specs.declared.span.Span.{Span}
-use Rattle.swc_input.specs.declared.buffer.Buffer.{Buffer}
-use Rattle.swc_input.specs.declared.token.TokenAndSpan.{TokenAndSpan}
-use Rattle.swc_input.specs.Kinds.{at_token}
-use Rattle.swc_input.specs.Source.{Model}
-use Rattle.swc_ast.specs.Tree.{Tree, Trees}
-use Rattle.swc_ast.specs.Trees.{arrow_e, block_e}
+use Rattle.swc_context.specs.{Spans.from_to, declared.error.Error.Error, declared.span.BytePos.BytePos, declared.span.Span.Span}
+use Rattle.swc_input.specs.{declared.buffer.Buffer.Buffer, declared.token.TokenAndSpan.TokenAndSpan, Kinds.at_token, Source.Model}
+use Rattle.swc_ast.specs.{Tree.Tree, Tree.Trees, Trees.arrow_e, Trees.block_e, declared.expr.BlockStmtOrExpr.BlockStmtOrExpr, declared.expr.BlockStmtOrExpr.BlockStmtOrExpr as body, declared.spanned.Spanned.Ghosts}
 use Rattle.swc_bodies.specs.Readings.{Hook}
-use Rattle.swc_ast.specs.declared.expr.BlockStmtOrExpr.{BlockStmtOrExpr}
-use Rattle.swc_ast.specs.declared.expr.BlockStmtOrExpr.TheVariants as body
-use Rattle.swc_ast.specs.declared.spanned.Spanned.{Ghosts}
-use Rattle.swc_grammar.specs.Arrows.{is_block, is_sign}
-use Rattle.swc_grammar.specs.Clean.{Out, first}
-use Rattle.swc_grammar.specs.Scope.{Scope}
-use Rattle.swc_grammar.specs.Words.{◌>>=◌}
-use Rattle.swc_nodes.specs.NodeParts.{expr_part, body_parts}
-use Rattle.swc_nodes.specs.NodeTree.{marked_tree}
+use Rattle.swc_grammar.specs.{Arrows.is_block, Arrows.is_sign, Clean.Out, Clean.first, Scope.Scope, Words.◌>>=◌}
 use Rattle.swc_nodes.specs.GrowingNodes.{count, seat_before, tree_at, Apart, From, Grows, Made}
-use Rattle.swc_nodes.specs.declared.node.ExprId.{ExprId}
-use Rattle.swc_nodes.specs.declared.node.Node.{Node}
-use Rattle.swc_nodes.specs.declared.node.Node.TheVariants as n
-use Rattle.swc_nodes.specs.declared.nodes.Nodes.{Nodes}
-use Rattle.swc_nodes.proofs.ArrowNodes.{body-from}
-use Rattle.swc_nodes.proofs.Lists.{apart-none}
-use Rattle.swc_nodes.proofs.Standing.{get_stood}
+use Rattle.swc_nodes.specs.{NodeParts.expr_part, NodeParts.body_parts, NodeTree.marked_tree, declared.node.ExprId.ExprId, declared.node.Node.Node, declared.node.Node.Node as n, declared.nodes.Nodes.Nodes}
+use Rattle.swc_nodes.proofs.{ArrowNodes.body-from, Lists.apart-none, Standing.get_stood}
 use Rattle.swc_steps.specs.Parsing.{scope, seen, breaks_at, recorded, Here, Loud, On, Tries, Unheard, by_hook}
 use Rattle.swc_steps.specs.declared.productions.Productions.{Productions}
 use Rattle.swc_steps.proofs.Steps.{Reader, less, on_answer}
 use Rattle.swc_arrows.specs.Answers.{has_block, body_at, Doomed, EndsArrow}
 use Rattle.swc_arrows.specs.Readers.{arrow_end, block_inside, ends_statement, no_sign, statement_ends}
+use Rattle.swc_arrows.specs.declared.bodies.ArrowOrBase.{ArrowOrBase, ArrowOrBase as arrow_or}
 use Rattle.swc_arrows.proofs.Dooms.{doomed_on, doomed_seen}
-use Rattle.swc_arrows.specs.declared.bodies.ArrowOrBase.{ArrowOrBase}
-use Rattle.swc_arrows.specs.declared.bodies.ArrowOrBase.TheVariants as arrow_or
 
 -- what is at a place of a list
 there : {A : Type 0} (xs : List A) (i : ℕ) → i < length xs → (x : A) × (x ≡ slice_index_or xs i x)

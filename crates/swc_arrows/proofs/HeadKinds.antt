@@ -1,30 +1,16 @@
 -- What two tokens tell of an assignment expression's beginning, as the clean parser asks for it.
-use Rattle.std.specs.Prelude.{◌≡◌, Bool, true, false, not, ◌&&◌, if◌then◌else◌, codes, List, Option, Some}
-use Rattle.std.specs.Prelude.{None}
+use Rattle.std.specs.Prelude.{◌≡◌, Bool, true, false, not, ◌&&◌, if◌then◌else◌, codes, List, Option, Some, None}
 use Rattle.std.proofs.Common.{refl, ap, subst, ◌∙◌}
-use Rattle.swc_context.specs.Reserved.{is_reserved, reserved_name}
-use Rattle.swc_context.specs.declared.context.Context.{Context}
-use Rattle.swc_context.specs.declared.word.Word.{Word}
-use Rattle.swc_context.specs.declared.word.Word.TheVariants as written
-use Rattle.swc_input.specs.declared.token.Token.{Token}
-use Rattle.swc_input.specs.declared.token.Token.TheVariants as token
-use Rattle.swc_input.specs.declared.token.TokenAndSpan.{TokenAndSpan}
-use Rattle.swc_input.specs.Kinds.{at_token}
+use Rattle.swc_context.specs.{Reserved.is_reserved, Reserved.reserved_name, declared.context.Context.Context, declared.word.Word.Word, declared.word.Word.Word as written}
+use Rattle.swc_input.specs.{declared.token.Token.Token, declared.token.Token.Token as token, declared.token.TokenAndSpan.TokenAndSpan, Kinds.at_token}
 use Rattle.swc_bodies.specs.Readings.{is_async}
 use Rattle.swc_grammar.specs.Arrows.{is_arrow, is_arrow_word, is_bindable}
-use Rattle.swc_grammar.specs.Clean.{first, second, is_alone, is_arrow_here, is_lparen_here, is_bindable_here}
-use Rattle.swc_grammar.specs.Clean.{begins_arrow, begins_async_list}
+use Rattle.swc_grammar.specs.Clean.{first, second, is_alone, is_arrow_here, is_lparen_here, is_bindable_here, begins_arrow, begins_async_list}
 use Rattle.swc_grammar.specs.Scope.{Scope}
 use Rattle.swc_grammar.specs.Tokens.{is_lparen, is_put_off, is_reference}
 use Rattle.swc_steps.proofs.Words.{is_same}
-use Rattle.swc_arrows.specs.Heads.{word_kind, token_kind, first_kind, next_token, next_kind}
-use Rattle.swc_arrows.specs.Heads.{head_by, head_kind}
-use Rattle.swc_arrows.specs.declared.heads.FirstKind.{FirstKind}
-use Rattle.swc_arrows.specs.declared.heads.FirstKind.TheVariants as first_is
-use Rattle.swc_arrows.specs.declared.heads.NextKind.{NextKind}
-use Rattle.swc_arrows.specs.declared.heads.NextKind.TheVariants as next_is
-use Rattle.swc_arrows.specs.declared.heads.HeadKind.{HeadKind}
-use Rattle.swc_arrows.specs.declared.heads.HeadKind.TheVariants as head
+use Rattle.swc_arrows.specs.Heads.{word_kind, token_kind, first_kind, next_token, next_kind, head_by, head_kind}
+use Rattle.swc_arrows.specs.{declared.heads.FirstKind.FirstKind, declared.heads.FirstKind.FirstKind as first_is, declared.heads.NextKind.NextKind, declared.heads.NextKind.NextKind as next_is, declared.heads.HeadKind.HeadKind, declared.heads.HeadKind.HeadKind as head}
 
 -- ---- the first token
 

@@ -1,54 +1,27 @@
 -- What the clean parser reads at an assignment expression, by what two tokens tell of its beginning.
-use Rattle.std.specs.Prelude.{◌≡◌, Bool, true, false, not, ◌&&◌, ◌||◌, if◌then◌else◌, List, [], ◌∷◌, Option, Some, None}
-use Rattle.std.specs.Prelude.{ℕ}
-use Rattle.std.specs.Prelude.{codes}
+use Rattle.std.specs.Prelude.{◌≡◌, Bool, true, false, not, ◌&&◌, ◌||◌, if◌then◌else◌, List, [], ◌∷◌, Option, Some, None, ℕ, codes}
 use Rattle.std.proofs.Common.{refl, sym, ap, ◌∙◌, arith}
-use Rattle.swc_context.specs.Reserved.{is_reserved}
-use Rattle.swc_context.specs.Texts.{is_text}
-use Rattle.swc_context.specs.Words.{word_text}
-use Rattle.swc_context.specs.declared.span.Span.{Span}
-use Rattle.swc_context.specs.declared.word.Keyword.TheVariants as keyword
-use Rattle.swc_context.specs.declared.word.Word.{Word}
-use Rattle.swc_context.specs.declared.word.Word.TheVariants as written
-use Rattle.swc_input.specs.declared.token.Token.{Token}
-use Rattle.swc_input.specs.declared.token.Token.TheVariants as token
-use Rattle.swc_input.specs.declared.token.TokenAndSpan.{TokenAndSpan}
-use Rattle.swc_input.specs.Kinds.{at_token, is_hash}
+use Rattle.swc_context.specs.{Reserved.is_reserved, Texts.is_text, Words.word_text, declared.span.Span.Span, declared.word.Keyword.Keyword as keyword, declared.word.Word.Word, declared.word.Word.Word as written}
+use Rattle.swc_input.specs.{declared.token.Token.Token, declared.token.Token.Token as token, declared.token.TokenAndSpan.TokenAndSpan, Kinds.at_token, Kinds.is_hash}
 use Rattle.swc_ast.specs.Tree.{Tree, nil, cons, span_of}
 use Rattle.swc_ast.specs.Trees.{to, arrow_e, ident_e}
 use Rattle.swc_bodies.specs.Readings.{Hook, is_async, is_function, is_function_here}
-use Rattle.swc_grammar.specs.Arrows.{is_arrow, is_arrow_word, binds_alone, async_name, is_bindable, is_of}
-use Rattle.swc_grammar.specs.Clean.{Out, and_then, first, second, third, sym as at, run, exec, plan, assigns, parens}
-use Rattle.swc_grammar.specs.Clean.{asyncs, no_error, begins_yield, begins_arrow, begins_async_name, begins_async_list}
-use Rattle.swc_grammar.specs.Clean.{is_bindable_here, before_of_here, is_arrow_here, is_lparen_here, links, updates}
-use Rattle.swc_grammar.specs.Clean.{climb, begins_new, prefix_at}
+use Rattle.swc_grammar.specs.Arrows.{is_arrow, is_arrow_word, binds_alone, async_name, is_bindable, is_of, async_param as async_param_of}
+use Rattle.swc_grammar.specs.Clean.{Out, and_then, first, second, third, sym as at, run, exec, plan, assigns, parens, asyncs, no_error, begins_yield, begins_arrow, begins_async_name, begins_async_list, is_bindable_here, before_of_here, is_arrow_here, is_lparen_here, links, updates, climb, begins_new, prefix_at}
 use Rattle.swc_grammar.specs.Names.{Spelling, spelling, may_refer, may_bind, spelled}
 use Rattle.swc_grammar.specs.Rule.{gives, take, check, peek, read, given, ◌>>=◌ as ◌▸◌}
 use Rattle.swc_grammar.specs.Scope.{Scope, at_head, inner}
 use Rattle.swc_grammar.specs.Symbols.{Assign, Level, Unary, Lhs, Base, Primary, Args, ArrowBody, Side}
-use Rattle.swc_grammar.specs.Tokens.{is_lparen, is_reference, is_put_off, with_in, tk, is_update, is_await}
-use Rattle.swc_grammar.specs.Tokens.{is_new, is_super, is_import}
+use Rattle.swc_grammar.specs.Tokens.{is_lparen, is_reference, is_put_off, with_in, tk, is_update, is_await, is_new, is_super, is_import}
 use Rattle.swc_grammar.specs.Words.{◌>>=◌, one, word}
-use Rattle.swc_grammar.proofs.Answers.{both}
-use Rattle.swc_grammar.proofs.Complete.{last}
-use Rattle.swc_grammar.proofs.Head.{level-run}
-use Rattle.swc_grammar.proofs.Knot.{knot}
+use Rattle.swc_grammar.proofs.{Answers.both, Complete.last, Head.level-run, Knot.knot}
 use Rattle.swc_steps.proofs.Lists.{calls, bind_same, binds}
-use Rattle.swc_steps.proofs.Rules.{operand_splits, async_name_picked}
-use Rattle.swc_steps.proofs.Keys.{then_calls}
-use Rattle.swc_steps.proofs.Steps.Inner.{inner_is}
-use Rattle.swc_steps.specs.Args.{args_inside}
-use Rattle.swc_steps.specs.Keys.{expected}
-use Rattle.swc_steps.specs.Lists.{eaten}
-use Rattle.swc_steps.specs.Parsing.{begins_async}
-use Rattle.swc_steps.specs.Readers.{named_expr, operand}
+use Rattle.swc_steps.proofs.{Rules.operand_splits, Rules.async_name_picked, Keys.then_calls, Steps.Inner.inner_is}
+use Rattle.swc_steps.specs.{Args.args_inside, Keys.expected, Lists.eaten, Parsing.begins_async, Readers.named_expr, Readers.operand}
 use Rattle.swc_arrows.specs.Heads.{head_kind}
-use Rattle.swc_arrows.specs.Readers.{others, base_behind, arrow_behind, name_ok, name_behind, name_arrow}
-use Rattle.swc_arrows.specs.Readers.{is_of_alone, async_param, async_of, async_behind, async_arrow, list_rest}
-use Rattle.swc_arrows.specs.Readers.{list_head, arrow_on_line}
+use Rattle.swc_arrows.specs.Readers.{others, base_behind, arrow_behind, name_ok, name_behind, name_arrow, is_of_alone, async_param, async_of, async_behind, async_arrow, list_rest, list_head, arrow_on_line}
 use Rattle.swc_arrows.specs.declared.heads.HeadKind.TheVariants as head
 use Rattle.swc_arrows.proofs.HeadKinds.{Picks, head_picks}
-use Rattle.swc_grammar.specs.Arrows.{async_param as async_param_of}
 
 no_name : (a b d : Bool) → (a && b) ≡ false → (a && (b && d)) ≡ false
 no_name true true d h = absurd cc

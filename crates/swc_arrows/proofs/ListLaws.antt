@@ -1,54 +1,27 @@
 -- What the clean parser reads after a list in parentheses, as the code goes it (13.2.9, 15.3, 15.9).
-use Rattle.std.proofs.Common.{◌≡◌, Bool, true, false, not, ◌&&◌, if◌then◌else◌, List, [], ◌∷◌, Option, Some, None}
-use Rattle.std.proofs.Common.{ℕ, map, refl, sym, ap, subst, ◌∙◌}
+use Rattle.std.proofs.Common.{◌≡◌, Bool, true, false, not, ◌&&◌, if◌then◌else◌, List, [], ◌∷◌, Option, Some, None, ℕ, map, refl, sym, ap, subst, ◌∙◌}
 use Rattle.std.specs.Prelude.{is_some}
-use Rattle.swc_context.specs.declared.span.BytePos.{BytePos}
-use Rattle.swc_context.specs.declared.span.Span.{Span}
-use Rattle.swc_input.specs.declared.token.TokenAndSpan.{TokenAndSpan}
-use Rattle.swc_input.specs.Kinds.{at_token}
-use Rattle.swc_ast.specs.Tree.{Tree, Trees, span_of}
-use Rattle.swc_ast.specs.Trees.{to, arrow_e, ident_e, call_e, paren_e, listed, items_of, comma_of, covers_ok, paren_ok}
-use Rattle.swc_ast.specs.Trees.{seq_of}
-use Rattle.swc_ast.specs.Trees.{held_exprs, are_valid}
-use Rattle.swc_ast.specs.Tree.{array}
-use Rattle.swc_ast.specs.declared.expr.ExprOrSpread.{ExprOrSpread}
-use Rattle.swc_ast.specs.declared.spanned.Spanned.{Ghosts}
+use Rattle.swc_context.specs.{declared.span.BytePos.BytePos, declared.span.Span.Span}
+use Rattle.swc_input.specs.{declared.token.TokenAndSpan.TokenAndSpan, Kinds.at_token}
+use Rattle.swc_ast.specs.Tree.{Tree, Trees, span_of, array}
+use Rattle.swc_ast.specs.Trees.{to, arrow_e, ident_e, call_e, paren_e, listed, items_of, comma_of, covers_ok, paren_ok, seq_of, held_exprs, are_valid}
+use Rattle.swc_ast.specs.{declared.expr.ExprOrSpread.ExprOrSpread, declared.spanned.Spanned.Ghosts}
 use Rattle.swc_bodies.specs.Readings.{Hook, LawfulHook}
 use Rattle.swc_grammar.specs.Arrows.{is_arrow, is_block, is_sign}
-use Rattle.swc_grammar.specs.Clean.{Out, first, sym as at, run, exec, plan, parens, asyncs, links, updates, climb}
-use Rattle.swc_grammar.specs.Clean.{assigns, behind_base, arrow_tail, async_arrow_tail}
+use Rattle.swc_grammar.specs.Clean.{Out, first, sym as at, run, exec, plan, parens, asyncs, links, updates, climb, assigns, behind_base, arrow_tail, async_arrow_tail}
 use Rattle.swc_grammar.specs.Cover.{binding, as_elements, as_params, heads_ok}
-use Rattle.swc_grammar.specs.Names.{Spelling, spelling}
 use Rattle.swc_grammar.specs.Rule.{gives, take, check, peek, read, given, sees, ◌>>=◌ as ◌▸◌}
-use Rattle.swc_grammar.specs.Scope.{Scope, inner}
 use Rattle.swc_grammar.specs.Symbols.{Args, ArrowBody, Assign, Side}
-use Rattle.swc_grammar.specs.Tokens.{with_in}
-use Rattle.swc_grammar.specs.Words.{◌>>=◌}
-use Rattle.swc_grammar.proofs.Complete.{last}
-use Rattle.swc_grammar.proofs.Knot.{knot}
-use Rattle.swc_cover.specs.Fits.{Binding, elems_fit}
-use Rattle.swc_cover.specs.Heads.{names_ok}
-use Rattle.swc_cover.specs.Items.{want_items}
-use Rattle.swc_cover.specs.Refining.{items_at, takes_heads as takes}
-use Rattle.swc_cover.proofs.Refines.{items-all}
-use Rattle.swc_cover.proofs.Ties.{as-elems-is}
+use Rattle.swc_grammar.specs.{Names.Spelling, Names.spelling, Scope.Scope, Scope.inner, Tokens.with_in, Words.◌>>=◌}
+use Rattle.swc_grammar.proofs.{Complete.last, Knot.knot}
+use Rattle.swc_cover.specs.{Fits.Binding, Fits.elems_fit, Heads.names_ok, Items.want_items, Refining.items_at, Refining.takes_heads as takes}
+use Rattle.swc_cover.proofs.{Refines.items-all, Ties.as-elems-is, Bound.params-are, Clear.clear-items}
 use Rattle.swc_nodes.specs.GrowingNodes.{first_start, last_end, Apart}
-use Rattle.swc_nodes.specs.NodeParts.{args_parts}
-use Rattle.swc_nodes.specs.declared.node.ExprId.{ExprId}
-use Rattle.swc_nodes.specs.declared.nodes.Nodes.{Nodes}
-use Rattle.swc_steps.proofs.Args.{inside_args}
-use Rattle.swc_steps.proofs.Building.{apart-down}
-use Rattle.swc_steps.proofs.Endings.{read-valid}
-use Rattle.swc_steps.specs.Parsing.{args_at}
-use Rattle.swc_steps.specs.declared.tokens.Listed.{Listed}
-use Rattle.swc_cover.proofs.Bound.{params-are}
-use Rattle.swc_cover.proofs.Clear.{clear-items}
+use Rattle.swc_nodes.specs.{NodeParts.args_parts, declared.node.ExprId.ExprId, declared.nodes.Nodes.Nodes}
+use Rattle.swc_steps.proofs.{Args.inside_args, Building.apart-down, Endings.read-valid, Keys.then_calls, Steps.Inner.inner_is}
 use Rattle.swc_steps.specs.Args.{args_inside, paren_closed, paren_of, paren_from}
-use Rattle.swc_steps.specs.Keys.{expected}
-use Rattle.swc_steps.proofs.Keys.{then_calls}
-use Rattle.swc_steps.proofs.Steps.Inner.{inner_is}
-use Rattle.swc_arrows.specs.Readers.{arrow_behind, arrow_end, heads_closed, heads_refined, takes_params, async_call}
-use Rattle.swc_arrows.specs.Readers.{base_behind, is_callee, list_behind, list_closed, spelling_of}
+use Rattle.swc_steps.specs.{Parsing.args_at, declared.tokens.Listed.Listed, Keys.expected}
+use Rattle.swc_arrows.specs.Readers.{arrow_behind, arrow_end, heads_closed, heads_refined, takes_params, async_call, base_behind, is_callee, list_behind, list_closed, spelling_of}
 use Rattle.swc_arrows.proofs.Closes.{closed_clean}
 use Rattle.swc_arrows.proofs.ListReads.{closed_arrow, closed_base, heads_splits, line_here, line_breaks, arrow_takes}
 

@@ -1,41 +1,22 @@
 -- The steps of the code at lists in parentheses that may be parameters of arrow functions (13.2.9, 15.3, 15.9).
-use Rattle.std.proofs.Common.{◌≡◌, ℕ, ◌≤◌, Bool, true, false, List, ◌∷◌, ◌++◌, Option}
-use Rattle.std.proofs.Common.{Some, None, Result, Ok, Err, IsErrAnd, refl, ap, subst}
+use Rattle.std.proofs.Common.{◌≡◌, ℕ, ◌≤◌, Bool, true, false, List, ◌∷◌, ◌++◌, Option, Some, None, Result, Ok, Err, IsErrAnd, refl, ap, subst}
 use Rattle.std.specs.Prelude.{is_some}
-use Rattle.swc_context.specs.declared.error.Error.{Error}
-use Rattle.swc_context.specs.declared.span.BytePos.{BytePos}
-use Rattle.swc_context.specs.declared.span.Span.{Span}
-use Rattle.swc_input.specs.declared.token.TokenAndSpan.{TokenAndSpan}
-use Rattle.swc_input.specs.Kinds.{at_token}
-use Rattle.swc_input.specs.Source.{Model}
-use Rattle.swc_ast.specs.Tree.{Tree}
-use Rattle.swc_ast.specs.Trees.{ident_e}
-use Rattle.swc_ast.specs.declared.spanned.Spanned.{Ghosts}
+use Rattle.swc_context.specs.{declared.error.Error.Error, declared.span.BytePos.BytePos, declared.span.Span.Span}
+use Rattle.swc_input.specs.{declared.token.TokenAndSpan.TokenAndSpan, Kinds.at_token, Source.Model}
+use Rattle.swc_ast.specs.{Tree.Tree, Trees.ident_e, declared.spanned.Spanned.Ghosts}
 use Rattle.swc_bodies.specs.Readings.{Hook}
-use Rattle.swc_grammar.specs.Arrows.{is_arrow}
-use Rattle.swc_grammar.specs.Clean.{first}
-use Rattle.swc_grammar.specs.Names.{may_refer}
-use Rattle.swc_grammar.specs.Scope.{Scope}
-use Rattle.swc_grammar.specs.Tokens.{is_lparen}
-use Rattle.swc_grammar.specs.Words.{◌>>=◌, word}
+use Rattle.swc_grammar.specs.{Arrows.is_arrow, Clean.first, Names.may_refer, Scope.Scope, Tokens.is_lparen, Words.◌>>=◌, Words.word}
 use Rattle.swc_nodes.specs.GrowingNodes.{count, seat_at, Apart, Grows}
-use Rattle.swc_nodes.specs.NumberedTrees.{floor}
-use Rattle.swc_nodes.specs.NodeParts.{Part}
-use Rattle.swc_nodes.specs.declared.node.ExprId.{ExprId}
-use Rattle.swc_nodes.specs.declared.nodes.Nodes.{Nodes}
+use Rattle.swc_nodes.specs.{NumberedTrees.floor, NodeParts.Part, declared.node.ExprId.ExprId, declared.nodes.Nodes.Nodes}
 use Rattle.swc_nodes.proofs.Chains.{chain-bound, chain-first}
-use Rattle.swc_cover.specs.Moving.{KeptTo}
-use Rattle.swc_cover.specs.Rewriting.{Rewrites}
+use Rattle.swc_cover.specs.{Moving.KeptTo, Rewriting.Rewrites}
 use Rattle.swc_cover.proofs.Kept.{kept-grows, kept-less}
-use Rattle.swc_steps.specs.Keys.{expected}
 use Rattle.swc_steps.specs.Parsing.{breaks_at, On, Unheard}
-use Rattle.swc_steps.specs.declared.productions.Productions.{Productions}
+use Rattle.swc_steps.specs.{Keys.expected, declared.productions.Productions.Productions}
 use Rattle.swc_steps.proofs.Steps.{Reader, less, unheard_after}
 use Rattle.swc_steps.proofs.Steps.Tokens.{on_then}
 use Rattle.swc_arrows.specs.Answers.{beginning_of, beginning_behind, callee_at}
-use Rattle.swc_arrows.specs.Readers.{list_head, list_rest, list_closed, heads_closed, heads_refined, base_closed}
-use Rattle.swc_arrows.specs.Readers.{base_behind}
-use Rattle.swc_arrows.specs.Readers.{on_line}
+use Rattle.swc_arrows.specs.Readers.{list_head, list_rest, list_closed, heads_closed, heads_refined, base_closed, base_behind, on_line}
 use Rattle.swc_arrows.specs.declared.names.Beginning.{Beginning}
 use Rattle.swc_arrows.proofs.HeadLaws.{expected_is}
 

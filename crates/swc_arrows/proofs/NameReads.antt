@@ -1,42 +1,25 @@
 -- The steps of the code at names that are parameters of arrow functions by themselves (15.3, 15.9).
-use Rattle.std.proofs.Common.{◌≡◌, ℕ, Bool, true, false, not, ◌&&◌, if◌then◌else◌, List, None, Some, Result}
-use Rattle.std.proofs.Common.{Ok, Err, IfOk, MatchResult, map, refl, sym, ap, subst, ◌∙◌, arith}
-use Rattle.swc_context.specs.declared.context.Context.{Context}
-use Rattle.swc_context.specs.declared.error.Error.{Error}
-use Rattle.swc_context.specs.declared.span.BytePos.{BytePos}
-use Rattle.swc_input.specs.declared.buffer.Buffer.{Buffer}
-use Rattle.swc_input.specs.declared.token.TokenAndSpan.{TokenAndSpan}
-use Rattle.swc_input.specs.Buffer.{context}
-use Rattle.swc_input.specs.Kinds.{at_token}
-use Rattle.swc_input.specs.Source.{Model, Laws}
+use Rattle.std.proofs.Common.{◌≡◌, ℕ, Bool, true, false, not, ◌&&◌, if◌then◌else◌, List, None, Some, Result, Ok, Err, IfOk, MatchResult, map, refl, sym, ap, subst, ◌∙◌, arith}
+use Rattle.swc_context.specs.{declared.context.Context.Context, declared.error.Error.Error, declared.span.BytePos.BytePos}
+use Rattle.swc_input.specs.{declared.buffer.Buffer.Buffer, declared.token.TokenAndSpan.TokenAndSpan, Buffer.context, Kinds.at_token, Source.Model, Source.Laws}
 use Rattle.swc_ast.specs.Tree.{Tree, nil, cons, trees}
-use Rattle.swc_ast.specs.Trees.{ident_e}
-use Rattle.swc_ast.specs.declared.spanned.Spanned.{Ghosts}
+use Rattle.swc_ast.specs.{Trees.ident_e, declared.spanned.Spanned.Ghosts}
 use Rattle.swc_bodies.specs.Readings.{Hook}
-use Rattle.swc_grammar.specs.Arrows.{is_arrow, is_of}
 use Rattle.swc_grammar.specs.Clean.{Out, first, second}
 use Rattle.swc_grammar.specs.Names.{Spelling, may_refer, may_bind}
-use Rattle.swc_grammar.specs.Scope.{Scope}
-use Rattle.swc_grammar.specs.Words.{◌>>=◌, word}
+use Rattle.swc_grammar.specs.{Arrows.is_arrow, Arrows.is_of, Scope.Scope, Words.◌>>=◌, Words.word}
 use Rattle.swc_nodes.specs.NodeParts.{one_pat, pat_part, flat}
 use Rattle.swc_nodes.specs.GrowingNodes.{tree_at, Apart, From, Grows}
 use Rattle.swc_nodes.specs.declared.node.PatId.{PatId}
-use Rattle.swc_nodes.proofs.Held.{apart-from}
-use Rattle.swc_nodes.proofs.Standing.{grows-then}
-use Rattle.swc_patterns.specs.Answers.{Leaves}
-use Rattle.swc_patterns.specs.Arrays.{plain_pat}
+use Rattle.swc_nodes.proofs.{Held.apart-from, Standing.grows-then}
+use Rattle.swc_patterns.specs.{Answers.Leaves, Arrays.plain_pat}
 use Rattle.swc_patterns.proofs.PartlyRead.{left}
-use Rattle.swc_steps.specs.Keys.{expected}
 use Rattle.swc_steps.specs.Parsing.{breaks_at, scope, seen, seen_of, Here, Tells, On, Unheard}
-use Rattle.swc_steps.specs.declared.productions.Productions.{Productions}
-use Rattle.swc_steps.proofs.Lists.{binds}
-use Rattle.swc_steps.proofs.Steps.{Reader, give, less, read_scope, here_leads, forgoes_later, forgoes_here, on_told}
-use Rattle.swc_steps.proofs.Steps.{unheard_after, unheard_memory}
-use Rattle.swc_steps.proofs.Steps.Consumed.{here}
-use Rattle.swc_steps.proofs.Steps.Tokens.{on_then}
+use Rattle.swc_steps.specs.{Keys.expected, declared.productions.Productions.Productions}
+use Rattle.swc_steps.proofs.Steps.{Reader, give, less, read_scope, here_leads, forgoes_later, forgoes_here, on_told, unheard_after, unheard_memory}
+use Rattle.swc_steps.proofs.{Lists.binds, Steps.Consumed.here, Steps.Tokens.on_then}
 use Rattle.swc_arrows.specs.Answers.{beginning_of, beginning_behind, OneParam, Opens}
-use Rattle.swc_arrows.specs.Readers.{arrow_behind, name_behind, name_arrow, async_of, async_param, async_behind}
-use Rattle.swc_arrows.specs.Readers.{async_arrow, arrow_on_line, is_of_alone, of_alone}
+use Rattle.swc_arrows.specs.Readers.{arrow_behind, name_behind, name_arrow, async_of, async_param, async_behind, async_arrow, arrow_on_line, is_of_alone, of_alone}
 use Rattle.swc_arrows.specs.declared.names.Beginning.{Beginning}
 use Rattle.swc_arrows.proofs.Dooms.{opens_later}
 

@@ -1,24 +1,14 @@
 -- What is told of the token after the current one, on its line.
-use Rattle.std.proofs.Common.{◌≡◌, Bool, true, if◌then◌else◌, List, [], ◌∷◌, ◌++◌, Option, Some, None, IsSome}
-use Rattle.std.proofs.Common.{MatchOption, refl, sym, ap, subst, ◌∙◌}
+use Rattle.std.proofs.Common.{◌≡◌, Bool, true, if◌then◌else◌, List, [], ◌∷◌, ◌++◌, Option, Some, None, IsSome, MatchOption, refl, sym, ap, subst, ◌∙◌}
 use Rattle.swc_context.specs.declared.context.Context.{Context}
-use Rattle.swc_input.specs.declared.buffer.Buffer.{Buffer}
-use Rattle.swc_input.specs.declared.token.Token.{Token}
-use Rattle.swc_input.specs.declared.token.Token.TheVariants as token
-use Rattle.swc_input.specs.declared.token.TokenAndSpan.{TokenAndSpan}
-use Rattle.swc_input.specs.Plain.{plain, plain_token}
 use Rattle.swc_input.specs.Source.{Model, Laws, given_one}
 use Rattle.swc_input.specs.Buffer.{Peeked, current, held}
-use Rattle.swc_input.specs.Laws.{Read-then, Known-after}
-use Rattle.swc_grammar.specs.Clean.{first, second}
-use Rattle.swc_grammar.specs.Words.{rest}
+use Rattle.swc_input.specs.{declared.buffer.Buffer.Buffer, declared.token.Token.Token, declared.token.Token.Token as token, declared.token.TokenAndSpan.TokenAndSpan, Plain.plain, Plain.plain_token, Laws.Read-then, Laws.Known-after}
+use Rattle.swc_grammar.specs.{Clean.first, Clean.second, Words.rest}
 use Rattle.swc_steps.specs.Parsing.{seen, seen_of, Told}
 use Rattle.swc_steps.proofs.Ahead.{told_here, told_behind}
 use Rattle.swc_arrows.specs.Heads.{first_kind, next_token, next_kind, head_by, head_kind}
-use Rattle.swc_arrows.specs.declared.heads.FirstKind.{FirstKind}
-use Rattle.swc_arrows.specs.declared.heads.NextKind.{NextKind}
-use Rattle.swc_arrows.specs.declared.heads.NextKind.TheVariants as next_is
-use Rattle.swc_arrows.specs.declared.heads.HeadKind.{HeadKind}
+use Rattle.swc_arrows.specs.{declared.heads.FirstKind.FirstKind, declared.heads.NextKind.NextKind, declared.heads.NextKind.NextKind as next_is, declared.heads.HeadKind.HeadKind}
 
 pub second_rest : (ts : List TokenAndSpan) → second ts ≡ first (rest ts)
 second_rest [] = refl

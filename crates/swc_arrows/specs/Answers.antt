@@ -1,43 +1,19 @@
 -- What answers hold of numbers where an assignment expression may be an arrow function (15.3, 15.9), and what is left
 -- to read after them.
-use Rattle.std.specs.Prelude.{◌≡◌, ◌<◌, ◌≤◌, ℕ, Bool, true, false, List, [], ◌∷◌, Option, Some, None, Result}
-use Rattle.std.specs.Prelude.{MatchResult, OnOk, IfOk}
-use Rattle.swc_context.specs.declared.span.BytePos.{BytePos}
-use Rattle.swc_context.specs.declared.span.Span.{Span}
-use Rattle.swc_context.specs.declared.error.Error.{Error}
-use Rattle.swc_input.specs.declared.buffer.Buffer.{Buffer}
-use Rattle.swc_input.specs.declared.token.TokenAndSpan.{TokenAndSpan}
-use Rattle.swc_input.specs.Kinds.{at_token}
-use Rattle.swc_input.specs.Source.{Model}
-use Rattle.swc_input.specs.Buffer.{Known, to_come}
-use Rattle.swc_input.specs.Recording.{no_memory}
-use Rattle.swc_ast.specs.Parts.{body_tree}
-use Rattle.swc_ast.specs.Tree.{Tree}
-use Rattle.swc_ast.specs.Trees.{is_valid}
-use Rattle.swc_ast.specs.declared.expr.BlockStmtOrExpr.{BlockStmtOrExpr}
-use Rattle.swc_ast.specs.declared.expr.BlockStmtOrExpr.TheVariants as body
-use Rattle.swc_ast.specs.declared.spanned.Spanned.{Ghosts}
+use Rattle.std.specs.Prelude.{◌≡◌, ◌<◌, ◌≤◌, ℕ, Bool, true, false, List, [], ◌∷◌, Option, Some, None, Result, MatchResult, OnOk, IfOk}
+use Rattle.swc_context.specs.{declared.span.BytePos.BytePos, declared.span.Span.Span, declared.error.Error.Error}
+use Rattle.swc_input.specs.{declared.buffer.Buffer.Buffer, declared.token.TokenAndSpan.TokenAndSpan, Kinds.at_token, Source.Model, Buffer.Known, Buffer.to_come, Recording.no_memory}
+use Rattle.swc_ast.specs.{Parts.body_tree, Tree.Tree, Trees.is_valid, declared.expr.BlockStmtOrExpr.BlockStmtOrExpr, declared.expr.BlockStmtOrExpr.BlockStmtOrExpr as body, declared.spanned.Spanned.Ghosts}
 use Rattle.swc_bodies.specs.Readings.{Hook}
 use Rattle.swc_grammar.specs.Clean.{Out, first, run, climb}
-use Rattle.swc_grammar.specs.Reads.{Reads}
-use Rattle.swc_grammar.specs.Scope.{Scope}
-use Rattle.swc_grammar.specs.Symbols.{Left}
-use Rattle.swc_grammar.specs.Tokens.{is_await}
+use Rattle.swc_grammar.specs.{Reads.Reads, Scope.Scope, Symbols.Left, Tokens.is_await}
 use Rattle.swc_nodes.specs.GrowingNodes.{tree_at, Apart, From, Grows}
-use Rattle.swc_nodes.specs.Lists.{pats_parts, pat_trees}
 use Rattle.swc_nodes.specs.NodeParts.{Part, body_parts, expr_part, one_expr}
-use Rattle.swc_nodes.specs.declared.node.ExprId.{ExprId}
-use Rattle.swc_nodes.specs.declared.node.PatId.{PatId}
-use Rattle.swc_nodes.specs.declared.nodes.Nodes.{Nodes}
+use Rattle.swc_nodes.specs.{Lists.pats_parts, Lists.pat_trees, declared.node.ExprId.ExprId, declared.node.PatId.PatId, declared.nodes.Nodes.Nodes}
 use Rattle.swc_steps.specs.Parsing.{scope, recorded, Loud, Leads, Onward, On, Heard, Unheard}
 use Rattle.swc_steps.specs.declared.productions.Productions.{Productions}
 use Rattle.swc_arrows.specs.Readers.{others, base_behind, arrow_behind, list_rest, no_sign, operand_behind}
-use Rattle.swc_arrows.specs.declared.bodies.ArrowOrBase.{ArrowOrBase}
-use Rattle.swc_arrows.specs.declared.bodies.ArrowOrBase.TheVariants as arrow_or
-use Rattle.swc_arrows.specs.declared.lists.ListStart.{ListStart}
-use Rattle.swc_arrows.specs.declared.names.ArrowHead.{ArrowHead}
-use Rattle.swc_arrows.specs.declared.names.Beginning.{Beginning}
-use Rattle.swc_arrows.specs.declared.names.Beginning.TheVariants as begins
+use Rattle.swc_arrows.specs.{declared.bodies.ArrowOrBase.ArrowOrBase, declared.bodies.ArrowOrBase.ArrowOrBase as arrow_or, declared.lists.ListStart.ListStart, declared.names.ArrowHead.ArrowHead, declared.names.Beginning.Beginning, declared.names.Beginning.Beginning as begins}
 
 -- whether a body is a block
 abbrev pub has_block : {K : Type 0} → BlockStmtOrExpr ExprId K → Bool

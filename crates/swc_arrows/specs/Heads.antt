@@ -1,22 +1,11 @@
 -- By two tokens: what an assignment expression begins with, where it may be an arrow function (15.3, 15.9).
 use Rattle.std.specs.Prelude.{◌≡◌, true, false, ◌&&◌, if◌then◌else◌, List, Option, Some, None}
-use Rattle.swc_context.specs.Reserved.{is_reserved}
-use Rattle.swc_context.specs.declared.context.Context.{Context}
-use Rattle.swc_context.specs.declared.word.Word.{Word}
-use Rattle.swc_input.specs.declared.token.Token.{Token}
-use Rattle.swc_input.specs.declared.token.Token.TheVariants as token
-use Rattle.swc_input.specs.declared.token.TokenAndSpan.{TokenAndSpan}
-use Rattle.swc_input.specs.Kinds.{at_token}
+use Rattle.swc_context.specs.{Reserved.is_reserved, declared.context.Context.Context, declared.word.Word.Word}
+use Rattle.swc_input.specs.{declared.token.Token.Token, declared.token.Token.Token as token, declared.token.TokenAndSpan.TokenAndSpan, Kinds.at_token}
 use Rattle.swc_bodies.specs.Readings.{is_async as is_async_token}
-use Rattle.swc_grammar.specs.Arrows.{is_arrow_word}
-use Rattle.swc_grammar.specs.Clean.{first, second}
 use Rattle.swc_grammar.specs.Tokens.{is_put_off, is_reference, may_be_reference}
-use Rattle.swc_arrows.specs.declared.heads.FirstKind.{FirstKind}
-use Rattle.swc_arrows.specs.declared.heads.FirstKind.TheVariants as first_is
-use Rattle.swc_arrows.specs.declared.heads.NextKind.{NextKind}
-use Rattle.swc_arrows.specs.declared.heads.NextKind.TheVariants as next_is
-use Rattle.swc_arrows.specs.declared.heads.HeadKind.{HeadKind}
-use Rattle.swc_arrows.specs.declared.heads.HeadKind.TheVariants as head
+use Rattle.swc_grammar.specs.{Arrows.is_arrow_word, Clean.first, Clean.second}
+use Rattle.swc_arrows.specs.{declared.heads.FirstKind.FirstKind, declared.heads.FirstKind.FirstKind as first_is, declared.heads.NextKind.NextKind, declared.heads.NextKind.NextKind as next_is, declared.heads.HeadKind.HeadKind, declared.heads.HeadKind.HeadKind as head}
 
 -- the first token
 abbrev pub word_kind : Context → Word → FirstKind

@@ -1,33 +1,17 @@
 -- What the steps of the code read in arrow functions (15.3, 15.9), by the clean parser.
-use Rattle.std.specs.Prelude.{◌≡◌, Bool, true, false, not, ◌&&◌, ◌||◌, if◌then◌else◌, List, [], Option, Some, None}
-use Rattle.std.specs.Prelude.{is_some}
-use Rattle.swc_context.specs.Reserved.{strict_binding_words}
-use Rattle.swc_context.specs.Spans.{from_to}
-use Rattle.swc_context.specs.Texts.{is_one_of}
-use Rattle.swc_context.specs.declared.context.Context.{Context}
-use Rattle.swc_context.specs.declared.span.BytePos.{BytePos}
-use Rattle.swc_context.specs.declared.span.Span.{Span}
-use Rattle.swc_input.specs.declared.token.Token.{Token}
-use Rattle.swc_input.specs.declared.token.Token.TheVariants as token
-use Rattle.swc_input.specs.declared.token.TokenAndSpan.{TokenAndSpan}
-use Rattle.swc_input.specs.Kinds.{at_token}
+use Rattle.std.specs.Prelude.{◌≡◌, Bool, true, false, not, ◌&&◌, ◌||◌, if◌then◌else◌, List, [], Option, Some, None, is_some}
+use Rattle.swc_context.specs.{Reserved.strict_binding_words, Spans.from_to, Texts.is_one_of, declared.context.Context.Context, declared.span.BytePos.BytePos, declared.span.Span.Span}
+use Rattle.swc_input.specs.{declared.token.Token.Token, declared.token.Token.Token as token, declared.token.TokenAndSpan.TokenAndSpan, Kinds.at_token}
 use Rattle.swc_ast.specs.Tree.{Tree, node, Trees, nil, cons, ident, span_of}
 use Rattle.swc_ast.specs.Trees.{to, arrow_e, ident_e, block_e, call_e, link_e, items_of, comma_of, covers_ok}
 use Rattle.swc_bodies.specs.Readings.{Hook, is_async as is_async_token}
 use Rattle.swc_grammar.specs.Arrows.{is_arrow, is_block, is_sign, is_of}
 use Rattle.swc_grammar.specs.Clean.{Out, first, second, sym, run, links, updates, climb, assigns, parens, asyncs}
 use Rattle.swc_grammar.specs.Names.{Spelling, spelling, may_refer, may_bind}
-use Rattle.swc_grammar.specs.Scope.{Scope}
-use Rattle.swc_grammar.specs.Symbols.{Level, ArrowBody}
-use Rattle.swc_grammar.specs.Tokens.{is_lparen}
-use Rattle.swc_grammar.specs.Words.{◌>>=◌, word}
-use Rattle.swc_cover.specs.Clear.{is_clear}
-use Rattle.swc_cover.specs.Faults.{params_verdict}
-use Rattle.swc_cover.specs.Heads.{names_ok}
-use Rattle.swc_cover.specs.Items.{want_items}
+use Rattle.swc_grammar.specs.{Scope.Scope, Symbols.Level, Symbols.ArrowBody, Tokens.is_lparen, Words.◌>>=◌, Words.word}
+use Rattle.swc_cover.specs.{Clear.is_clear, Faults.params_verdict, Heads.names_ok, Items.want_items}
 use Rattle.swc_steps.specs.Args.{args_inside, paren_closed, paren_from, paren_of}
-use Rattle.swc_steps.specs.Keys.{expected}
-use Rattle.swc_steps.specs.Parsing.{breaks_at, by_hook}
+use Rattle.swc_steps.specs.{Keys.expected, Parsing.breaks_at, Parsing.by_hook}
 
 -- an identifier, as it is spelled
 abbrev pub spelling_of : {F C K : Type 0} → Tree F C K → Spelling

@@ -1,18 +1,15 @@
-// The bodies of arrow functions (ECMA-262, 15.3 and 15.9), and what may are after them.
+// The bodies of arrow functions (ECMA-262, 15.3 and 15.9), and what may come after them.
 ghost use Rattle.std.specs.Prelude.{◌≡◌, ◌≤◌, ◌++◌, ◌&&◌, ℕ, Bool, true, OnOk, IfOk, MatchResult, Some};
 ghost use Rattle.swc_context.specs.Contexts.{arrow_body};
 ghost use Rattle.swc_bodies.specs.Readings.{is_brace};
-ghost use Rattle.swc_grammar.specs.Arrows.{is_sign};
-ghost use Rattle.swc_grammar.specs.Clean.{no_error};
+ghost use Rattle.swc_grammar.specs.{Arrows.is_sign, Clean.no_error};
 ghost use Rattle.swc_input.specs.Buffer.{context, current, to_come};
 ghost use Rattle.swc_input.specs.Kinds.{at_token};
 ghost use Rattle.swc_nodes.specs.GrowingNodes.{count, tree_at, body_end, Apart};
-ghost use Rattle.swc_nodes.specs.Lists.{pats_parts, pat_trees};
-ghost use Rattle.swc_nodes.specs.NodeParts.{body_parts};
+ghost use Rattle.swc_nodes.specs.{Lists.pats_parts, Lists.pat_trees, NodeParts.body_parts};
 ghost use Rattle.swc_steps.specs.Parsing.{seen, Looks, Moves, Produces, On, Tries, Unheard};
 ghost use Rattle.swc_arrows.specs.Answers.{has_block, body_at, body_of, EndsArrow, SignChecked};
-ghost use Rattle.swc_arrows.specs.Readers.{arrow_end, block_inside, no_sign};
-ghost use Rattle.swc_arrows.specs.Readers.{ends_statement, statement_ends};
+ghost use Rattle.swc_arrows.specs.Readers.{arrow_end, block_inside, no_sign, ends_statement, statement_ends};
 
 use crate::names::ArrowHead;
 use swc_ast::expr::BlockStmtOrExpr;
@@ -100,7 +97,7 @@ pub fn arrow_function<I: Tokens, B: Bodies<I>>(
     Ok(ArrowOrBase::Arrow(arrow))
 }
 
-/// Whether no binary operator may are after an arrow function but for `in` and `instanceof`: where its parameters
+/// Whether no binary operator may come after an arrow function but for `in` and `instanceof`: where its parameters
 /// are in parentheses, and its body is a block.
 fn bars_signs<K>(in_parens: bool, body: &BlockStmtOrExpr<ExprId, K>) -> bool
     ensures { result ≡ (in_parens && has_block body.now) }

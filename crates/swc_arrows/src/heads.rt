@@ -3,8 +3,7 @@ ghost use Rattle.std.specs.Prelude.{◌≡◌, ◌≤◌, OnOk, IfOk, IsSome, Ma
 ghost use Rattle.swc_grammar.specs.Clean.{second};
 ghost use Rattle.swc_input.specs.Buffer.{current, peeked, context, to_come, Peeked};
 ghost use Rattle.swc_steps.specs.Parsing.{seen, Tells};
-ghost use Rattle.swc_arrows.specs.Heads.{first_kind, word_kind, next_kind, next_token, head_kind};
-ghost use Rattle.swc_arrows.specs.Heads.{name_head, async_head, begins_head};
+ghost use Rattle.swc_arrows.specs.Heads.{first_kind, word_kind, next_kind, next_token, head_kind, name_head, async_head, begins_head};
 
 use swc_context::context::Context;
 use swc_context::error::PResult;

@@ -3,16 +3,13 @@ ghost use Rattle.std.specs.Prelude.{◌≡◌, ◌<◌, ◌≤◌, ◌++◌, ℕ
 ghost use Rattle.swc_bodies.specs.Readings.{is_async as is_async_token};
 ghost use Rattle.swc_cover.specs.Rewriting.{Rewrites};
 ghost use Rattle.swc_grammar.specs.Arrows.{is_arrow};
-ghost use Rattle.swc_input.specs.Buffer.{current, to_come};
-ghost use Rattle.swc_input.specs.Kinds.{at_token};
+ghost use Rattle.swc_input.specs.{Buffer.current, Buffer.to_come, Kinds.at_token};
 ghost use Rattle.swc_nodes.specs.GrowingNodes.{count, first_at, first_start, last_end, Apart};
 ghost use Rattle.swc_nodes.specs.NodeParts.{args_parts, one_expr};
 ghost use Rattle.swc_patterns.specs.Answers.{Leaves};
 ghost use Rattle.swc_steps.specs.Parsing.{seen, args_at, itself, tree_of, ContinuesAlone, GoesOn, Heard};
-ghost use Rattle.swc_arrows.specs.Answers.{beginning_of, beginning_behind, callee_at, callee_parts};
-ghost use Rattle.swc_arrows.specs.Answers.{list_start_at, list_start_of, list_start_behind, IsArrow, IsBase};
-ghost use Rattle.swc_arrows.specs.Readers.{async_call, base_closed, base_look, heads_closed, is_callee, list_closed};
-ghost use Rattle.swc_arrows.specs.Readers.{list_head, list_opening, on_line};
+ghost use Rattle.swc_arrows.specs.Answers.{beginning_of, beginning_behind, callee_at, callee_parts, list_start_at, list_start_of, list_start_behind, IsArrow, IsBase};
+ghost use Rattle.swc_arrows.specs.Readers.{async_call, base_closed, base_look, heads_closed, is_callee, list_closed, list_head, list_opening, on_line};
 
 use crate::names::{ArrowHead, Beginning};
 use swc_ast::expr::ExprOrSpread;

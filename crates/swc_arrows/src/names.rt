@@ -1,17 +1,14 @@
 // Names that are parameters of arrow functions by themselves (ECMA-262, 15.3 and 15.9).
 ghost use Rattle.std.specs.Prelude.{◌≡◌, ◌<◌, ◌≤◌, true, not, Some, None, IfOk, OnOk, IsSome, MatchOption};
 ghost use Rattle.swc_bodies.specs.Readings.{is_async};
-ghost use Rattle.swc_grammar.specs.Arrows.{is_arrow, is_of};
-ghost use Rattle.swc_grammar.specs.Clean.{second};
-ghost use Rattle.swc_grammar.specs.Tokens.{may_be_reference};
+ghost use Rattle.swc_grammar.specs.{Arrows.is_arrow, Arrows.is_of, Clean.second, Tokens.may_be_reference};
 ghost use Rattle.swc_input.specs.Buffer.{context, current, last_position, peeked, to_come, Peeked};
 ghost use Rattle.swc_input.specs.Kinds.{at_token};
 ghost use Rattle.swc_nodes.specs.GrowingNodes.{count};
 ghost use Rattle.swc_patterns.specs.Answers.{Leaves};
 ghost use Rattle.swc_steps.specs.Parsing.{seen, ident_spelling, Checked, ContinuesAlone, Tells};
 ghost use Rattle.swc_arrows.specs.Answers.{beginning_of, beginning_behind, HearsBase, IsArrow, IsBase, OneParam, Opens};
-ghost use Rattle.swc_arrows.specs.Readers.{name_arrow, async_arrow, async_base, async_of, name_ok, of_alone, of_base};
-ghost use Rattle.swc_arrows.specs.Readers.{arrow_on_line};
+ghost use Rattle.swc_arrows.specs.Readers.{name_arrow, async_arrow, async_base, async_of, name_ok, of_alone, of_base, arrow_on_line};
 
 use swc_ast::ident::{BindingIdent, Ident};
 use swc_bodies::bodies::Bodies;

@@ -1,32 +1,16 @@
 -- The trees of values that hold lists, or parts of several forms.
 use Rattle.std.proofs.Common.{◌≡◌, Bool, List, [], ◌∷◌, map, Option, refl, ap, rules}
-use Rattle.std.specs.declared.alloc.Global.{Global}
-use Rattle.std.specs.declared.boxed.Box.{Box}
-use Rattle.std.specs.declared.vec.Vec.{Vec}
+use Rattle.std.specs.{declared.alloc.Global.Global, declared.boxed.Box.Box, declared.vec.Vec.Vec}
 use Rattle.swc_context.specs.declared.span.Span.{Span}
-use Rattle.swc_ast.specs.declared.expr.AssignTarget.TheFolds.{the_lemmas}
-use Rattle.swc_ast.specs.declared.expr.AssignTarget.TheVariants as target
-use Rattle.swc_ast.specs.declared.expr.BlockStmtOrExpr.{BlockStmtOrExpr}
-use Rattle.swc_ast.specs.declared.expr.Callee.{Callee}
-use Rattle.swc_ast.specs.declared.expr.Expr.{Expr}
-use Rattle.swc_ast.specs.declared.expr.Expr.TheVariants as expr
-use Rattle.swc_ast.specs.declared.expr.ExprOrSpread.{ExprOrSpread}
-use Rattle.swc_ast.specs.declared.expr.MemberExpr.{MemberExpr}
-use Rattle.swc_ast.specs.declared.expr.OptChainExpr.{OptChainExpr}
-use Rattle.swc_ast.specs.declared.expr.SimpleAssignTarget.{SimpleAssignTarget}
-use Rattle.swc_ast.specs.declared.expr.SuperPropExpr.{SuperPropExpr}
-use Rattle.swc_ast.specs.declared.expr.Tpl.{Tpl}
-use Rattle.swc_ast.specs.declared.function.Function.{Function}
-use Rattle.swc_ast.specs.declared.pat.ObjectPatProp.{ObjectPatProp}
-use Rattle.swc_ast.specs.declared.pat.ObjectPatProp.TheVariants as pat_prop
-use Rattle.swc_ast.specs.declared.pat.Pat.{Pat}
-use Rattle.swc_ast.specs.declared.pat.Pat.TheVariants as pat
-use Rattle.swc_ast.specs.declared.prop.Prop.TheVariants as prop
-use Rattle.swc_ast.specs.declared.prop.PropName.{PropName}
-use Rattle.swc_ast.specs.declared.prop.PropOrSpread.{PropOrSpread}
 use Rattle.swc_ast.specs.Parts.{leaf, or_hole, item_tree, item_trees, args_tree, callee_tree, member_tree, super_prop_tree, chain_tree, tpl_tree, body_tree, simple_tree, prop_name_tree, function_tree}
 use Rattle.swc_ast.specs.Tree.{Tree, array, object, block, seq, call, new, tagged, arrow, key_value, method, getter, setter, node, trees, nil, cons}
 use Rattle.swc_ast.specs.TreeOf.{expr_tree, pat_tree, pat_prop_tree, prop_tree, prop_or_spread_tree, target_tree, boxed_tree}
+use Rattle.swc_ast.specs.{declared.expr.AssignTarget.TheFolds.the_lemmas, declared.expr.BlockStmtOrExpr.BlockStmtOrExpr, declared.expr.Callee.Callee, declared.expr.Expr.Expr, declared.expr.ExprOrSpread.ExprOrSpread, declared.expr.MemberExpr.MemberExpr, declared.expr.OptChainExpr.OptChainExpr, declared.expr.SimpleAssignTarget.SimpleAssignTarget, declared.expr.SuperPropExpr.SuperPropExpr, declared.expr.Tpl.Tpl, declared.function.Function.Function, declared.pat.ObjectPatProp.ObjectPatProp, declared.pat.Pat.Pat, declared.prop.PropName.PropName, declared.prop.PropOrSpread.PropOrSpread}
+use Rattle.swc_ast.specs.declared.expr.AssignTarget.TheVariants as target
+use Rattle.swc_ast.specs.declared.expr.Expr.TheVariants as expr
+use Rattle.swc_ast.specs.declared.pat.ObjectPatProp.TheVariants as pat_prop
+use Rattle.swc_ast.specs.declared.pat.Pat.TheVariants as pat
+use Rattle.swc_ast.specs.declared.prop.Prop.TheVariants as prop
 
 pub map_map : {A B C : Type 0} (f : A → B) (g : B → C) (xs : List A) → map g (map f xs) ≡ map (λ x. g (f x)) xs
 map_map f g [] = refl

@@ -1,35 +1,14 @@
 -- Where the parts are that are no node of their own, in worked rows, by computation.
 use Rattle.std.proofs.Common.{◌≡◌, ℕ, true, Option, Some, None, List, refl, rules}
-use Rattle.std.specs.declared.alloc.Global.{Global}
-use Rattle.std.specs.declared.boxed.Box.{Box}
-use Rattle.std.specs.declared.vec.Vec.{Vec}
+use Rattle.std.specs.{declared.alloc.Global.Global, declared.boxed.Box.Box, declared.vec.Vec.Vec}
 use Rattle.swc_context.specs.declared.span.Span.{Span}
-use Rattle.swc_ast.specs.declared.expr.AssignTarget.{AssignTarget}
-use Rattle.swc_ast.specs.declared.expr.AssignTarget.TheFolds.{the_lemmas}
-use Rattle.swc_ast.specs.declared.expr.AssignTarget.TheVariants as target
-use Rattle.swc_ast.specs.declared.expr.BlockStmtOrExpr.TheVariants as body
-use Rattle.swc_ast.specs.declared.expr.Callee.TheVariants as callee
-use Rattle.swc_ast.specs.declared.expr.Expr.{Expr}
-use Rattle.swc_ast.specs.declared.expr.ImportPhase.{ImportPhase}
-use Rattle.swc_ast.specs.declared.expr.MemberProp.{MemberProp}
-use Rattle.swc_ast.specs.declared.expr.OptChainBase.{OptChainBase}
-use Rattle.swc_ast.specs.declared.expr.SimpleAssignTarget.TheVariants as simple
-use Rattle.swc_ast.specs.declared.expr.SuperProp.{SuperProp}
-use Rattle.swc_ast.specs.declared.expr.Super.{Super}
-use Rattle.swc_ast.specs.declared.function.Function.{Function}
-use Rattle.swc_ast.specs.declared.ident.BindingIdent.{BindingIdent}
-use Rattle.swc_ast.specs.declared.ident.Ident.{Ident}
-use Rattle.swc_ast.specs.declared.ident.ModuleExportName.TheVariants as export
-use Rattle.swc_ast.specs.declared.pat.ObjectPatProp.{ObjectPatProp}
-use Rattle.swc_ast.specs.declared.pat.ObjectPatProp.TheVariants as pat_prop
-use Rattle.swc_ast.specs.declared.pat.Pat.{Pat}
-use Rattle.swc_ast.specs.declared.prop.Prop.{Prop}
-use Rattle.swc_ast.specs.declared.prop.Prop.TheVariants as prop
-use Rattle.swc_ast.specs.declared.prop.PropName.{PropName}
-use Rattle.swc_ast.specs.declared.prop.PropOrSpread.TheVariants as item
 use Rattle.swc_ast.specs.Spans.{item_span, callee_span, body_span, simple_target_span, export_name_span}
-use Rattle.swc_ast.specs.Tree.{span_of}
 use Rattle.swc_ast.specs.TreeOf.{target_tree, prop_tree, prop_or_spread_tree, pat_prop_tree}
+use Rattle.swc_ast.specs.{declared.expr.AssignTarget.AssignTarget, declared.expr.AssignTarget.TheFolds.the_lemmas, declared.expr.BlockStmtOrExpr.BlockStmtOrExpr as body, declared.expr.Callee.Callee as callee, declared.expr.Expr.Expr, declared.expr.ImportPhase.ImportPhase, declared.expr.MemberProp.MemberProp, declared.expr.OptChainBase.OptChainBase, declared.expr.SimpleAssignTarget.SimpleAssignTarget as simple, declared.expr.SuperProp.SuperProp, declared.expr.Super.Super, declared.function.Function.Function, declared.ident.BindingIdent.BindingIdent, declared.ident.Ident.Ident, declared.ident.ModuleExportName.ModuleExportName as export, declared.pat.ObjectPatProp.ObjectPatProp, declared.pat.Pat.Pat, declared.prop.Prop.Prop, declared.prop.PropName.PropName, Tree.span_of}
+use Rattle.swc_ast.specs.declared.expr.AssignTarget.TheVariants as target
+use Rattle.swc_ast.specs.declared.pat.ObjectPatProp.TheVariants as pat_prop
+use Rattle.swc_ast.specs.declared.prop.Prop.TheVariants as prop
+use Rattle.swc_ast.specs.declared.prop.PropOrSpread.TheVariants as item
 
 abbrev at : ℕ → ℕ → Span
 at lo hi = record { lo = record { 0 = lo }; hi = record { 0 = hi } }

@@ -2,8 +2,7 @@
 -- array literal.
 use Rattle.std.specs.Prelude.{Bool, true, false}
 use Rattle.swc_context.specs.declared.span.Span.{Span}
-use Rattle.swc_ast.specs.Tree.{Tree, node, Trees, nil, cons, array, object}
-use Rattle.swc_ast.specs.Tree.{rest, default, binding_prop}
+use Rattle.swc_ast.specs.Tree.{Tree, node, Trees, nil, cons, array, object, rest, default, binding_prop}
 use Rattle.swc_ast.specs.Trees.{is_ident}
 
 pattern abbrev pub array_p : {F C K : Type 0} → Span → Trees F C K → Tree F C K

@@ -1,18 +1,11 @@
 -- The tree that an expression, a pattern, a property or a target of the program stands for.
-use Rattle.std.specs.Prelude.{map}
-use Rattle.std.specs.declared.alloc.Global.{Global}
-use Rattle.std.specs.declared.boxed.Box.{Box}
+use Rattle.std.specs.{Prelude.map, declared.alloc.Global.Global, declared.boxed.Box.Box}
 use Rattle.swc_context.specs.declared.span.Span.{Span}
-use Rattle.swc_ast.specs.declared.expr.AssignTarget.{AssignTarget}
 use Rattle.swc_ast.specs.declared.expr.AssignTarget.TheFolds.{fold-AssignTarget, fold-Expr, fold-ObjectPatProp, fold-Pat, fold-Prop, fold-PropOrSpread}
-use Rattle.swc_ast.specs.declared.expr.AssignTarget.TheOpen as o
-use Rattle.swc_ast.specs.declared.expr.Expr.{Expr}
-use Rattle.swc_ast.specs.declared.pat.ObjectPatProp.{ObjectPatProp}
-use Rattle.swc_ast.specs.declared.pat.Pat.{Pat}
-use Rattle.swc_ast.specs.declared.prop.Prop.{Prop}
-use Rattle.swc_ast.specs.declared.prop.PropOrSpread.{PropOrSpread}
 use Rattle.swc_ast.specs.Tree.{this, array, object, fun, class, block, unary, update, bin, assign, cond, seq, call, new, tagged, arrow, await, yield, meta, invalid, shorthand, key_value, method, getter, setter, binding_prop, default, pat_expr, Tree, node, nil, cons, trees, span_of}
 use Rattle.swc_ast.specs.Parts.{leaf, or_hole, unbox, ident_tree, binding_tree, private_tree, lit_tree, prop_name_tree, item_tree, item_trees, args_tree, paren_tree, member_tree, super_prop_tree, chain_tree, callee_tree, tpl_tree, body_tree, simple_tree, rest_tree, function_tree, cover_tree, spread_tree}
+use Rattle.swc_ast.specs.{declared.expr.AssignTarget.AssignTarget, declared.expr.Expr.Expr, declared.pat.ObjectPatProp.ObjectPatProp, declared.pat.Pat.Pat, declared.prop.Prop.Prop, declared.prop.PropOrSpread.PropOrSpread}
+use Rattle.swc_ast.specs.declared.expr.AssignTarget.TheOpen as o
 
 -- the hook's types, and where their values are
 module _ (F C K : Type 0) (fun_at : F → Span) (class_at : C → Span) (block_at : K → Span) where

@@ -1,12 +1,8 @@
 // Expressions.
 ghost use Rattle.std.specs.Prelude.{◌≡◌, Bool, Some};
-ghost use Rattle.std.specs.declared.alloc.Global.{Global};
-ghost use Rattle.std.specs.declared.boxed.Box.{Box};
-ghost use Rattle.std.specs.declared.vec.Vec.{Vec};
-ghost use Rattle.swc_ast.specs.declared.expr.BlockStmtOrExpr.{BlockStmtOrExpr};
-ghost use Rattle.swc_ast.specs.declared.expr.Expr.{Expr};
+ghost use Rattle.std.specs.{declared.alloc.Global.Global, declared.boxed.Box.Box, declared.vec.Vec.Vec};
+ghost use Rattle.swc_ast.specs.{declared.expr.BlockStmtOrExpr.BlockStmtOrExpr, declared.expr.Expr.Expr, declared.pat.Pat.Pat};
 ghost use Rattle.swc_ast.specs.declared.expr.Expr.TheVariants as e;
-ghost use Rattle.swc_ast.specs.declared.pat.Pat.{Pat};
 ghost use Rattle.swc_context.specs.declared.span.Span.{Span};
 
 use crate::ident::{BindingIdent, Ident, IdentName, PrivateName};
@@ -701,8 +697,7 @@ impl<E> Spanned for SimpleAssignTarget<E> {
 }
 
 impl<F: Spanned, C: Spanned, K: Spanned> Spanned for AssignTarget<F, C, K> {
-    ghost use Rattle.swc_ast.specs.Tree.{span_of};
-    ghost use Rattle.swc_ast.specs.TreeOf.{target_tree};
+    ghost use Rattle.swc_ast.specs.{Tree.span_of, TreeOf.target_tree};
 
     ghost place = { λ t. span_of (target_tree _ _ _ F.place C.place K.place t) };
 
@@ -716,8 +711,7 @@ impl<F: Spanned, C: Spanned, K: Spanned> Spanned for AssignTarget<F, C, K> {
 
 impl<F: Spanned, C: Spanned, K: Spanned> Spanned for Expr<F, C, K> {
     ghost use Rattle.swc_context.specs.Spans.{in_order};
-    ghost use Rattle.swc_ast.specs.Tree.{span_of};
-    ghost use Rattle.swc_ast.specs.TreeOf.{expr_tree};
+    ghost use Rattle.swc_ast.specs.{Tree.span_of, TreeOf.expr_tree};
 
     ghost place = { λ e. in_order (span_of (expr_tree _ _ _ F.place C.place K.place e)) };
 

@@ -73,8 +73,7 @@ impl<P> Spanned for RestPat<P> {
 
 impl<F: Spanned, C: Spanned, K: Spanned> Spanned for Pat<F, C, K> {
     ghost use Rattle.swc_context.specs.Spans.{in_order};
-    ghost use Rattle.swc_ast.specs.Tree.{span_of};
-    ghost use Rattle.swc_ast.specs.TreeOf.{pat_tree};
+    ghost use Rattle.swc_ast.specs.{Tree.span_of, TreeOf.pat_tree};
 
     ghost place = { λ p. in_order (span_of (pat_tree _ _ _ F.place C.place K.place p)) };
 
@@ -91,8 +90,7 @@ impl<F: Spanned, C: Spanned, K: Spanned> Spanned for Pat<F, C, K> {
 }
 
 impl<F: Spanned, C: Spanned, K: Spanned> Spanned for ObjectPatProp<F, C, K> {
-    ghost use Rattle.swc_ast.specs.Tree.{span_of};
-    ghost use Rattle.swc_ast.specs.TreeOf.{pat_prop_tree};
+    ghost use Rattle.swc_ast.specs.{Tree.span_of, TreeOf.pat_prop_tree};
 
     ghost place = { λ p. span_of (pat_prop_tree _ _ _ F.place C.place K.place p) };
 

@@ -126,8 +126,7 @@ impl<E> Spanned for AssignProp<E> {
 }
 
 impl<F: Spanned, C: Spanned, K: Spanned> Spanned for Prop<F, C, K> {
-    ghost use Rattle.swc_ast.specs.Tree.{span_of};
-    ghost use Rattle.swc_ast.specs.TreeOf.{prop_tree};
+    ghost use Rattle.swc_ast.specs.{Tree.span_of, TreeOf.prop_tree};
 
     ghost place = { λ p. span_of (prop_tree _ _ _ F.place C.place K.place p) };
 
@@ -144,8 +143,7 @@ impl<F: Spanned, C: Spanned, K: Spanned> Spanned for Prop<F, C, K> {
 }
 
 impl<F: Spanned, C: Spanned, K: Spanned> Spanned for PropOrSpread<F, C, K> {
-    ghost use Rattle.swc_ast.specs.Tree.{span_of};
-    ghost use Rattle.swc_ast.specs.TreeOf.{prop_or_spread_tree};
+    ghost use Rattle.swc_ast.specs.{Tree.span_of, TreeOf.prop_or_spread_tree};
 
     ghost place = { λ p. span_of (prop_or_spread_tree _ _ _ F.place C.place K.place p) };
 

@@ -1,7 +1,6 @@
 // Which expressions may be left of an operator that writes.
 ghost use Rattle.std.specs.Prelude.{◌≡◌};
-ghost use Rattle.swc_ast.specs.Targets.{is_target};
-ghost use Rattle.swc_ast.specs.TreeOf.{expr_tree};
+ghost use Rattle.swc_ast.specs.{Targets.is_target, TreeOf.expr_tree};
 
 use crate::expr::Expr;
 use crate::spanned::Spanned;

@@ -1,8 +1,7 @@
 -- What is kept of tokens in the order of the text: all but the slashes at which regular expressions were found.
 use Rattle.std.proofs.Common.{◌≡◌, ◌≤◌, Bool, true, false, ◌&&◌, ◌||◌, List, [], ◌∷◌, ◌++◌, refl, sym, ap, ◌∙◌, arith}
+use Rattle.std.proofs.{lemmas.Bool.leb-true, lemmas.Bool.ltb-true, lemmas.List.append_assoc}
 use Rattle.std.specs.Prelude.{nat_le, nat_lt}
-use Rattle.std.proofs.lemmas.Bool.{leb-true, ltb-true}
-use Rattle.std.proofs.lemmas.List.{append_assoc}
 use Rattle.swc_context.specs.declared.span.BytePos.{BytePos}
 use Rattle.swc_input.specs.declared.token.TokenAndSpan.{TokenAndSpan}
 use Rattle.swc_input.specs.Kept.{ends_behind, in_front, cleared, kept_on, kept_of}
@@ -39,7 +38,7 @@ either : (a b : Bool) → b ≡ true → (a || b) ≡ true
 either true b h = refl
 either false b h = h
 
--- tokens in the order of the text, after tokens of which none is let go for the first of them
+-- tokens in the order of the text, after tokens of which none is dropped for the first of them
 kept-all : (ks : List TokenAndSpan) (t : TokenAndSpan) (ts : List TokenAndSpan) → in_order (t ∷ ts) ≡ true
     → cleared t.span.lo ks ≡ ks → kept_on ks (t ∷ ts) ≡ ks ++ without_slashes (t ∷ ts)
 kept-all ks t [] h k = ap (λ l. l ++ t ∷ []) k

@@ -1,33 +1,18 @@
 -- How a body is taken from a buffer, a step at a time.
 use Rattle.std.proofs.Common.{◌≡◌, ◌≢◌, ◌⊎◌, ◌<◌, ◌≤◌, inl, inr, true, false, List, [], ◌∷◌, ◌++◌, Option, Some, None, Ok, Err, length, map, refl, sym, ap, ◌∙◌, subst, arith, length-append, append_assoc}
-use Rattle.swc_context.specs.declared.context.Context.{Context}
-use Rattle.swc_context.specs.declared.error.Error.{Error}
-use Rattle.swc_context.specs.declared.error.SyntaxError.{SyntaxError}
-use Rattle.swc_context.specs.declared.error.SyntaxError.TheVariants as kind
-use Rattle.swc_context.specs.declared.error.Wanted.TheVariants as wanted
-use Rattle.swc_context.specs.declared.span.BytePos.{BytePos}
-use Rattle.swc_context.specs.declared.word.Keyword.TheVariants as keyword
-use Rattle.swc_context.specs.declared.word.Word.TheVariants as word
-use Rattle.swc_input.specs.declared.buffer.Buffer.{Buffer}
-use Rattle.swc_input.specs.declared.token.Token.{Token}
-use Rattle.swc_input.specs.declared.token.Token.TheVariants as token
-use Rattle.swc_input.specs.declared.token.TokenAndSpan.{TokenAndSpan}
-use Rattle.swc_input.specs.Plain.{plain, plain_token}
+use Rattle.swc_context.specs.{declared.context.Context.Context, declared.error.Error.Error, declared.error.SyntaxError.SyntaxError, declared.error.SyntaxError.SyntaxError as kind, declared.error.Wanted.Wanted as wanted, declared.span.BytePos.BytePos, declared.word.Keyword.Keyword as keyword, declared.word.Word.Word as word}
 use Rattle.swc_input.specs.Source.{Model, Laws, given_one}
 use Rattle.swc_input.specs.Buffer.{Read, Looked, Known, Future, current, source, last_position, to_come}
-use Rattle.swc_input.specs.Kinds.{at_token}
 use Rattle.swc_input.specs.Recording.{Refused, unfit, no_memory}
 use Rattle.swc_input.specs.Laws.{Read-then, Read-late, Read-same, Refused-read, Known-after, Future-current, Future-end, Known-Future}
+use Rattle.swc_input.specs.{declared.buffer.Buffer.Buffer, declared.token.Token.Token, declared.token.Token.Token as token, declared.token.TokenAndSpan.TokenAndSpan, Plain.plain, Plain.plain_token, Kinds.at_token, Kept.kept}
 use Rattle.swc_input.proofs.Refusals.{Refused-kind, Refused-failed, unfit-kind}
-use Rattle.swc_bodies.specs.declared.place.Place.{Place}
-use Rattle.swc_bodies.specs.declared.place.Place.TheVariants as place
-use Rattle.swc_bodies.specs.Body.{Body}
-use Rattle.swc_input.specs.Kept.{kept}
+use Rattle.swc_input.proofs.Kept.{plain-kept}
 use Rattle.swc_bodies.specs.Readings.{Hooked, Faithful, is_class, is_brace}
 use Rattle.swc_bodies.specs.Taking.{sign_at, after, is_end, next, at_current, body, taken_on, begun, taken, class_first, block_first}
 use Rattle.swc_bodies.specs.Steps.{Quiet, GoesOn, Stops, wanting, wanted_memory, refused_token}
-use Rattle.swc_input.proofs.Kept.{plain-kept}
 use Rattle.swc_bodies.specs.Laws.{plain-sign-at, taken-end, taken-next, taken-none, read, value_or, rest_or}
+use Rattle.swc_bodies.specs.{declared.place.Place.Place, declared.place.Place.Place as place, Body.Body}
 
 -- the refusal of a place at which no more brackets can be counted
 pub stops-full : {S : Type 0} {model : Model S} → Laws model → (b : Buffer S) (p : Place) (e : Error) → e ≡ no_memory (last_position b) → Stops model b p e b

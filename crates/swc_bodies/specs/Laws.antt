@@ -1,21 +1,10 @@
 -- The laws of bodies that are taken as tokens.
 use Rattle.std.proofs.Common.{◌≡◌, Bool, true, false, not, ◌&&◌, List, [], ◌∷◌, ◌++◌, Option, Some, None, refl, sym, ap, ◌∙◌, subst}
-use Rattle.swc_context.specs.declared.context.Context.{Context}
-use Rattle.swc_context.specs.declared.span.BytePos.{BytePos}
-use Rattle.swc_context.specs.declared.word.Keyword.TheVariants as keyword
-use Rattle.swc_context.specs.declared.word.Word.TheVariants as word
-use Rattle.swc_context.specs.Spans.{from_to}
-use Rattle.swc_input.specs.declared.token.Token.{Token}
-use Rattle.swc_input.specs.declared.token.Token.TheVariants as token
-use Rattle.swc_input.specs.declared.token.TokenAndSpan.{TokenAndSpan}
-use Rattle.swc_input.specs.Plain.{plain, plain_token}
-use Rattle.swc_bodies.specs.declared.place.Sign.{Sign}
-use Rattle.swc_bodies.specs.declared.place.Place.{Place}
-use Rattle.swc_bodies.specs.declared.place.Place.TheVariants as place
-use Rattle.swc_bodies.specs.Body.{Body}
-use Rattle.swc_input.specs.Kept.{kept}
+use Rattle.swc_context.specs.{declared.context.Context.Context, declared.span.BytePos.BytePos, declared.word.Keyword.Keyword as keyword, declared.word.Word.Word as word, Spans.from_to}
+use Rattle.swc_input.specs.{declared.token.Token.Token, declared.token.Token.Token as token, declared.token.TokenAndSpan.TokenAndSpan, Plain.plain, Plain.plain_token, Kept.kept}
 use Rattle.swc_bodies.specs.Readings.{is_function, is_async, is_class, is_brace, begins_function, begins, last_of, ReadsOwn, IsReading, LawfulHook}
 use Rattle.swc_bodies.specs.Taking.{sign_of, on_line, sign_at, behind_async, after, is_end, next, body, taken_on, taken, place_if, or_async, function_first, class_first, block_first, token_forms}
+use Rattle.swc_bodies.specs.{declared.place.Sign.Sign, declared.place.Place.Place, declared.place.Place.Place as place, Body.Body}
 
 -- what a token is to a body doesn't depend on where boxes lie
 pub plain-sign : (t : Token) → sign_of (plain_token t) ≡ sign_of t

@@ -1,28 +1,15 @@
 -- What is taken as tokens is taken without the slashes at which regular expressions were found too, and the same is kept
 -- of it.
 use Rattle.std.proofs.Common.{◌≡◌, ◌≤◌, zero, suc, Bool, true, false, ◌&&◌, List, [], ◌∷◌, ◌++◌, Option, Some, None, refl, sym, ap, ◌∙◌}
-use Rattle.std.specs.Prelude.{nat_eq, nat_le}
 use Rattle.std.proofs.lemmas.Bool.{eqb-true, leb-true}
-use Rattle.swc_context.specs.declared.operator.AssignOp.TheVariants as assign
-use Rattle.swc_context.specs.declared.operator.BinOpToken.TheVariants as operator
-use Rattle.swc_context.specs.declared.span.BytePos.{BytePos}
-use Rattle.swc_context.specs.declared.word.Keyword.TheVariants as keyword
-use Rattle.swc_context.specs.declared.word.Word.TheVariants as word
-use Rattle.swc_input.specs.declared.token.Token.{Token}
-use Rattle.swc_input.specs.declared.token.Token.TheVariants as token
-use Rattle.swc_input.specs.declared.token.TokenAndSpan.{TokenAndSpan}
+use Rattle.std.specs.Prelude.{nat_eq, nat_le}
+use Rattle.swc_context.specs.{declared.operator.AssignOp.AssignOp as assign, declared.operator.BinOpToken.BinOpToken as operator, declared.span.BytePos.BytePos, declared.word.Keyword.Keyword as keyword, declared.word.Word.Word as word}
 use Rattle.swc_input.specs.Kept.{ends_behind, in_front, cleared, kept}
-use Rattle.swc_bodies.specs.declared.place.Sign.{Sign}
-use Rattle.swc_bodies.specs.declared.place.Sign.TheVariants as sign
-use Rattle.swc_bodies.specs.declared.place.Place.{Place}
-use Rattle.swc_bodies.specs.declared.place.Place.TheVariants as place
-use Rattle.swc_bodies.specs.Body.{Body}
+use Rattle.swc_input.specs.{declared.token.Token.Token, declared.token.Token.Token as token, declared.token.TokenAndSpan.TokenAndSpan}
 use Rattle.swc_bodies.specs.Laws.{taken-end, taken-next, taken-none, read, value_or, rest_or}
-use Rattle.swc_bodies.specs.Readings.{no_forms}
-use Rattle.swc_bodies.specs.Slashes.{is_slash, is_regex, agree, is_pair, is_found_at, unless_found, without_slashes}
-use Rattle.swc_bodies.specs.Slashes.{Replays, ReplayHook, may_end, ends_well}
-use Rattle.swc_bodies.specs.Taking.{sign_of, on_line, sign_at, after, is_end, closed, braced, body, taken_on, taken, function_first}
-use Rattle.swc_bodies.specs.Taking.{class_first, block_first, token_forms}
+use Rattle.swc_bodies.specs.Slashes.{is_slash, is_regex, agree, is_pair, is_found_at, unless_found, without_slashes, Replays, ReplayHook, may_end, ends_well}
+use Rattle.swc_bodies.specs.Taking.{sign_of, on_line, sign_at, after, is_end, closed, braced, body, taken_on, taken, function_first, class_first, block_first, token_forms}
+use Rattle.swc_bodies.specs.{declared.place.Sign.Sign, declared.place.Sign.Sign as sign, declared.place.Place.Place, declared.place.Place.Place as place, Body.Body, Readings.no_forms}
 
 pub both : (a b : Bool) → (a && b) ≡ true → (a ≡ true) × (b ≡ true)
 both true true h = (refl, refl)
@@ -87,7 +74,7 @@ pub regex-stays : (a : TokenAndSpan) (ts : List TokenAndSpan) → is_regex a.tok
     → without_slashes (a ∷ ts) ≡ a ∷ without_slashes ts
 regex-stays a ts h = stays a ts (no-slash-stays a ts (no-slash a.token h))
 
--- letting go once more changes nothing
+-- dropping once more changes nothing
 again-front : (late : Bool) (at : BytePos) (t : TokenAndSpan) (ts : List TokenAndSpan) → ends_behind at t ≡ late
     → cleared at ts ≡ ts → cleared at (in_front late t ts) ≡ in_front late t ts
 again-front true at t [] e h = refl

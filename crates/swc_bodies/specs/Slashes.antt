@@ -1,16 +1,8 @@
 -- Slashes at which a regular expression was found. A source may give such a slash first and then, when it is asked for
--- one, the regular expression from the same place. Where tokens are kept, the slash is let go.
+-- one, the regular expression from the same place. Where tokens are kept, the slash is dropped.
 use Rattle.std.specs.Prelude.{◌≡◌, Bool, true, false, not, ◌&&◌, ◌||◌, List, [], ◌∷◌, Some, nat_eq, nat_le}
-use Rattle.swc_context.specs.declared.context.Context.{Context}
-use Rattle.swc_context.specs.declared.operator.AssignOp.TheVariants as assign
-use Rattle.swc_context.specs.declared.operator.BinOpToken.TheVariants as sign
-use Rattle.swc_context.specs.declared.word.Keyword.TheVariants as keyword
-use Rattle.swc_context.specs.declared.word.Word.{Word}
-use Rattle.swc_context.specs.declared.word.Word.TheVariants as word
-use Rattle.swc_input.specs.declared.token.Token.{Token}
-use Rattle.swc_input.specs.declared.token.Token.TheVariants as token
-use Rattle.swc_input.specs.declared.token.TokenAndSpan.{TokenAndSpan}
-use Rattle.swc_input.specs.Kept.{ends_behind}
+use Rattle.swc_context.specs.{declared.context.Context.Context, declared.operator.AssignOp.AssignOp as assign, declared.operator.BinOpToken.BinOpToken as sign, declared.word.Keyword.Keyword as keyword, declared.word.Word.Word, declared.word.Word.Word as word}
+use Rattle.swc_input.specs.{declared.token.Token.Token, declared.token.Token.Token as token, declared.token.TokenAndSpan.TokenAndSpan, Kept.ends_behind}
 use Rattle.swc_bodies.specs.Readings.{Reading, Hook}
 
 -- `/` and `/=`, with which a regular expression begins; a whole one

@@ -1,19 +1,11 @@
 -- The steps by which a body is taken from a buffer.
 use Rattle.std.specs.Prelude.{◌≡◌, ◌≢◌, ◌⊎◌, ◌<◌, List, [], ◌∷◌, Option, Some, None, Result, Err, MatchResult}
-use Rattle.swc_context.specs.declared.error.Error.{Error}
-use Rattle.swc_context.specs.declared.error.SyntaxError.{SyntaxError}
 use Rattle.swc_context.specs.declared.error.SyntaxError.TheVariants.{OutOfMemory, ParserFailed, Unexpected}
-use Rattle.swc_context.specs.declared.error.Wanted.{Wanted}
-use Rattle.swc_context.specs.declared.error.Wanted.TheVariants as wanted
-use Rattle.swc_input.specs.declared.buffer.Buffer.{Buffer}
-use Rattle.swc_input.specs.declared.token.TokenAndSpan.{TokenAndSpan}
-use Rattle.swc_input.specs.Plain.{plain}
-use Rattle.swc_input.specs.Source.{Model}
+use Rattle.swc_context.specs.{declared.error.Error.Error, declared.error.SyntaxError.SyntaxError, declared.error.Wanted.Wanted, declared.error.Wanted.Wanted as wanted}
 use Rattle.swc_input.specs.Buffer.{Read, ReadSome, Looked, Known, current, source, last_position, to_come}
 use Rattle.swc_input.specs.Recording.{Refused, no_memory, unfit}
-use Rattle.swc_bodies.specs.declared.place.Place.{Place}
-use Rattle.swc_input.specs.Kept.{kept}
-use Rattle.swc_bodies.specs.Taking.{at_current, next}
+use Rattle.swc_input.specs.{declared.buffer.Buffer.Buffer, declared.token.TokenAndSpan.TokenAndSpan, Plain.plain, Source.Model, Kept.kept}
+use Rattle.swc_bodies.specs.{declared.place.Place.Place, Taking.at_current, Taking.next}
 
 -- what is wanted in place of a token that is refused
 abbrev pub wanting : SyntaxError → Option Wanted

@@ -1,20 +1,9 @@
 -- Which tokens a body is: those to the first `{` that is in no bracket, and through the `}` that closes it.
 use Rattle.std.specs.Prelude.{ℕ, zero, suc, ◌+◌, Bool, true, false, List, [], ◌∷◌, Option, Some, None, nat_eq}
-use Rattle.swc_context.specs.declared.context.Context.{Context}
-use Rattle.swc_context.specs.declared.span.BytePos.{BytePos}
-use Rattle.swc_context.specs.declared.word.Keyword.TheVariants as keyword
-use Rattle.swc_context.specs.declared.word.Word.TheVariants as word
-use Rattle.swc_context.specs.Spans.{from_to}
-use Rattle.swc_input.specs.declared.token.Token.{Token}
-use Rattle.swc_input.specs.declared.token.Token.TheVariants as token
-use Rattle.swc_input.specs.declared.token.TokenAndSpan.{TokenAndSpan}
-use Rattle.swc_bodies.specs.declared.place.Sign.{Sign}
-use Rattle.swc_bodies.specs.declared.place.Sign.TheVariants as sign
-use Rattle.swc_bodies.specs.declared.place.Place.{Place}
-use Rattle.swc_bodies.specs.declared.place.Place.TheVariants as place
-use Rattle.swc_bodies.specs.Body.{Body}
-use Rattle.swc_input.specs.Kept.{kept}
+use Rattle.swc_context.specs.{declared.context.Context.Context, declared.span.BytePos.BytePos, declared.word.Keyword.Keyword as keyword, declared.word.Word.Word as word, Spans.from_to}
+use Rattle.swc_input.specs.{declared.token.Token.Token, declared.token.Token.Token as token, declared.token.TokenAndSpan.TokenAndSpan, Kept.kept}
 use Rattle.swc_bodies.specs.Readings.{Hook, is_function, is_async, is_class, is_brace}
+use Rattle.swc_bodies.specs.{declared.place.Sign.Sign, declared.place.Sign.Sign as sign, declared.place.Place.Place, declared.place.Place.Place as place, Body.Body}
 
 -- what a token is to a body
 abbrev pub sign_of : Token → Sign

@@ -1,7 +1,6 @@
 // The hook by which the parser reads functions, classes and blocks.
 ghost use Rattle.std.specs.Prelude.{◌≡◌, Bool, true};
-ghost use Rattle.swc_input.specs.Buffer.{current};
-ghost use Rattle.swc_input.specs.Kinds.{at_token};
+ghost use Rattle.swc_input.specs.{Buffer.current, Kinds.at_token};
 ghost use Rattle.swc_bodies.specs.Readings.{Hook, LawfulHook, Hooked, Faithful, is_class, is_brace, at_function};
 ghost use Rattle.swc_bodies.specs.Slashes.{ReplayHook};
 

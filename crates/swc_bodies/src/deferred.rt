@@ -1,12 +1,9 @@
 // The hook that keeps bodies for passes of their own.
 ghost use Rattle.std.specs.Prelude.{◌≡◌, ◌∷◌, ◌++◌, ◌↔◌, [], true, IsTrue, IfErr, MatchOption, MatchResult, length};
-ghost use Rattle.swc_input.specs.Buffer.{current, last_position};
-ghost use Rattle.swc_input.specs.Kinds.{at_token};
-ghost use Rattle.swc_input.specs.Recording.{no_memory};
+ghost use Rattle.swc_input.specs.{Buffer.current, Buffer.last_position, Kinds.at_token, Recording.no_memory};
 ghost use Rattle.swc_bodies.specs.Deferred.{waiting, in_context, place_forms, Waits};
 ghost use Rattle.swc_bodies.specs.Readings.{Hooked, Faithful, at_function, is_class, is_brace};
-ghost use Rattle.swc_bodies.specs.Steps.{NoBody, Quiet};
-ghost use Rattle.swc_bodies.specs.Taking.{token_forms};
+ghost use Rattle.swc_bodies.specs.{Steps.NoBody, Steps.Quiet, Taking.token_forms};
 
 use crate::bodies::{Bodies, BodyForms, ReplayBodies};
 use crate::token_bodies::TokenBodies;
@@ -36,7 +33,7 @@ pub struct Waiting {
 ///
 /// Each call takes the tokens that `TokenBodies` takes, and puts the body after those that wait. It answers the body's
 /// place: from where its first token begins to where its last one ends. It refuses what `TokenBodies` refuses, in the
-/// same way. Where there is no memory to keep the body, it is let go, and the refusal is `OutOfMemory`, an empty span
+/// same way. Where there is no memory to keep the body, it is dropped, and the refusal is `OutOfMemory`, an empty span
 /// where the token consumed last ends. No refusal changes which bodies wait. The hook records no fault itself.
 ///
 /// `pop` hands out the body that was read last first. A client reads each with a parser of its own, over the body's

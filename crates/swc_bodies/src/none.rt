@@ -1,7 +1,6 @@
 // The hook that reads nothing.
 ghost use Rattle.std.specs.Prelude.{◌≡◌, ◌<◌, true, IsSome};
-ghost use Rattle.swc_input.specs.Buffer.{current, to_come};
-ghost use Rattle.swc_input.specs.Kinds.{at_token};
+ghost use Rattle.swc_input.specs.{Buffer.current, Buffer.to_come, Kinds.at_token};
 ghost use Rattle.swc_bodies.specs.Readings.{Hooked, Faithful, no_reading, at_function, is_class, is_brace};
 ghost use Rattle.swc_bodies.specs.Steps.{Declines};
 
@@ -75,8 +74,7 @@ impl<I: Tokens> Bodies<I> for NoBodies {
 }
 
 impl ReplayBodies for NoBodies {
-    ghost use Rattle.swc_bodies.specs.Readings.{no_forms_read};
-    ghost use Rattle.swc_bodies.specs.Replaying.{no_forms_replay};
+    ghost use Rattle.swc_bodies.specs.{Readings.no_forms_read, Replaying.no_forms_replay};
 
     ghost lawful = { no_forms_read (λ s. s) (λ s. s) (λ s. s) };
 

@@ -1,12 +1,8 @@
 // The hook that keeps the tokens of functions, classes and blocks.
 ghost use Rattle.std.specs.Prelude.{◌≡◌, true, false, Option, Some, IsSome, IfErr, MatchResult};
-ghost use Rattle.swc_input.specs.declared.token.Token.{Token};
-ghost use Rattle.swc_input.specs.Source.{given_one};
-ghost use Rattle.swc_input.specs.Buffer.{current, Looked};
-ghost use Rattle.swc_input.specs.Kinds.{at_token};
+ghost use Rattle.swc_input.specs.{declared.token.Token.Token, Source.given_one, Buffer.current, Buffer.Looked, Kinds.at_token};
 ghost use Rattle.swc_bodies.specs.declared.place.Place.{Place};
-ghost use Rattle.swc_bodies.specs.Readings.{Hooked, Faithful};
-ghost use Rattle.swc_bodies.specs.Readings.{at_function, either_one, is_function, is_async, is_class, is_brace};
+ghost use Rattle.swc_bodies.specs.Readings.{Hooked, Faithful, at_function, either_one, is_function, is_async, is_class, is_brace};
 ghost use Rattle.swc_bodies.specs.Taking.{is_full, at_current, begun, taken, function_first, class_first, block_first};
 ghost use Rattle.swc_bodies.specs.Steps.{KeepsOne, GoesOn, Stops, NoBody, Quiet};
 
@@ -101,7 +97,7 @@ fn take_body<I: Tokens>(alloc: Global, first: Place, input: &mut Buffer<I>) -> P
 /// closes it. Before that brace `(`, `[`, `${` and `{` open a bracket, and `)`, `]` and `}` close one,
 /// whichever was opened; after it `{` and `${` open, `}` closes, and no other bracket counts. Each
 /// token is moved, and none is copied. Before one is kept, those kept at the end that end after its
-/// start are let go: where the tokens come in order, all are kept.
+/// start are dropped: where the tokens come in order, all are kept.
 ///
 /// A closing bracket before the brace, where none is open, is refused as `Unexpected` with `{`, at
 /// that token, and isn't consumed; so is what follows `async` and isn't `function` on the same line. The end of the
@@ -195,8 +191,7 @@ impl<I: Tokens> Bodies<I> for TokenBodies {
 }
 
 impl ReplayBodies for TokenBodies {
-    ghost use Rattle.swc_bodies.specs.Laws.{token_forms_read};
-    ghost use Rattle.swc_bodies.specs.Replaying.{token_forms_replay};
+    ghost use Rattle.swc_bodies.specs.{Laws.token_forms_read, Replaying.token_forms_replay};
 
     ghost lawful = { token_forms_read };
 

@@ -15,9 +15,8 @@ pub struct TokenBody {
 }
 
 impl Model for TokenBody {
-    ghost use Rattle.std.specs.Prelude.{map};
+    ghost use Rattle.std.specs.{Prelude.map, Coded.codes};
     ghost use Rattle.swc_input.specs.Plain.{plain};
-    ghost use Rattle.std.specs.Coded.{codes};
     ghost use Rattle.swc_context.specs.contracts.error.SyntaxError as kind;
     ghost use Rattle.swc_bodies.specs.Body.{Body};
 

@@ -1,13 +1,9 @@
 -- Looking for a keyword.
-use Rattle.std.proofs.Common.{◌≡◌, ℕ, zero, suc, ◌+◌, ◌<◌, ◌≤◌, true, false, if◌then◌else◌, nat_eq, List, [], ◌∷◌, length, drop, Option, Some, None, refl, sym, ap, ◌∙◌, arith, length-drop, slice_get}
-use Rattle.swc_context.specs.Texts.{is_text}
-use Rattle.swc_context.specs.Words.{keyword_text, keywords, keyword_among, keyword_of}
-use Rattle.swc_context.specs.declared.word.Keyword.{Keyword}
-use Rattle.swc_context.specs.declared.word.Keyword.TheVariants as keyword
-use Rattle.std.specs.Prelude.{◌==◌}
-use Rattle.std.specs.Cmp.Lexicographic.{unequal}
+use Rattle.std.proofs.Common.{◌≡◌, ℕ, zero, suc, ◌+◌, ◌<◌, ◌≤◌, true, false, if◌then◌else◌, nat_eq, List, [], ◌∷◌, length, drop, Option, Some, None, refl, sym, ap, ◌∙◌, arith, length-drop, slice_get, ⊎_elim}
 use Rattle.std.proofs.lemmas.Bool.Decides.{eqb_tells}
-use Rattle.std.proofs.Common.{⊎_elim}
+use Rattle.swc_context.specs.Words.{keyword_text, keywords, keyword_among, keyword_of}
+use Rattle.swc_context.specs.{Texts.is_text, declared.word.Keyword.Keyword, declared.word.Keyword.Keyword as keyword}
+use Rattle.std.specs.{Prelude.◌==◌, Cmp.Lexicographic.unequal}
 
 -- the text is looked for among the keywords that are left
 pub record AmongTo (w : List ℕ) (ks : List Keyword) (at : ℕ) : Type 0 where

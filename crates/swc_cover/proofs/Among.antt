@@ -1,7 +1,6 @@
 -- What is one of a list.
 use Rattle.std.proofs.Common.{◌≡◌, ◌<◌, ◌⊎◌, inl, inr, List, [], ◌∷◌, ◌++◌, map, refl, ap, arith}
-use Rattle.swc_cover.specs.Moving.{In, Fall}
-use Rattle.swc_cover.specs.declared.moving.Lifted.{Lifted}
+use Rattle.swc_cover.specs.{Moving.In, Moving.Fall, declared.moving.Lifted.Lifted}
 
 module _ {A : Type 0} where
   pub in-left : (a : A) (xs ys : List A) → In a xs → In a (xs ++ ys)

@@ -1,33 +1,18 @@
 -- A node that was appended, as the last.
-use Rattle.std.proofs.Common.{◌≡◌, ℕ, suc, ◌<◌, ◌≤◌, true, List, [], Option, Result, Ok, Err, IfOk, refl, sym, ap}
-use Rattle.std.proofs.Common.{subst, ◌∙◌, arith}
-use Rattle.swc_context.specs.declared.span.Span.{Span}
-use Rattle.swc_ast.specs.Parts.{leaf}
-use Rattle.swc_ast.specs.Tree.{Tree, invalid, span_of}
-use Rattle.std.specs.declared.alloc.Global.{Global}
-use Rattle.std.specs.declared.vec.Vec.{Vec}
-use Rattle.swc_ast.specs.declared.expr.Invalid.{Invalid}
-use Rattle.swc_ast.specs.declared.ident.BindingIdent.{BindingIdent}
-use Rattle.swc_ast.specs.declared.spanned.Spanned.{Ghosts}
-use Rattle.swc_nodes.specs.declared.node.PatId.{PatId}
-use Rattle.swc_nodes.specs.declared.node.PatPropNode.{PatPropNode}
-use Rattle.swc_cover.specs.Moving.{Stays}
-use Rattle.swc_cover.specs.Roles.{becomes_in, new_form, as_held, as_nothing, shallow_as}
-use Rattle.swc_cover.specs.declared.role.Becomes.{Becomes}
-use Rattle.swc_cover.specs.declared.role.Becomes.TheVariants.{Instead}
+use Rattle.std.proofs.Common.{◌≡◌, ℕ, suc, ◌<◌, ◌≤◌, true, List, [], Option, Result, Ok, Err, IfOk, refl, sym, ap, subst, ◌∙◌, arith}
 use Rattle.std.proofs.lemmas.Bool.{le-leb}
-use Rattle.swc_cover.specs.declared.role.Role.{Role}
-use Rattle.swc_nodes.proofs.Chains.{both_true, fitting, chain-bound, floor-under, floor-above}
-use Rattle.swc_nodes.proofs.Held.{apart-from}
-use Rattle.swc_nodes.proofs.Standing.{before-same}
-use Rattle.swc_nodes.specs.NodeTree.{marked_tree}
-use Rattle.swc_nodes.specs.NumberedTrees.{floor, chain}
+use Rattle.swc_context.specs.declared.span.Span.{Span}
+use Rattle.swc_ast.specs.Tree.{Tree, invalid, span_of}
+use Rattle.swc_ast.specs.{Parts.leaf, declared.expr.Invalid.Invalid, declared.ident.BindingIdent.BindingIdent, declared.spanned.Spanned.Ghosts}
+use Rattle.std.specs.{declared.alloc.Global.Global, declared.vec.Vec.Vec}
 use Rattle.swc_nodes.specs.NodeParts.{Part, View, Form, expr, other_pat, slots, form, view_ok, expr_part, one_expr}
 use Rattle.swc_nodes.specs.GrowingNodes.{count, seat_at, seat_before, tree_at, first_at, Apart, From, Added, Stood}
-use Rattle.swc_nodes.specs.declared.node.ExprId.{ExprId}
-use Rattle.swc_nodes.specs.declared.node.Node.{Node}
+use Rattle.swc_nodes.specs.{declared.node.PatId.PatId, declared.node.PatPropNode.PatPropNode, NodeTree.marked_tree, NumberedTrees.floor, NumberedTrees.chain, declared.node.ExprId.ExprId, declared.node.Node.Node, declared.nodes.Nodes.Nodes}
+use Rattle.swc_cover.specs.Roles.{becomes_in, new_form, as_held, as_nothing, shallow_as}
+use Rattle.swc_cover.specs.{Moving.Stays, declared.role.Becomes.Becomes, declared.role.Becomes.TheVariants.Instead, declared.role.Role.Role}
+use Rattle.swc_nodes.proofs.Chains.{both_true, fitting, chain-bound, floor-under, floor-above}
+use Rattle.swc_nodes.proofs.{Held.apart-from, Standing.before-same}
 use Rattle.swc_nodes.specs.declared.node.Node.TheVariants as n
-use Rattle.swc_nodes.specs.declared.nodes.Nodes.{Nodes}
 
 -- ---- a node that is no pattern
 

@@ -1,21 +1,14 @@
 -- The names that parameters bind, as they are looked at one after another.
-use Rattle.std.proofs.Common.{◌≡◌, ℕ, Bool, true, false, not, ◌&&◌, ◌||◌, List, [], ◌∷◌, ◌++◌, Option, Some, None, refl}
-use Rattle.std.proofs.Common.{sym, ap, ◌∙◌}
+use Rattle.std.proofs.Common.{◌≡◌, ℕ, Bool, true, false, not, ◌&&◌, ◌||◌, List, [], ◌∷◌, ◌++◌, Option, Some, None, refl, sym, ap, ◌∙◌}
 use Rattle.std.specs.Prelude.{if◌then◌else◌}
-use Rattle.swc_context.specs.Reserved.{strict_binding_words}
-use Rattle.swc_context.specs.Texts.{is_one_of}
-use Rattle.swc_context.specs.declared.context.Context.{Context}
-use Rattle.swc_context.specs.declared.span.Span.{Span}
-use Rattle.swc_ast.specs.Tree.{array_with, object_with, hole, ident, rest, default, binding_prop, key_value, Tree, node}
-use Rattle.swc_ast.specs.Tree.{Trees, nil, cons}
+use Rattle.swc_context.specs.{Reserved.strict_binding_words, Texts.is_one_of, declared.context.Context.Context, declared.span.Span.Span}
+use Rattle.swc_ast.specs.Tree.{array_with, object_with, hole, ident, rest, default, binding_prop, key_value, Tree, node, Trees, nil, cons}
 use Rattle.swc_ast.specs.Trees.{is_ident}
 use Rattle.swc_grammar.specs.Cover.{binding, as_elements, heads_ok}
 use Rattle.swc_grammar.specs.Patterns.{binds_names, all_bind_names, prop_binds_names, props_bind_names, any}
 use Rattle.swc_grammar.proofs.Meets.{all-meet}
-use Rattle.swc_cover.specs.Fits.{Binding, elems_fit}
-use Rattle.swc_cover.specs.Heads.{reserved_spans, all_reserved, prop_reserved, props_reserved, has_none}
-use Rattle.swc_cover.specs.Heads.{names_ok}
-use Rattle.swc_cover.specs.Refining.{takes_heads, params_ok}
+use Rattle.swc_cover.specs.Heads.{reserved_spans, all_reserved, prop_reserved, props_reserved, has_none, names_ok}
+use Rattle.swc_cover.specs.{Fits.Binding, Fits.elems_fit, Refining.takes_heads, Refining.params_ok}
 
 both-left : (a b : Bool) → (a && b) ≡ true → a ≡ true
 both-left true b h = refl

@@ -1,24 +1,13 @@
 -- What checks record, by what was found.
-use Rattle.std.proofs.Common.{◌≡◌, ◌≢◌, ℕ, zero, suc, ◌+◌, ◌<◌, ◌≤◌, Bool, true, false, not, ◌&&◌, ◌||◌, List, [], ◌∷◌}
-use Rattle.std.proofs.Common.{◌++◌, take, length, Option, None, refl, sym, ap, subst, ◌∙◌, add-one, arith}
+use Rattle.std.proofs.Common.{◌≡◌, ◌≢◌, ℕ, zero, suc, ◌+◌, ◌<◌, ◌≤◌, Bool, true, false, not, ◌&&◌, ◌||◌, List, [], ◌∷◌, ◌++◌, take, length, Option, None, refl, sym, ap, subst, ◌∙◌, add-one, arith}
 use Rattle.std.specs.Prelude.{IsSome, Result, Ok, Err, OnOk, IfErr}
-use Rattle.swc_context.specs.declared.error.Error.{Error}
-use Rattle.swc_context.specs.declared.error.SyntaxError.TheVariants.{OutOfMemory}
-use Rattle.swc_context.specs.declared.span.BytePos.{BytePos}
-use Rattle.swc_context.specs.declared.span.Span.{Span}
-use Rattle.swc_input.specs.Buffer.{context}
-use Rattle.swc_input.specs.Recording.{no_memory}
-use Rattle.swc_input.specs.Source.{Model, Laws}
-use Rattle.swc_input.specs.declared.buffer.Buffer.{Buffer}
+use Rattle.swc_context.specs.{declared.error.Error.Error, declared.error.SyntaxError.TheVariants.OutOfMemory, declared.span.BytePos.BytePos, declared.span.Span.Span}
+use Rattle.swc_input.specs.{Buffer.context, Recording.no_memory, Source.Model, Source.Laws, declared.buffer.Buffer.Buffer}
 use Rattle.swc_cover.proofs.Quiet.{kept-clean}
 use Rattle.swc_cover.specs.Faults.{Verdict, clean, Recorded}
-use Rattle.swc_cover.specs.Heads.{has_none}
-use Rattle.swc_cover.specs.Refining.{ChecksWhole, Unfitting}
-use Rattle.swc_cover.specs.declared.faults.Fault.{Fault}
-use Rattle.swc_steps.proofs.Ahead.{is_some_none}
-use Rattle.swc_steps.proofs.Steps.{check_passes, checks_and, forgoes_here, forgoes_refuses, refuses_later}
-use Rattle.swc_steps.proofs.Steps.{more_recorded, loud_after}
-use Rattle.swc_steps.proofs.Steps.Consumed.{leads_then}
+use Rattle.swc_cover.specs.{Heads.has_none, Refining.ChecksWhole, Refining.Unfitting, declared.faults.Fault.Fault}
+use Rattle.swc_steps.proofs.Steps.{check_passes, checks_and, forgoes_here, forgoes_refuses, refuses_later, more_recorded, loud_after}
+use Rattle.swc_steps.proofs.{Ahead.is_some_none, Steps.Consumed.leads_then}
 use Rattle.swc_steps.specs.Parsing.{Checks, Forgoes, Leads, Loud, Refuses, recorded}
 
 -- ---- lists that are gone through

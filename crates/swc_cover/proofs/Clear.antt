@@ -1,25 +1,13 @@
 -- What a check records and refuses, exactly: whether it finds something wrong.
-use Rattle.std.proofs.Common.{◌≡◌, ◌≢◌, Bool, true, false, ◌&&◌, List, [], ◌∷◌, Option, Some, None, IsSome, refl, sym}
-use Rattle.std.proofs.Common.{ap, subst, ◌∙◌}
+use Rattle.std.proofs.Common.{◌≡◌, ◌≢◌, Bool, true, false, ◌&&◌, List, [], ◌∷◌, Option, Some, None, IsSome, refl, sym, ap, subst, ◌∙◌}
 use Rattle.std.specs.Prelude.{is_none}
 use Rattle.swc_context.specs.declared.span.Span.{Span}
-use Rattle.swc_input.specs.Buffer.{context}
-use Rattle.swc_input.specs.declared.token.TokenAndSpan.{TokenAndSpan}
-use Rattle.swc_input.specs.Kinds.{at_token}
-use Rattle.swc_input.specs.Source.{Model}
-use Rattle.swc_input.specs.declared.buffer.Buffer.{Buffer}
-use Rattle.swc_ast.specs.Tree.{Tree, Trees}
-use Rattle.swc_ast.specs.Trees.{is_valid, are_valid}
+use Rattle.swc_input.specs.{Buffer.context, declared.token.TokenAndSpan.TokenAndSpan, Kinds.at_token, Source.Model, declared.buffer.Buffer.Buffer}
+use Rattle.swc_ast.specs.{Tree.Tree, Tree.Trees, Trees.is_valid, Trees.are_valid}
 use Rattle.swc_grammar.specs.Clean.{no_error}
-use Rattle.swc_cover.proofs.Quiet.{params-quiet, quiet-params}
-use Rattle.swc_cover.proofs.Typed.{quiet-as, fits-quietly}
-use Rattle.swc_cover.specs.Clear.{is_clear}
+use Rattle.swc_cover.proofs.{Quiet.params-quiet, Quiet.quiet-params, Typed.quiet-as, Typed.fits-quietly}
 use Rattle.swc_cover.specs.Faults.{Verdict, Recorded, clean, params_verdict}
-use Rattle.swc_cover.specs.Fits.{Binding, elems_fit}
-use Rattle.swc_cover.specs.Heads.{has_none, names_ok}
-use Rattle.swc_cover.specs.PatTypes.{fits_as, verdict_as}
-use Rattle.swc_cover.specs.declared.faults.Fault.{Fault}
-use Rattle.swc_cover.specs.declared.pat_type.PatType.{PatType}
+use Rattle.swc_cover.specs.{Clear.is_clear, Fits.Binding, Fits.elems_fit, Heads.has_none, Heads.names_ok, PatTypes.fits_as, PatTypes.verdict_as, declared.faults.Fault.Fault, declared.pat_type.PatType.PatType}
 use Rattle.swc_steps.specs.Parsing.{Checks, seen_of}
 use Rattle.swc_steps.proofs.Steps.{checks_and}
 

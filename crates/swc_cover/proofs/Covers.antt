@@ -1,15 +1,11 @@
 -- What is kept, and what of a pattern that binds stays as it is.
 use Rattle.std.proofs.Common.{◌≡◌, Bool, true, false, ◌&&◌, None, refl, ap, ◌∙◌}
 use Rattle.swc_context.specs.declared.span.Span.{Span}
-use Rattle.swc_ast.specs.Tree.{Kind, hole, ident, array_with, object_with}
-use Rattle.swc_ast.specs.Tree.{key_value, binding_prop, rest, default}
-use Rattle.swc_ast.specs.Tree.{Tree, node, Trees, nil, cons, span_of}
+use Rattle.swc_ast.specs.Tree.{Kind, hole, ident, array_with, object_with, key_value, binding_prop, rest, default, Tree, node, Trees, nil, cons, span_of}
+use Rattle.swc_ast.specs.Trees.{is_ident}
 use Rattle.swc_grammar.specs.Cover.{is_hole}
 use Rattle.swc_cover.specs.Fits.{binds, all_bind, prop_binds, props_bind}
-use Rattle.swc_ast.specs.Trees.{is_ident}
-use Rattle.swc_cover.specs.Wanted.{Role, Keep, Rebind, Becomes, Same, Held, Ident, Array, Object, Objects}
-use Rattle.swc_cover.specs.Wanted.{Default, Nothing, all_holes, rest_ok, rest_of, put_prop}
-use Rattle.swc_cover.specs.Wanted.{pat_props, shallow_as, want, want_parts, part_as, Inside, Holder}
+use Rattle.swc_cover.specs.Wanted.{Role, Keep, Rebind, Becomes, Same, Held, Ident, Array, Object, Objects, Default, Nothing, all_holes, rest_ok, rest_of, put_prop, pat_props, shallow_as, want, want_parts, part_as, Inside, Holder}
 
 -- ---- tests, and what is answered by them
 

@@ -1,42 +1,22 @@
 -- What a node's parts become gives what its tree becomes.
-use Rattle.std.proofs.Common.{◌≡◌, ℕ, inl, inr, Bool, true, false, List, [], ◌∷◌, ◌++◌, map, Option, Some, None, refl}
-use Rattle.std.proofs.Common.{sym, ap, subst, ◌∙◌}
-use Rattle.swc_context.specs.declared.operator.AssignOp.TheVariants as op
-use Rattle.swc_context.specs.declared.span.Span.{Span}
+use Rattle.std.proofs.Common.{◌≡◌, ℕ, inl, inr, Bool, true, false, List, [], ◌∷◌, ◌++◌, map, Option, Some, None, refl, sym, ap, subst, ◌∙◌}
+use Rattle.swc_context.specs.{declared.operator.AssignOp.AssignOp as op, declared.span.Span.Span}
 use Rattle.swc_ast.specs.Parts.{leaf, no_tree, or_hole, item_of, item_tree, prop_name_tree}
-use Rattle.swc_ast.specs.Tree.{Kind, hole, ident, invalid, Tree, node, Trees, nil, cons, trees, array, array_with}
-use Rattle.swc_ast.specs.Tree.{object, object_with, key_value, binding_prop, assign, default, rest, dots}
-use Rattle.swc_ast.specs.declared.expr.ExprOrSpread.{ExprOrSpread}
-use Rattle.swc_ast.specs.declared.prop.PropName.{PropName}
+use Rattle.swc_ast.specs.Tree.{Kind, hole, ident, invalid, Tree, node, Trees, nil, cons, trees, array, array_with, object, object_with, key_value, binding_prop, assign, default, rest, dots}
+use Rattle.swc_ast.specs.{declared.expr.ExprOrSpread.ExprOrSpread, declared.prop.PropName.PropName}
 use Rattle.swc_grammar.specs.Cover.{is_pattern}
 use Rattle.swc_cover.specs.Wanted as wanted
 use Rattle.swc_cover.specs.Wanted.{left_as, want, want_parts, put_prop, pat_elems, pat_props}
+use Rattle.swc_cover.specs.Roles.{Due, kind_of, becomes_as, becomes_in, bound_as, assigned_as, rebound_as, rest_as, again_as, child_role, dues, dues_in, kept, prop_places, pat_prop_places, places, ready, shallow_as, sought}
+use Rattle.swc_cover.specs.declared.role.Becomes.TheVariants.{Same as AsIs, PatObject, Held, Ident, Array, Object, Default, Nothing, Instead}
+use Rattle.swc_cover.specs.declared.role.Role.TheVariants.{Keep, Bind, Assign, Rebind, BindRest, RebindRest}
+use Rattle.swc_cover.specs.{Moving.In, declared.role.Becomes.Becomes, declared.role.Role.Role}
 use Rattle.swc_cover.proofs.Covers.{keep-is, keeps-by}
 use Rattle.swc_cover.proofs.Along.{Same, node-along, key-along}
 use Rattle.swc_cover.proofs.Places.{kept-long, prop-long, pat-prop-long, dues-both}
-use Rattle.swc_cover.specs.Moving.{In}
-use Rattle.swc_cover.specs.Roles.{Due, kind_of, becomes_as, becomes_in, bound_as, assigned_as, rebound_as, rest_as}
-use Rattle.swc_cover.specs.Roles.{again_as, child_role, dues, dues_in, kept, prop_places, pat_prop_places, places}
-use Rattle.swc_cover.specs.Roles.{ready, shallow_as, sought}
-use Rattle.swc_cover.specs.declared.role.Becomes.TheVariants.{Same as AsIs, PatObject, Held, Ident, Array, Object}
-use Rattle.swc_cover.specs.declared.role.Becomes.TheVariants.{Default, Nothing, Instead}
-use Rattle.swc_cover.specs.declared.role.Becomes.{Becomes}
-use Rattle.swc_cover.specs.declared.role.Role.{Role}
-use Rattle.swc_cover.specs.declared.role.Role.TheVariants.{Keep, Bind, Assign, Rebind, BindRest, RebindRest}
 use Rattle.swc_nodes.specs.NodeTree.{target_of, prop_of, pat_prop_of, marked_tree}
-use Rattle.swc_nodes.specs.NodeParts.{Part, View, expr, pat, simple, pattern, flat, if_some, one_pat, item_parts}
-use Rattle.swc_nodes.specs.NodeParts.{key_parts, prop_parts, pat_prop_parts, target_part, expr_part, slots, form}
-use Rattle.swc_nodes.specs.NodeParts.{view_ok}
-use Rattle.swc_nodes.specs.declared.node.ExprId.{ExprId}
-use Rattle.swc_nodes.specs.declared.node.PatId.{PatId}
-use Rattle.swc_nodes.specs.declared.node.Node.{Node}
-use Rattle.swc_nodes.specs.declared.node.Node.TheVariants as n
-use Rattle.swc_nodes.specs.declared.node.PatPropNode.{PatPropNode}
-use Rattle.swc_nodes.specs.declared.node.PatPropNode.TheVariants as pat_prop
-use Rattle.swc_nodes.specs.declared.node.PropNode.{PropNode}
-use Rattle.swc_nodes.specs.declared.node.PropNode.TheVariants as prop
-use Rattle.swc_nodes.specs.declared.node.TargetNode.{TargetNode}
-use Rattle.swc_nodes.specs.declared.node.TargetNode.TheVariants as target
+use Rattle.swc_nodes.specs.NodeParts.{Part, View, expr, pat, simple, pattern, flat, if_some, one_pat, item_parts, key_parts, prop_parts, pat_prop_parts, target_part, expr_part, slots, form, view_ok}
+use Rattle.swc_nodes.specs.{declared.node.ExprId.ExprId, declared.node.PatId.PatId, declared.node.Node.Node, declared.node.Node.Node as n, declared.node.PatPropNode.PatPropNode, declared.node.PatPropNode.PatPropNode as pat_prop, declared.node.PropNode.PropNode, declared.node.PropNode.PropNode as prop, declared.node.TargetNode.TargetNode, declared.node.TargetNode.TargetNode as target}
 
 -- whether a tree is a pattern, by what its part is
 abbrev pub Shaped : {F C K : Type 0} → View → Tree F C K → Type 0

@@ -1,37 +1,22 @@
 -- The elements of an array, from the last on, and those of the array pattern that it becomes.
-use Rattle.std.proofs.Common.{◌≡◌, ℕ, suc, ◌+◌, ◌<◌, ◌≤◌, Bool, true, false, not, ◌&&◌, List, [], ◌∷◌, ◌++◌, map}
-use Rattle.std.proofs.Common.{reverse, length, take, drop, Option, Some, None, refl, sym, ap, subst, ◌∙◌, arith}
-use Rattle.std.proofs.Common.{append_assoc}
-use Rattle.std.specs.Prelude.{if◌then◌else◌}
+use Rattle.std.proofs.Common.{◌≡◌, ℕ, suc, ◌+◌, ◌<◌, ◌≤◌, Bool, true, false, not, ◌&&◌, List, [], ◌∷◌, ◌++◌, map, reverse, length, take, drop, Option, Some, None, refl, sym, ap, subst, ◌∙◌, arith, append_assoc, ◌-◌, ◌≢◌, get_or, eqb, length-drop}
 use Rattle.std.proofs.lemmas.List.{reverse-append, map-append, take-append-drop, drop_more, drop_all}
 use Rattle.std.proofs.lemmas.Bool.{eqb-true, eqb-false}
-use Rattle.std.proofs.Common.{◌-◌, ◌≢◌, get_or, eqb, length-drop}
-use Rattle.std.specs.declared.alloc.Global.{Global}
-use Rattle.std.specs.declared.vec.Vec.{Vec}
+use Rattle.std.specs.{Prelude.if◌then◌else◌, declared.alloc.Global.Global, declared.vec.Vec.Vec}
 use Rattle.swc_context.specs.declared.span.Span.{Span}
 use Rattle.swc_ast.specs.Parts.{no_tree, or_hole, item_tree}
 use Rattle.swc_ast.specs.Tree.{Tree, node, Trees, nil, cons, trees, hole, array, span_of}
-use Rattle.swc_ast.specs.declared.expr.ExprOrSpread.{ExprOrSpread}
-use Rattle.swc_ast.specs.declared.spanned.Spanned.{Ghosts}
+use Rattle.swc_ast.specs.{declared.expr.ExprOrSpread.ExprOrSpread, declared.spanned.Spanned.Ghosts}
 use Rattle.swc_grammar.specs.Cover.{is_hole}
 use Rattle.swc_cover.proofs.Appended.{added-stays}
-use Rattle.swc_cover.specs.Moving.{Stays}
 use Rattle.swc_cover.specs.Nodes.{as_pat, as_pats, IsPat, AddsRest, Adds, AddsItem, IsArray}
 use Rattle.swc_cover.specs.Wanted.{all_holes, put_elem, pat_elems}
-use Rattle.swc_cover.specs.Roles.{as_array}
+use Rattle.swc_cover.specs.{Moving.Stays, Roles.as_array}
 use Rattle.swc_nodes.proofs.Chains.{both_true, fitting, chain-cons, chain-one, chain-bound, chain-down, chain-second}
-use Rattle.swc_nodes.proofs.Held.{from-later}
-use Rattle.swc_nodes.proofs.Standing.{grows-then, seat-later}
-use Rattle.swc_nodes.specs.Lists.{elem_parts}
-use Rattle.swc_nodes.specs.NodeTree.{marked_tree}
-use Rattle.swc_nodes.specs.NumberedTrees.{chain}
+use Rattle.swc_nodes.proofs.{Held.from-later, Standing.grows-then, Standing.seat-later}
 use Rattle.swc_nodes.specs.NodeParts.{Part, pat, flat, if_some, one_pat, item_parts, view_ok, slots, target_pat}
 use Rattle.swc_nodes.specs.GrowingNodes.{count, seat_at, tree_at, Apart, Grows, Added}
-use Rattle.swc_nodes.specs.declared.node.ExprId.{ExprId}
-use Rattle.swc_nodes.specs.declared.node.PatId.{PatId}
-use Rattle.swc_nodes.specs.declared.node.Node.{Node}
-use Rattle.swc_nodes.specs.declared.node.Node.TheVariants as n
-use Rattle.swc_nodes.specs.declared.nodes.Nodes.{Nodes}
+use Rattle.swc_nodes.specs.{Lists.elem_parts, NodeTree.marked_tree, NumberedTrees.chain, declared.node.ExprId.ExprId, declared.node.PatId.PatId, declared.node.Node.Node, declared.node.Node.Node as n, declared.nodes.Nodes.Nodes}
 
 first-none : {F C K : Type 0} (t : Tree F C K) (ts ps : Trees F C K) → (is_hole t && all_holes ts) ≡ true →
     put_elem t ts ps ≡ nil

@@ -1,24 +1,14 @@
 -- Which faults a check records, one after another, and what it refuses then.
-use Rattle.std.proofs.Common.{◌≡◌, ℕ, ◌+◌, ◌<◌, ◌≤◌, Bool, true, false, not, List, [], ◌∷◌, ◌++◌, length, take, map, get_or}
-use Rattle.std.proofs.Common.{None, Option, Result, Ok, Err, refl, sym, ap, subst, ◌∙◌}
+use Rattle.std.proofs.Common.{◌≡◌, ℕ, ◌+◌, ◌<◌, ◌≤◌, Bool, true, false, not, List, [], ◌∷◌, ◌++◌, length, take, map, get_or, None, Option, Result, Ok, Err, refl, sym, ap, subst, ◌∙◌}
 use Rattle.std.proofs.lemmas.List.{map-append, take_all, take_more}
 use Rattle.std.specs.Prelude.{if◌then◌else◌, OnOk}
-use Rattle.swc_context.specs.Spans.{in_order}
-use Rattle.swc_context.specs.declared.context.Context.{Context}
-use Rattle.swc_context.specs.declared.error.Error.{Error}
-use Rattle.swc_context.specs.declared.error.SyntaxError.{SyntaxError}
-use Rattle.swc_context.specs.declared.span.Span.{Span}
+use Rattle.swc_context.specs.{Spans.in_order, declared.context.Context.Context, declared.error.Error.Error, declared.error.SyntaxError.SyntaxError, declared.span.Span.Span}
 use Rattle.swc_input.specs.Buffer.{context, source, state_of, with_source}
-use Rattle.swc_input.specs.Recording.{Refused}
-use Rattle.swc_input.specs.Recordings.{NotesAll}
 use Rattle.swc_input.specs.Source.{Model, Source, with_module_error}
-use Rattle.swc_input.specs.declared.buffer.Buffer.{Buffer}
+use Rattle.swc_input.specs.{Recording.Refused, Recordings.NotesAll, declared.buffer.Buffer.Buffer}
 use Rattle.swc_ast.specs.Tree.{Trees}
-use Rattle.swc_cover.specs.Faults.{Recorded as Found, Verdict}
-use Rattle.swc_cover.specs.Heads.{all_reserved}
-use Rattle.swc_cover.specs.Noting.{errors_of, kind_is, name_error, names_bound, with_module_errors, JudgesBy}
-use Rattle.swc_cover.specs.Noting.{refusal_of, NotesParams, NotesStrict}
-use Rattle.swc_cover.specs.declared.faults.Fault.{Fault}
+use Rattle.swc_cover.specs.Noting.{errors_of, kind_is, name_error, names_bound, with_module_errors, JudgesBy, refusal_of, NotesParams, NotesStrict}
+use Rattle.swc_cover.specs.{Faults.Recorded as Found, Faults.Verdict, Heads.all_reserved, declared.faults.Fault.Fault}
 
 -- ---- the faults up to a place in a list
 

@@ -1,12 +1,9 @@
 -- Numbers are set one after another.
-use Rattle.std.proofs.Common.{◌≡◌, ℕ, ◌+◌, ◌-◌, ◌<◌, ◌≤◌, Bool, true, false, List, [], ◌∷◌, ◌++◌, length, get_or, refl}
-use Rattle.std.proofs.Common.{sym, ap, ◌∙◌, arith, length-append}
+use Rattle.std.proofs.Common.{◌≡◌, ℕ, ◌+◌, ◌-◌, ◌<◌, ◌≤◌, Bool, true, false, List, [], ◌∷◌, ◌++◌, length, get_or, refl, sym, ap, ◌∙◌, arith, length-append}
+use Rattle.std.proofs.{lemmas.Bool.ltb-false, lemmas.Bool.le-ltb, lemmas.List.get_or_append_left, lemmas.List.get_or_at}
 use Rattle.std.specs.Prelude.{nat_lt, if◌then◌else◌}
-use Rattle.std.proofs.lemmas.Bool.{ltb-false, le-ltb}
-use Rattle.std.proofs.lemmas.List.{get_or_append_left, get_or_at}
 use Rattle.swc_cover.specs.Moving.{SetsTo, top}
-use Rattle.swc_nodes.specs.Renumbering.{given}
-use Rattle.swc_nodes.specs.declared.renumbering.Numbers.{Numbers}
+use Rattle.swc_nodes.specs.{Renumbering.given, declared.renumbering.Numbers.Numbers}
 
 -- numbers that were filled up, up to a place
 pub record Filling (was now : Numbers) (n : ℕ) : Type 0 where

@@ -1,42 +1,18 @@
 -- The parts of nodes that become patterns, and the trees of these.
-use Rattle.std.proofs.Common.{◌≡◌, ℕ, suc, ◌+◌, ◌<◌, ◌≤◌, ◌≢◌, inl, inr, Bool, true, false, List, [], ◌∷◌, ◌++◌, map}
-use Rattle.std.proofs.Common.{drop, take, get_or, length, Option, Some, refl, sym, ap, subst, ◌∙◌, arith, length-drop}
-use Rattle.std.specs.Prelude.{eqb, slice_index_or}
-use Rattle.std.proofs.lemmas.Bool.{eqb-true, eqb-false}
-use Rattle.std.proofs.lemmas.List.{drop_all, get_or_default}
-use Rattle.std.specs.declared.alloc.Global.{Global}
-use Rattle.std.specs.declared.vec.Vec.{Vec}
-use Rattle.swc_context.specs.declared.operator.AssignOp.{AssignOp}
-use Rattle.swc_context.specs.declared.span.Span.{Span}
-use Rattle.swc_ast.specs.Parts.{or_hole, item_tree}
+use Rattle.std.proofs.Common.{◌≡◌, ℕ, suc, ◌+◌, ◌<◌, ◌≤◌, ◌≢◌, inl, inr, Bool, true, false, List, [], ◌∷◌, ◌++◌, map, drop, take, get_or, length, Option, Some, refl, sym, ap, subst, ◌∙◌, arith, length-drop}
+use Rattle.std.proofs.{lemmas.Bool.eqb-true, lemmas.Bool.eqb-false, lemmas.List.drop_all, lemmas.List.get_or_default}
+use Rattle.std.specs.{Prelude.eqb, Prelude.slice_index_or, declared.alloc.Global.Global, declared.vec.Vec.Vec}
+use Rattle.swc_context.specs.{declared.operator.AssignOp.AssignOp, declared.span.Span.Span}
 use Rattle.swc_ast.specs.Tree.{Tree, Trees, trees}
-use Rattle.swc_ast.specs.declared.expr.ExprOrSpread.{ExprOrSpread}
-use Rattle.swc_ast.specs.declared.spanned.Spanned.{Ghosts}
-use Rattle.swc_cover.specs.Fits.{is_nil}
-use Rattle.swc_cover.proofs.Along.{node-along}
-use Rattle.swc_cover.proofs.Among.{in-left, in-right}
-use Rattle.swc_cover.proofs.Dressed.{Shaped, shaped}
-use Rattle.swc_cover.proofs.Elements.{flat-both, front-and}
-use Rattle.swc_cover.proofs.Lifting.{trees-same}
-use Rattle.swc_cover.specs.Moving.{In}
+use Rattle.swc_ast.specs.{Parts.or_hole, Parts.item_tree, declared.expr.ExprOrSpread.ExprOrSpread, declared.spanned.Spanned.Ghosts}
+use Rattle.swc_cover.specs.{Fits.is_nil, Moving.In}
+use Rattle.swc_cover.proofs.{Along.node-along, Among.in-left, Among.in-right, Dressed.Shaped, Dressed.shaped, Elements.flat-both, Elements.front-and, Lifting.trees-same}
 use Rattle.swc_nodes.proofs.Chains.{both_true, Fitting, fitting, chain-bound}
-use Rattle.swc_nodes.proofs.Held.{stood-parts}
-use Rattle.swc_nodes.proofs.Standing.{before-same, get_stood}
+use Rattle.swc_nodes.proofs.{Held.stood-parts, Standing.before-same, Standing.get_stood}
 use Rattle.swc_nodes.specs.NodeTree.{marked_tree, prop_of, pat_prop_of}
-use Rattle.swc_nodes.specs.NumberedTrees.{Seat, chain}
-use Rattle.swc_nodes.specs.NodeParts.{Part, Form, target_expr, other_expr, target_pat, other_pat, expr, pat, simple}
-use Rattle.swc_nodes.specs.NodeParts.{pattern, view_ok, form, target_part, expr_part, pat_part, flat, if_some, one_pat}
-use Rattle.swc_nodes.specs.NodeParts.{item_parts, prop_parts, pat_prop_parts, slots}
+use Rattle.swc_nodes.specs.NodeParts.{Part, Form, target_expr, other_expr, target_pat, other_pat, expr, pat, simple, pattern, view_ok, form, target_part, expr_part, pat_part, flat, if_some, one_pat, item_parts, prop_parts, pat_prop_parts, slots}
 use Rattle.swc_nodes.specs.GrowingNodes.{count, seat_at, seat_before, tree_at, From, Stood}
-use Rattle.swc_nodes.specs.declared.node.Node.{Node}
-use Rattle.swc_nodes.specs.declared.node.Node.TheVariants as n
-use Rattle.swc_nodes.specs.declared.node.ExprId.{ExprId}
-use Rattle.swc_nodes.specs.declared.node.PatId.{PatId}
-use Rattle.swc_nodes.specs.declared.node.PatPropNode.{PatPropNode}
-use Rattle.swc_nodes.specs.declared.node.PropNode.{PropNode}
-use Rattle.swc_nodes.specs.declared.nodes.Nodes.{Nodes}
-use Rattle.swc_nodes.specs.declared.node.TargetNode.{TargetNode}
-use Rattle.swc_nodes.specs.declared.node.TargetNode.TheVariants as target
+use Rattle.swc_nodes.specs.{NumberedTrees.Seat, NumberedTrees.chain, declared.node.Node.Node, declared.node.Node.Node as n, declared.node.ExprId.ExprId, declared.node.PatId.PatId, declared.node.PatPropNode.PatPropNode, declared.node.PropNode.PropNode, declared.nodes.Nodes.Nodes, declared.node.TargetNode.TargetNode, declared.node.TargetNode.TargetNode as target}
 
 pub simple-expr : (f : Form) → view_ok simple f ≡ true → view_ok expr f ≡ true
 simple-expr target_expr h = refl

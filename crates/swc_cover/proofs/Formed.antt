@@ -1,37 +1,20 @@
 -- The trees of nodes have the parts that their kinds ask, as far as refinement looks at them.
-use Rattle.std.proofs.Common.{◌≡◌, ℕ, suc, zero, ◌<◌, true, false, List, [], ◌∷◌, ◌++◌, map, inl}
-use Rattle.std.proofs.Common.{Option, Some, None, refl, sym, ap, subst, ◌∙◌, arith}
+use Rattle.std.proofs.Common.{◌≡◌, ℕ, suc, zero, ◌<◌, true, false, List, [], ◌∷◌, ◌++◌, map, inl, Option, Some, None, refl, sym, ap, subst, ◌∙◌, arith}
+use Rattle.std.proofs.lemmas.List.{get_or_default}
 use Rattle.std.specs.Prelude.{slice_index_or}
 use Rattle.swc_context.specs.declared.span.Span.{Span}
 use Rattle.swc_ast.specs.Parts.{or_hole, item_tree, item_of}
-use Rattle.swc_ast.specs.Tree.{hole, item, spread, array_with, object_with, assign, shorthand, key_value}
-use Rattle.swc_ast.specs.Tree.{cover, binding_prop, rest, default, Tree, node, Trees, nil, cons, no_span, trees}
-use Rattle.swc_ast.specs.Trees.{is_ident}
-use Rattle.swc_ast.specs.declared.expr.ExprOrSpread.{ExprOrSpread}
-use Rattle.swc_ast.specs.declared.spanned.Spanned.{Ghosts}
+use Rattle.swc_ast.specs.Tree.{hole, item, spread, array_with, object_with, assign, shorthand, key_value, cover, binding_prop, rest, default, Tree, node, Trees, nil, cons, no_span, trees}
+use Rattle.swc_ast.specs.{Trees.is_ident, declared.expr.ExprOrSpread.ExprOrSpread, declared.spanned.Spanned.Ghosts}
 use Rattle.swc_grammar.specs.Cover.{is_pattern}
 use Rattle.swc_cover.specs.Moving.{In}
-use Rattle.swc_cover.proofs.Among.{in-left, in-right}
-use Rattle.swc_cover.proofs.Dressed.{Shaped, shaped}
 use Rattle.swc_cover.proofs.Fitting.{chain-in, stood-tree, simple-expr, pattern-pat}
-use Rattle.swc_nodes.proofs.Held.{stood-parts}
-use Rattle.swc_nodes.proofs.Standing.{get_stood}
-use Rattle.std.proofs.lemmas.List.{get_or_default}
+use Rattle.swc_cover.proofs.{Among.in-left, Among.in-right, Dressed.Shaped, Dressed.shaped}
+use Rattle.swc_nodes.proofs.{Held.stood-parts, Standing.get_stood}
 use Rattle.swc_nodes.specs.NodeTree.{marked_tree, prop_of, pat_prop_of}
-use Rattle.swc_nodes.specs.NodeParts.{Part, View, expr, pat, simple, pattern, view_ok, form, expr_part, pat_part}
-use Rattle.swc_nodes.specs.NodeParts.{target_part, flat, if_some, one_pat, item_parts, key_parts, prop_parts}
-use Rattle.swc_nodes.specs.NodeParts.{pat_prop_parts, slots}
+use Rattle.swc_nodes.specs.NodeParts.{Part, View, expr, pat, simple, pattern, view_ok, form, expr_part, pat_part, target_part, flat, if_some, one_pat, item_parts, key_parts, prop_parts, pat_prop_parts, slots}
 use Rattle.swc_nodes.specs.GrowingNodes.{count, seat_at, tree_at, From, Stood}
-use Rattle.swc_nodes.specs.declared.node.ExprId.{ExprId}
-use Rattle.swc_nodes.specs.declared.node.PatId.{PatId}
-use Rattle.swc_nodes.specs.declared.node.Node.{Node}
-use Rattle.swc_nodes.specs.declared.node.Node.TheVariants as n
-use Rattle.swc_nodes.specs.declared.node.PatPropNode.{PatPropNode}
-use Rattle.swc_nodes.specs.declared.node.PatPropNode.TheVariants as pat_prop
-use Rattle.swc_nodes.specs.declared.node.PropNode.{PropNode}
-use Rattle.swc_nodes.specs.declared.node.PropNode.TheVariants as prop
-use Rattle.swc_nodes.specs.declared.node.TargetNode.TheVariants as target
-use Rattle.swc_nodes.specs.declared.nodes.Nodes.{Nodes}
+use Rattle.swc_nodes.specs.{declared.node.ExprId.ExprId, declared.node.PatId.PatId, declared.node.Node.Node, declared.node.Node.Node as n, declared.node.PatPropNode.PatPropNode, declared.node.PatPropNode.PatPropNode as pat_prop, declared.node.PropNode.PropNode, declared.node.PropNode.PropNode as prop, declared.node.TargetNode.TargetNode as target, declared.nodes.Nodes.Nodes}
 
 module _ {F C K : Type 0} where
   -- of patterns

@@ -3,12 +3,9 @@ use Rattle.std.proofs.Common.{◌≡◌, ℕ, ◌≤◌, List, [], ◌++◌, tak
 use Rattle.std.proofs.lemmas.List.{take-append-drop, take-take, take_at, append-nil}
 use Rattle.swc_ast.specs.declared.spanned.Spanned.{Ghosts}
 use Rattle.swc_cover.specs.Moving.{KeptTo}
-use Rattle.swc_nodes.proofs.Standing.{grows-count, cut_kept}
-use Rattle.swc_nodes.proofs.Chains.{chain-down, floor-under}
-use Rattle.swc_nodes.specs.NumberedTrees.{floor}
-use Rattle.swc_nodes.specs.NodeParts.{Part}
+use Rattle.swc_nodes.proofs.{Standing.grows-count, Standing.cut_kept, Chains.chain-down, Chains.floor-under}
 use Rattle.swc_nodes.specs.GrowingNodes.{count, seat_at, first_at, Apart, From, Grows}
-use Rattle.swc_nodes.specs.declared.nodes.Nodes.{Nodes}
+use Rattle.swc_nodes.specs.{NumberedTrees.floor, NodeParts.Part, declared.nodes.Nodes.Nodes}
 
 module _ {F C K : Type 0} {fg : Ghosts F} {cg : Ghosts C} {kg : Ghosts K} where
   -- what was appended is refined, from no number below those that there were: as if nodes were appended alone

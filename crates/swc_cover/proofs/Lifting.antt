@@ -1,45 +1,25 @@
 -- Parts are taken from the end, the last first, and what each holds becomes due in its place.
-use Rattle.std.proofs.Common.{◌≡◌, ℕ, suc, ◌<◌, ◌≤◌, ◌⊎◌, inl, inr, true, List, [], ◌∷◌, ◌++◌, map, get_or, length}
-use Rattle.std.proofs.Common.{refl, sym, ap, subst, ◌∙◌, arith}
-use Rattle.std.proofs.lemmas.Bool.{le-leb}
-use Rattle.std.proofs.lemmas.List.{map-append}
-use Rattle.std.proofs.Common.{Option, Some, None}
-use Rattle.swc_context.specs.declared.operator.AssignOp.{AssignOp}
+use Rattle.std.proofs.Common.{◌≡◌, ℕ, suc, ◌<◌, ◌≤◌, ◌⊎◌, inl, inr, true, List, [], ◌∷◌, ◌++◌, map, get_or, length, refl, sym, ap, subst, ◌∙◌, arith, Option, Some, None}
+use Rattle.std.proofs.{lemmas.Bool.le-leb, lemmas.List.map-append}
+use Rattle.swc_context.specs.{declared.operator.AssignOp.AssignOp, declared.span.Span.Span}
 use Rattle.swc_context.specs.declared.operator.AssignOp.TheVariants as op
-use Rattle.swc_context.specs.declared.span.Span.{Span}
-use Rattle.swc_ast.specs.declared.expr.ExprOrSpread.{ExprOrSpread}
-use Rattle.swc_ast.specs.declared.spanned.Spanned.{Ghosts}
+use Rattle.swc_ast.specs.{declared.expr.ExprOrSpread.ExprOrSpread, declared.spanned.Spanned.Ghosts}
 use Rattle.swc_cover.proofs.Along.{Same, node-along}
 use Rattle.swc_cover.proofs.Among.{in-left, in-right, in-either, in-more, in-last, falls-more}
-use Rattle.swc_cover.specs.Moving.{KeptTo, In, Fall, Entry, Taken, IsLifted, dues_of}
 use Rattle.swc_cover.proofs.Places.{SameLong, kept-long, prop-long, pat-prop-long, dues-both, dues-parts}
-use Rattle.swc_cover.specs.Roles.{Due, due, dues, dues_in, by_op, becomes_in, child_role, kept, rest_role, prop_places}
-use Rattle.swc_cover.specs.Roles.{pat_prop_places, places, ready, suits, suit, part_of_due, refines}
-use Rattle.swc_cover.specs.declared.moving.Lifted.{Lifted}
-use Rattle.swc_cover.specs.declared.role.Becomes.{Becomes}
+use Rattle.swc_cover.specs.Moving.{KeptTo, In, Fall, Entry, Taken, IsLifted, dues_of}
+use Rattle.swc_cover.specs.Roles.{Due, due, dues, dues_in, by_op, becomes_in, child_role, kept, rest_role, prop_places, pat_prop_places, places, ready, suits, suit, part_of_due, refines}
 use Rattle.swc_cover.specs.declared.role.Becomes.TheVariants.{Same as AsIs, PatObject, Array, Object, Default}
-use Rattle.swc_cover.specs.declared.role.Duty.{Duty}
-use Rattle.swc_nodes.specs.Walking.{part_of}
-use Rattle.swc_cover.specs.declared.role.Role.{Role}
 use Rattle.swc_cover.specs.declared.role.Role.TheVariants.{Keep, Bind, Assign, Rebind, BindRest, RebindRest}
-use Rattle.swc_nodes.proofs.Chains.{both_true, true_both, fitting, fits-of, chain-bound, chain-down, chain-first}
-use Rattle.swc_nodes.proofs.Chains.{chain-second, chain-both, chain-same}
+use Rattle.swc_cover.specs.{declared.moving.Lifted.Lifted, declared.role.Becomes.Becomes, declared.role.Duty.Duty, declared.role.Role.Role}
+use Rattle.swc_nodes.specs.NumberedTrees.{Seat, fits, floor, chain, start_refused, end_refused}
+use Rattle.swc_nodes.specs.NodeParts.{Part, View, Form, expr, pat, simple, pattern, target_expr, other_expr, target_pat, other_pat, slots, form, view_ok, flat, if_some, one_pat, item_parts, key_parts, prop_parts, pat_prop_parts, target_part, expr_part}
+use Rattle.swc_nodes.specs.GrowingNodes.{count, seat_at, first_at, node_seat, Apart, From, Grows, Popped, Left}
+use Rattle.swc_nodes.specs.{Walking.part_of, NodeTree.marked_tree, declared.node.ExprId.ExprId, declared.node.Node.Node, declared.node.PatPropNode.PatPropNode, declared.node.PatPropNode.PatPropNode as pat_prop, declared.node.PropNode.PropNode, declared.node.PropNode.PropNode as prop, declared.nodes.Nodes.Nodes}
+use Rattle.swc_nodes.proofs.Chains.{both_true, true_both, fitting, fits-of, chain-bound, chain-down, chain-first, chain-second, chain-both, chain-same}
 use Rattle.swc_nodes.proofs.Held.{apart-from, from-apart}
 use Rattle.swc_nodes.proofs.Standing.{grows-none, grows-then, grows-count, seat-later}
-use Rattle.swc_nodes.specs.NumberedTrees.{Seat, fits, floor, chain, start_refused, end_refused}
-use Rattle.swc_nodes.specs.NodeParts.{Part, View, Form, expr, pat, simple, pattern, target_expr, other_expr, target_pat}
-use Rattle.swc_nodes.specs.NodeParts.{other_pat, slots, form, view_ok, flat, if_some, one_pat, item_parts, key_parts}
-use Rattle.swc_nodes.specs.NodeParts.{prop_parts, pat_prop_parts, target_part, expr_part}
-use Rattle.swc_nodes.specs.GrowingNodes.{count, seat_at, first_at, node_seat, Apart, From, Grows, Popped, Left}
-use Rattle.swc_nodes.specs.NodeTree.{marked_tree}
-use Rattle.swc_nodes.specs.declared.node.ExprId.{ExprId}
-use Rattle.swc_nodes.specs.declared.node.Node.{Node}
 use Rattle.swc_nodes.specs.declared.node.Node.TheVariants as n
-use Rattle.swc_nodes.specs.declared.node.PatPropNode.{PatPropNode}
-use Rattle.swc_nodes.specs.declared.node.PatPropNode.TheVariants as pat_prop
-use Rattle.swc_nodes.specs.declared.node.PropNode.{PropNode}
-use Rattle.swc_nodes.specs.declared.node.PropNode.TheVariants as prop
-use Rattle.swc_nodes.specs.declared.nodes.Nodes.{Nodes}
 
 pub popped-due : (ds es : List Duty) (d : Duty) → ds ≡ es ++ d ∷ [] → map due ds ≡ map due es ++ due d ∷ []
 popped-due ds es d e = ap (map due) e ∙ map-append due es (d ∷ [])

@@ -1,36 +1,25 @@
 -- Items that become parameters: each becomes a pattern, and a spread that is the last a rest.
-use Rattle.std.proofs.Common.{◌≡◌, ℕ, suc, ◌≤◌, true, List, [], ◌∷◌, ◌++◌, map, length, get_or, ◌+◌, ◌-◌, zero, Option}
-use Rattle.std.proofs.Common.{Some, None, refl, sym, ap, subst, ◌∙◌, arith}
-use Rattle.std.proofs.lemmas.Grind.{get_or_tail}
-use Rattle.std.proofs.lemmas.List.{append-nil, map-append}
+use Rattle.std.proofs.Common.{◌≡◌, ℕ, suc, ◌≤◌, true, List, [], ◌∷◌, ◌++◌, map, length, get_or, ◌+◌, ◌-◌, zero, Option, Some, None, refl, sym, ap, subst, ◌∙◌, arith}
+use Rattle.std.proofs.{lemmas.Grind.get_or_tail, lemmas.List.append-nil, lemmas.List.map-append}
 use Rattle.swc_context.specs.declared.span.Span.{Span}
 use Rattle.swc_ast.specs.Parts.{leaf, item_of, item_tree}
 use Rattle.swc_ast.specs.Tree.{Kind, Tree, node, Trees, nil, cons, trees, array, rest, dots, span_of}
-use Rattle.swc_ast.specs.declared.expr.ExprOrSpread.{ExprOrSpread}
-use Rattle.swc_ast.specs.declared.spanned.Spanned.{Ghosts}
+use Rattle.swc_ast.specs.{declared.expr.ExprOrSpread.ExprOrSpread, declared.spanned.Spanned.Ghosts}
 use Rattle.swc_cover.specs.Wanted as wanted
 use Rattle.swc_cover.specs.Wanted.{pat_elems, want, want_parts}
-use Rattle.swc_cover.proofs.Dressed.{SameDue, each-due, item-dressed}
-use Rattle.swc_cover.proofs.Elements.{flat-both}
-use Rattle.swc_cover.proofs.Appended.{added-stays}
 use Rattle.swc_cover.specs.Items.{item_due, listed, dotted, last_rest, want_items, AllMade}
 use Rattle.swc_cover.specs.Moving.{MovedOver, KeptTo, moved_due}
 use Rattle.swc_cover.specs.Roles.{Due, part_of_due, suit}
-use Rattle.swc_cover.specs.declared.items.Dotted.{Dotted}
-use Rattle.swc_cover.specs.declared.role.Role.TheVariants.{Bind}
-use Rattle.swc_nodes.proofs.Chains.{both_true, true_both, fitting, chain-one, chain-bound, chain-down, chain-first}
-use Rattle.swc_nodes.proofs.Chains.{chain-second, chain-both, chain-same}
+use Rattle.swc_cover.specs.{declared.items.Dotted.Dotted, declared.role.Role.TheVariants.Bind}
+use Rattle.swc_cover.proofs.Dressed.{SameDue, each-due, item-dressed}
+use Rattle.swc_cover.proofs.{Elements.flat-both, Appended.added-stays}
+use Rattle.swc_nodes.proofs.Chains.{both_true, true_both, fitting, chain-one, chain-bound, chain-down, chain-first, chain-second, chain-both, chain-same}
 use Rattle.swc_nodes.proofs.Standing.{seat-later}
-use Rattle.swc_nodes.specs.Renumbering.{given}
 use Rattle.swc_nodes.specs.NumberedTrees.{Seat, floor, chain}
 use Rattle.swc_nodes.specs.NodeParts.{Part, pat, flat, one_pat, item_parts, expr_part, pat_part, view_ok, slots}
 use Rattle.swc_nodes.specs.GrowingNodes.{count, seat_at, tree_at, first_at, Apart, From, Grows, Added}
-use Rattle.swc_nodes.specs.declared.renumbering.Numbers.{Numbers}
-use Rattle.swc_nodes.specs.declared.node.ExprId.{ExprId}
-use Rattle.swc_nodes.specs.declared.node.PatId.{PatId}
-use Rattle.swc_nodes.specs.declared.node.Node.{Node}
+use Rattle.swc_nodes.specs.{Renumbering.given, declared.renumbering.Numbers.Numbers, declared.node.ExprId.ExprId, declared.node.PatId.PatId, declared.node.Node.Node, declared.nodes.Nodes.Nodes}
 use Rattle.swc_nodes.specs.declared.node.Node.TheVariants as n
-use Rattle.swc_nodes.specs.declared.nodes.Nodes.{Nodes}
 
 -- ---- what is due of the items
 

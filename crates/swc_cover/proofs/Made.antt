@@ -1,33 +1,18 @@
 -- What the parts of a node became that becomes a pattern.
 use Rattle.std.proofs.Common.{◌≡◌, ℕ, suc, Bool, true, false, List, [], ◌∷◌, refl, sym, ap, subst, ◌∙◌}
-use Rattle.swc_context.specs.declared.operator.AssignOp.{AssignOp}
-use Rattle.swc_context.specs.declared.operator.AssignOp.TheVariants as op
-use Rattle.swc_context.specs.declared.span.Span.{Span}
+use Rattle.swc_context.specs.{declared.operator.AssignOp.AssignOp, declared.operator.AssignOp.AssignOp as op, declared.span.Span.Span}
 use Rattle.swc_ast.specs.Tree.{Kind, ident, hole, array_with, object_with, rest, default, invalid}
-use Rattle.swc_ast.specs.Parts.{no_tree}
-use Rattle.swc_ast.specs.declared.spanned.Spanned.{Ghosts}
+use Rattle.swc_ast.specs.{Parts.no_tree, declared.spanned.Spanned.Ghosts}
 use Rattle.swc_cover.proofs.Objects.{pat-props-parts}
 use Rattle.swc_cover.specs.Nodes.{is_array, is_assign, as_pat, as_pats, with_default}
-use Rattle.swc_cover.specs.Roles.{by_op, becomes_as, becomes_in, rest_as, again_as, kind_of, places, stays}
-use Rattle.swc_cover.specs.Roles.{left_role, child_role, ready, new_view, recast, recast_in}
-use Rattle.swc_cover.specs.declared.role.Becomes.{Becomes}
-use Rattle.swc_cover.specs.declared.role.Becomes.TheVariants.{Same, PatObject, Held, Ident, Array, Object, Default}
-use Rattle.swc_cover.specs.declared.role.Becomes.TheVariants.{Nothing, Instead}
-use Rattle.swc_cover.specs.declared.role.Role.{Role}
+use Rattle.swc_cover.specs.Roles.{by_op, becomes_as, becomes_in, rest_as, again_as, kind_of, places, stays, left_role, child_role, ready, new_view, recast, recast_in}
+use Rattle.swc_cover.specs.declared.role.Becomes.TheVariants.{Same, PatObject, Held, Ident, Array, Object, Default, Nothing, Instead}
 use Rattle.swc_cover.specs.declared.role.Role.TheVariants.{Keep, Bind, Assign, Rebind, BindRest, RebindRest}
+use Rattle.swc_cover.specs.{declared.role.Becomes.Becomes, declared.role.Role.Role}
 use Rattle.swc_nodes.proofs.Chains.{both_true, fitting, chain-cons}
-use Rattle.swc_nodes.specs.NodeTree.{marked_tree}
-use Rattle.swc_nodes.specs.NumberedTrees.{chain}
-use Rattle.swc_nodes.specs.NodeParts.{Part, View, Form, expr, pat, simple, pattern, target_expr, other_expr, target_pat}
-use Rattle.swc_nodes.specs.NodeParts.{other_pat, flat, if_some, item_parts, slots, form, view_ok, target_part}
-use Rattle.swc_nodes.specs.NodeParts.{expr_part}
+use Rattle.swc_nodes.specs.NodeParts.{Part, View, Form, expr, pat, simple, pattern, target_expr, other_expr, target_pat, other_pat, flat, if_some, item_parts, slots, form, view_ok, target_part, expr_part}
 use Rattle.swc_nodes.specs.GrowingNodes.{count, seat_at, Apart}
-use Rattle.swc_nodes.specs.declared.node.ExprId.{ExprId}
-use Rattle.swc_nodes.specs.declared.node.Node.{Node}
-use Rattle.swc_nodes.specs.declared.node.Node.TheVariants as n
-use Rattle.swc_nodes.specs.declared.node.TargetNode.{TargetNode}
-use Rattle.swc_nodes.specs.declared.node.TargetNode.TheVariants as target
-use Rattle.swc_nodes.specs.declared.nodes.Nodes.{Nodes}
+use Rattle.swc_nodes.specs.{NodeTree.marked_tree, NumberedTrees.chain, declared.node.ExprId.ExprId, declared.node.Node.Node, declared.node.Node.Node as n, declared.node.TargetNode.TargetNode, declared.node.TargetNode.TargetNode as target, declared.nodes.Nodes.Nodes}
 
 -- ---- parts that stay what they are
 

@@ -1,19 +1,13 @@
 -- Where names are that may not be bound in strict code, one after another.
-use Rattle.std.proofs.Common.{◌≡◌, ℕ, ◌+◌, ◌<◌, ◌≤◌, inl, List, ◌∷◌, ◌++◌, map, drop, get_or, length, Option}
-use Rattle.std.proofs.Common.{refl, sym, ap, ◌∙◌, append_assoc}
+use Rattle.std.proofs.Common.{◌≡◌, ℕ, ◌+◌, ◌<◌, ◌≤◌, inl, List, ◌∷◌, ◌++◌, map, drop, get_or, length, Option, refl, sym, ap, ◌∙◌, append_assoc}
 use Rattle.std.proofs.lemmas.List.{append-nil, drop_more, drop_all}
 use Rattle.swc_context.specs.declared.span.Span.{Span}
-use Rattle.swc_ast.specs.Tree.{Trees, trees}
-use Rattle.swc_ast.specs.declared.spanned.Spanned.{Ghosts}
+use Rattle.swc_ast.specs.{Tree.Trees, Tree.trees, declared.spanned.Spanned.Ghosts}
 use Rattle.swc_cover.proofs.Fitting.{chain-in, in-flat, pats_of, pat_props_of, tree-is}
 use Rattle.swc_cover.specs.Heads.{reserved_spans, all_reserved, props_reserved}
-use Rattle.swc_nodes.specs.NodeTree.{marked_tree}
 use Rattle.swc_nodes.specs.NodeParts.{pat_part, flat, one_pat}
 use Rattle.swc_nodes.specs.GrowingNodes.{count, seat_at, tree_at, Apart, From, Stood}
-use Rattle.swc_nodes.specs.declared.node.Node.{Node}
-use Rattle.swc_nodes.specs.declared.node.PatId.{PatId}
-use Rattle.swc_nodes.specs.declared.node.PatPropNode.{PatPropNode}
-use Rattle.swc_nodes.specs.declared.nodes.Nodes.{Nodes}
+use Rattle.swc_nodes.specs.{NodeTree.marked_tree, declared.node.Node.Node, declared.node.PatId.PatId, declared.node.PatPropNode.PatPropNode, declared.nodes.Nodes.Nodes}
 
 module _ {F C K : Type 0} {fg : Ghosts F} {cg : Ghosts C} {kg : Ghosts K} where
   abbrev pub heads_of : Nodes F C K fg cg kg → List PatId → Trees F C K

@@ -1,38 +1,23 @@
 -- The properties of an object, and those of the object pattern that it becomes.
-use Rattle.std.proofs.Common.{◌≡◌, ℕ, suc, true, List, [], ◌∷◌, ◌++◌, map, Option, None, refl, sym, ap}
-use Rattle.std.proofs.Common.{subst, ◌∙◌, arith, append_assoc}
+use Rattle.std.proofs.Common.{◌≡◌, ℕ, suc, true, List, [], ◌∷◌, ◌++◌, map, Option, None, refl, sym, ap, subst, ◌∙◌, arith, append_assoc}
 use Rattle.std.proofs.lemmas.List.{append-nil, map-append}
-use Rattle.std.specs.declared.alloc.Global.{Global}
-use Rattle.std.specs.declared.vec.Vec.{Vec}
+use Rattle.std.specs.{declared.alloc.Global.Global, declared.vec.Vec.Vec}
 use Rattle.swc_context.specs.declared.span.Span.{Span}
 use Rattle.swc_ast.specs.Tree.{Tree, node, trees, object}
 use Rattle.swc_ast.specs.declared.spanned.Spanned.{Ghosts}
 use Rattle.swc_cover.specs.Wanted as wanted
-use Rattle.swc_cover.specs.Wanted.{pat_props}
-use Rattle.swc_cover.proofs.Appended.{added-stays}
-use Rattle.swc_cover.proofs.Dressed.{tail-is}
-use Rattle.swc_cover.proofs.Elements.{flat-both}
-use Rattle.swc_cover.proofs.Places.{prop-long, pat-prop-long, dues-both}
-use Rattle.swc_cover.specs.Moving.{Stays}
 use Rattle.swc_cover.specs.Nodes.{as_pat_prop, as_pat_props, one_or_none}
-use Rattle.swc_cover.specs.Roles.{Due, dues, kept, rest_role, prop_places, pat_prop_places, becomes_in, recast_due}
-use Rattle.swc_cover.specs.Roles.{recast_in, as_object}
-use Rattle.swc_cover.specs.declared.role.Becomes.TheVariants.{Object, PatObject}
-use Rattle.swc_cover.specs.declared.role.Role.{Role}
+use Rattle.swc_cover.specs.Roles.{Due, dues, kept, rest_role, prop_places, pat_prop_places, becomes_in, recast_due, recast_in, as_object}
 use Rattle.swc_cover.specs.declared.role.Role.TheVariants.{Keep, Bind, Assign, Rebind, BindRest, RebindRest}
+use Rattle.swc_cover.specs.{Wanted.pat_props, Moving.Stays, declared.role.Becomes.TheVariants.Object, declared.role.Becomes.TheVariants.PatObject, declared.role.Role.Role}
+use Rattle.swc_cover.proofs.Places.{prop-long, pat-prop-long, dues-both}
+use Rattle.swc_cover.proofs.{Appended.added-stays, Dressed.tail-is, Elements.flat-both}
 use Rattle.swc_nodes.proofs.Chains.{both_true, true_both, fitting, chain-down}
 use Rattle.swc_nodes.specs.NodeTree.{marked_tree, prop_of, pat_prop_of}
-use Rattle.swc_nodes.specs.NumberedTrees.{Seat, chain}
 use Rattle.swc_nodes.specs.NodeParts.{Part, expr, pat, flat, prop_parts, pat_prop_parts, key_parts, target_pat}
 use Rattle.swc_nodes.specs.GrowingNodes.{count, seat_at, tree_at, Apart, Added}
-use Rattle.swc_nodes.specs.declared.node.ExprId.{ExprId}
-use Rattle.swc_nodes.specs.declared.node.Node.{Node}
+use Rattle.swc_nodes.specs.{NumberedTrees.Seat, NumberedTrees.chain, declared.node.ExprId.ExprId, declared.node.Node.Node, declared.node.PatPropNode.PatPropNode, declared.node.PatPropNode.PatPropNode as pat_prop, declared.node.PropNode.PropNode, declared.node.PropNode.PropNode as prop, declared.nodes.Nodes.Nodes}
 use Rattle.swc_nodes.specs.declared.node.Node.TheVariants as n
-use Rattle.swc_nodes.specs.declared.node.PatPropNode.{PatPropNode}
-use Rattle.swc_nodes.specs.declared.node.PatPropNode.TheVariants as pat_prop
-use Rattle.swc_nodes.specs.declared.node.PropNode.{PropNode}
-use Rattle.swc_nodes.specs.declared.node.PropNode.TheVariants as prop
-use Rattle.swc_nodes.specs.declared.nodes.Nodes.{Nodes}
 
 abbrev due_parts : List Due → List Part
 due_parts qs = map recast_due qs

@@ -1,38 +1,18 @@
 -- What each part of a node is to become: by its place, in an object.
-use Rattle.std.proofs.Common.{◌≡◌, ℕ, ◌+◌, ◌<◌, ◌≤◌, inl, inr, Bool, true, false, List, [], ◌∷◌, ◌++◌, map, get_or}
-use Rattle.std.proofs.Common.{drop, length, Some, None, refl, sym, ap, ◌∙◌, arith, append_assoc}
-use Rattle.std.specs.Prelude.{nat_lt}
+use Rattle.std.proofs.Common.{◌≡◌, ℕ, ◌+◌, ◌<◌, ◌≤◌, inl, inr, Bool, true, false, List, [], ◌∷◌, ◌++◌, map, get_or, drop, length, Some, None, refl, sym, ap, ◌∙◌, arith, append_assoc}
 use Rattle.std.proofs.lemmas.Bool.{ltb-true, ltb-false}
 use Rattle.std.proofs.lemmas.List.{map-append, drop_more, drop_all, get_or_past}
+use Rattle.std.specs.Prelude.{nat_lt}
 use Rattle.swc_context.specs.declared.span.Span.{Span}
 use Rattle.swc_ast.specs.Parts.{leaf, prop_name_tree, param_tree}
-use Rattle.swc_ast.specs.Tree.{hole, item, spread, computed, object_with, key_value, cover, method, getter, setter}
-use Rattle.swc_ast.specs.Tree.{binding_prop, rest, Tree, node, Trees, nil, cons, trees, no_span}
-use Rattle.swc_ast.specs.declared.function.Param.{Param}
-use Rattle.swc_ast.specs.declared.prop.PropName.{PropName}
-use Rattle.swc_ast.specs.declared.prop.PropName.TheVariants as prop_name
-use Rattle.swc_cover.specs.Moving.{In, moved_due}
-use Rattle.swc_cover.specs.Roles.{Due, due, due_of, dues, child_role, kept, rest_role, prop_places, pat_prop_places}
-use Rattle.swc_cover.specs.Roles.{places, part_of_due, recast_due}
-use Rattle.swc_cover.specs.declared.role.Becomes.{Becomes}
-use Rattle.swc_cover.specs.declared.role.Duty.{Duty}
-use Rattle.swc_cover.specs.declared.role.Role.{Role}
-use Rattle.swc_cover.specs.declared.role.Role.TheVariants.{Keep}
+use Rattle.swc_ast.specs.Tree.{hole, item, spread, computed, object_with, key_value, cover, method, getter, setter, binding_prop, rest, Tree, node, Trees, nil, cons, trees, no_span}
+use Rattle.swc_ast.specs.{declared.function.Param.Param, declared.prop.PropName.PropName, declared.prop.PropName.PropName as prop_name}
+use Rattle.swc_cover.specs.Roles.{Due, due, due_of, dues, child_role, kept, rest_role, prop_places, pat_prop_places, places, part_of_due, recast_due}
+use Rattle.swc_cover.specs.{Moving.In, Moving.moved_due, declared.role.Becomes.Becomes, declared.role.Duty.Duty, declared.role.Role.Role, declared.role.Role.TheVariants.Keep}
 use Rattle.swc_nodes.specs.NodeTree.{marked_tree, prop_of, pat_prop_of}
-use Rattle.swc_nodes.specs.Renumbering.{with_given, Renumbered}
 use Rattle.swc_nodes.specs.NodeParts.{Part, flat, one_pat, key_parts, param_parts, prop_parts, pat_prop_parts, slots}
-use Rattle.swc_nodes.specs.Walking.{part_of}
-use Rattle.swc_nodes.specs.declared.apart.PartId.{PartId}
+use Rattle.swc_nodes.specs.{Renumbering.with_given, Renumbering.Renumbered, Walking.part_of, declared.apart.PartId.PartId, declared.node.ExprId.ExprId, declared.node.PatId.PatId, declared.node.Node.Node, declared.node.Node.Node as n, declared.node.PatPropNode.PatPropNode, declared.node.PatPropNode.PatPropNode as pat_prop, declared.node.PropNode.PropNode, declared.node.PropNode.PropNode as prop, declared.renumbering.Numbers.Numbers}
 use Rattle.swc_nodes.specs.declared.apart.PartId.TheVariants as part
-use Rattle.swc_nodes.specs.declared.node.ExprId.{ExprId}
-use Rattle.swc_nodes.specs.declared.node.PatId.{PatId}
-use Rattle.swc_nodes.specs.declared.node.Node.{Node}
-use Rattle.swc_nodes.specs.declared.node.Node.TheVariants as n
-use Rattle.swc_nodes.specs.declared.node.PatPropNode.{PatPropNode}
-use Rattle.swc_nodes.specs.declared.node.PatPropNode.TheVariants as pat_prop
-use Rattle.swc_nodes.specs.declared.node.PropNode.{PropNode}
-use Rattle.swc_nodes.specs.declared.node.PropNode.TheVariants as prop
-use Rattle.swc_nodes.specs.declared.renumbering.Numbers.{Numbers}
 
 -- ---- as many roles as parts
 

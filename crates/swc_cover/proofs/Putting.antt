@@ -1,40 +1,25 @@
 -- What was taken is appended again, the first first: each number that was gets a new one, which stands for what its
 -- tree was to become.
-use Rattle.std.proofs.Common.{◌≡◌, ℕ, suc, ◌<◌, ◌≤◌, inl, inr, true, List, [], ◌∷◌, ◌++◌, map, length, refl, sym}
-use Rattle.std.proofs.Common.{ap, subst, ◌∙◌, arith, append_assoc}
-use Rattle.std.proofs.lemmas.Bool.{le-leb}
-use Rattle.std.proofs.lemmas.List.{append-nil}
-use Rattle.swc_context.specs.declared.operator.AssignOp.{AssignOp}
-use Rattle.swc_context.specs.declared.operator.AssignOp.TheVariants as op
-use Rattle.swc_context.specs.declared.span.Span.{Span}
-use Rattle.swc_ast.specs.Parts.{no_tree}
+use Rattle.std.proofs.Common.{◌≡◌, ℕ, suc, ◌<◌, ◌≤◌, inl, inr, true, List, [], ◌∷◌, ◌++◌, map, length, refl, sym, ap, subst, ◌∙◌, arith, append_assoc}
+use Rattle.std.proofs.{lemmas.Bool.le-leb, lemmas.List.append-nil}
+use Rattle.swc_context.specs.{declared.operator.AssignOp.AssignOp, declared.operator.AssignOp.AssignOp as op, declared.span.Span.Span}
 use Rattle.swc_ast.specs.Tree.{Kind, hole, ident, array_with, object_with, assign, rest, default, invalid, Tree}
-use Rattle.swc_ast.specs.declared.spanned.Spanned.{Ghosts}
+use Rattle.swc_ast.specs.{Parts.no_tree, declared.spanned.Spanned.Ghosts}
 use Rattle.swc_cover.proofs.Among.{in-right, in-either, in-map, falls-before, falls-behind}
 use Rattle.swc_cover.proofs.Dressed.{Shaped, dressed, each-due, shaped}
 use Rattle.swc_cover.proofs.Lifting.{chain-raise}
 use Rattle.swc_cover.proofs.Places.{dues-moved, dues-parts, due-of-part, places-moved}
 use Rattle.swc_cover.specs.Moving.{In, Fall, SetsTo, top, moved_due, MovedOver, Stays, Entry, IsLifted, dues_of}
-use Rattle.swc_cover.specs.Roles.{Due, becomes_as, becomes_in, kind_of, places, ready, refines, suits, due, new_view}
-use Rattle.swc_cover.specs.Roles.{new_form, recast, recast_in, shallow_as, sought, part_of_due, by_op, bound_as}
-use Rattle.swc_cover.specs.Roles.{assigned_as, rebound_as, rest_as, again_as}
-use Rattle.swc_cover.specs.declared.moving.Lifted.{Lifted}
-use Rattle.swc_cover.specs.declared.role.Becomes.{Becomes}
-use Rattle.swc_cover.specs.declared.role.Duty.{Duty}
-use Rattle.swc_cover.specs.declared.role.Role.{Role}
+use Rattle.swc_cover.specs.Roles.{Due, becomes_as, becomes_in, kind_of, places, ready, refines, suits, due, new_view, new_form, recast, recast_in, shallow_as, sought, part_of_due, by_op, bound_as, assigned_as, rebound_as, rest_as, again_as}
 use Rattle.swc_cover.specs.declared.role.Role.TheVariants.{Keep, Bind, Assign, Rebind, BindRest, RebindRest}
+use Rattle.swc_cover.specs.{declared.moving.Lifted.Lifted, declared.role.Becomes.Becomes, declared.role.Duty.Duty, declared.role.Role.Role}
 use Rattle.swc_nodes.proofs.Chains.{both_true, fitting, chain-cons, chain-bound, chain-down, floor-under}
 use Rattle.swc_nodes.proofs.Held.{from-apart}
-use Rattle.swc_nodes.specs.Walking.{part_of}
 use Rattle.swc_nodes.proofs.Standing.{grows-then, grows-count, grows-same, seat-later}
-use Rattle.swc_nodes.specs.NodeTree.{marked_tree}
-use Rattle.swc_nodes.specs.Renumbering.{given, Renumbered}
 use Rattle.swc_nodes.specs.NumberedTrees.{Seat, floor, chain}
 use Rattle.swc_nodes.specs.NodeParts.{Part, View, Form, expr, pat, slots, form, view_ok}
 use Rattle.swc_nodes.specs.GrowingNodes.{count, seat_at, tree_at, first_at, node_seat, Apart, Grows, Made}
-use Rattle.swc_nodes.specs.declared.renumbering.Numbers.{Numbers}
-use Rattle.swc_nodes.specs.declared.node.Node.{Node}
-use Rattle.swc_nodes.specs.declared.nodes.Nodes.{Nodes}
+use Rattle.swc_nodes.specs.{Walking.part_of, NodeTree.marked_tree, Renumbering.given, Renumbering.Renumbered, declared.renumbering.Numbers.Numbers, declared.node.Node.Node, declared.nodes.Nodes.Nodes}
 
 op-pat : (o : AssignOp) (f : Form) → view_ok pat (new_form (by_op o) f) ≡ true
 op-pat op.Assign f = refl

@@ -1,23 +1,14 @@
 -- Nothing is recorded of an expression where it is a pattern, and, where it holds no `Invalid`, there alone.
-use Rattle.std.proofs.Common.{◌≡◌, Bool, true, false, not, ◌&&◌, List, [], ◌∷◌, ◌++◌, Option, Some, None, refl, sym, ap}
-use Rattle.std.proofs.Common.{◌∙◌}
+use Rattle.std.proofs.Common.{◌≡◌, Bool, true, false, not, ◌&&◌, List, [], ◌∷◌, ◌++◌, Option, Some, None, refl, sym, ap, ◌∙◌}
 use Rattle.std.specs.Prelude.{if◌then◌else◌, is_none}
-use Rattle.swc_context.specs.declared.operator.AssignOp.TheVariants as op
-use Rattle.swc_context.specs.declared.span.Span.{Span}
+use Rattle.swc_context.specs.{declared.operator.AssignOp.AssignOp as op, declared.span.Span.Span}
 use Rattle.swc_ast.specs.Targets.{is_target}
-use Rattle.swc_ast.specs.Tree.{hole, item, spread, ident, array_with, object_with, assign, paren, member, super_prop}
-use Rattle.swc_ast.specs.Tree.{invalid, shorthand, key_value, cover, binding_prop, rest, default, Tree, node}
-use Rattle.swc_ast.specs.Tree.{Trees, nil, cons, span_of}
-use Rattle.swc_grammar.specs.Cover.{is_assign, is_pattern}
-use Rattle.swc_cover.specs.Fits.{Way, Binding, Target, fits, elems_fit, props_fit, left_fits, rest_held, binds}
-use Rattle.swc_cover.specs.Fits.{all_bind, prop_binds, props_bind}
+use Rattle.swc_ast.specs.Tree.{hole, item, spread, ident, array_with, object_with, assign, paren, member, super_prop, invalid, shorthand, key_value, cover, binding_prop, rest, default, Tree, node, Trees, nil, cons, span_of}
 use Rattle.swc_ast.specs.Trees.{is_ident, is_valid, are_valid}
-use Rattle.swc_cover.specs.Faults.{param_faults, params_verdict, Verdict, clean, recorded, goes_on, also, one_if}
-use Rattle.swc_cover.specs.Faults.{spread_faults, comma_faults, rest_faults, held_verdict, plain_assignment, own_faults}
-use Rattle.swc_cover.specs.Faults.{left_faults, may_rest, verdict, elems_verdict, props_verdict, again, all_again}
-use Rattle.swc_cover.specs.Faults.{prop_again, props_again, Recorded}
-use Rattle.swc_cover.specs.declared.faults.Fault.{Fault}
-use Rattle.swc_cover.specs.declared.faults.FaultKind.TheVariants as fault
+use Rattle.swc_grammar.specs.Cover.{is_assign, is_pattern}
+use Rattle.swc_cover.specs.Fits.{Way, Binding, Target, fits, elems_fit, props_fit, left_fits, rest_held, binds, all_bind, prop_binds, props_bind}
+use Rattle.swc_cover.specs.Faults.{param_faults, params_verdict, Verdict, clean, recorded, goes_on, also, one_if, spread_faults, comma_faults, rest_faults, held_verdict, plain_assignment, own_faults, left_faults, may_rest, verdict, elems_verdict, props_verdict, again, all_again, prop_again, props_again, Recorded}
+use Rattle.swc_cover.specs.{declared.faults.Fault.Fault, declared.faults.FaultKind.FaultKind as fault}
 
 both-left : (a b : Bool) → (a && b) ≡ true → a ≡ true
 both-left true b h = refl

@@ -1,45 +1,20 @@
 -- What is recorded, one after another.
-use Rattle.std.proofs.Common.{map, ◌≡◌, ℕ, ◌+◌, ◌<◌, ◌≤◌, inl, true, false, List, [], ◌∷◌, ◌++◌, drop, get_or}
-use Rattle.std.proofs.Common.{length, Option, Some, None, refl, sym, ap, subst, ◌∙◌, arith, append_assoc}
-use Rattle.std.specs.Prelude.{eqb, is_some, if◌then◌else◌}
+use Rattle.std.proofs.Common.{map, ◌≡◌, ℕ, ◌+◌, ◌<◌, ◌≤◌, inl, true, false, List, [], ◌∷◌, ◌++◌, drop, get_or, length, Option, Some, None, refl, sym, ap, subst, ◌∙◌, arith, append_assoc}
 use Rattle.std.proofs.lemmas.List.{append-nil, drop_more, drop_all}
-use Rattle.std.specs.declared.alloc.Global.{Global}
-use Rattle.std.specs.declared.vec.Vec.{Vec}
-use Rattle.swc_context.specs.declared.operator.AssignOp.{AssignOp}
-use Rattle.swc_context.specs.declared.operator.AssignOp.TheVariants as op
-use Rattle.swc_context.specs.declared.span.Span.{Span}
-use Rattle.swc_ast.specs.Parts.{or_hole, item_tree}
-use Rattle.swc_ast.specs.Tree.{Trees, trees}
-use Rattle.swc_ast.specs.declared.expr.ExprOrSpread.{ExprOrSpread}
-use Rattle.swc_ast.specs.declared.spanned.Spanned.{Ghosts}
+use Rattle.std.specs.Prelude.{eqb, is_some, if◌then◌else◌}
+use Rattle.std.specs.{declared.alloc.Global.Global, declared.vec.Vec.Vec}
+use Rattle.swc_context.specs.{declared.operator.AssignOp.AssignOp, declared.operator.AssignOp.AssignOp as op, declared.span.Span.Span}
+use Rattle.swc_ast.specs.{Parts.or_hole, Parts.item_tree, Tree.Trees, Tree.trees, declared.expr.ExprOrSpread.ExprOrSpread, declared.spanned.Spanned.Ghosts}
 use Rattle.swc_grammar.specs.Cover.{is_pattern}
-use Rattle.swc_cover.specs.Fits.{Way}
-use Rattle.swc_cover.proofs.Fitting.{Below, chain-in, in-flat, elems_of, props_of, pats_of, pat_props_of, elem-below}
-use Rattle.swc_cover.proofs.Fitting.{prop-in, pat-elem-below, pat-prop-in, nil-by, tree-is, left-shape}
-use Rattle.swc_cover.proofs.Fitting.{left-below}
+use Rattle.swc_cover.specs.Below.{ElemStep, PropStep, PatElemStep, PatPropStep, ElemsBelow, PropsBelow, PatElemsBelow, PatPropsBelow}
+use Rattle.swc_cover.specs.Faults.{Verdict, clean, recorded, goes_on, also, verdict, elem_verdict, elems_verdict, prop_verdict, props_verdict, param_verdict, params_verdict, left_faults, again, all_again, prop_again, props_again, Recorded}
+use Rattle.swc_cover.specs.{Fits.Way, Checking.plain_op, declared.faults.Fault.Fault}
+use Rattle.swc_cover.proofs.Fitting.{Below, chain-in, in-flat, elems_of, props_of, pats_of, pat_props_of, elem-below, prop-in, pat-elem-below, pat-prop-in, nil-by, tree-is, left-shape, left-below}
 use Rattle.swc_cover.proofs.Among.{in-right}
-use Rattle.swc_cover.specs.Checking.{plain_op}
-use Rattle.swc_cover.specs.Below.{ElemStep, PropStep, PatElemStep, PatPropStep, ElemsBelow, PropsBelow, PatElemsBelow}
-use Rattle.swc_cover.specs.Below.{PatPropsBelow}
-use Rattle.swc_cover.specs.Faults.{Verdict, clean, recorded, goes_on, also, verdict, elem_verdict, elems_verdict}
-use Rattle.swc_cover.specs.Faults.{prop_verdict, props_verdict, param_verdict, params_verdict, left_faults}
-use Rattle.swc_cover.specs.Faults.{again, all_again, prop_again, props_again, Recorded}
-use Rattle.swc_cover.specs.declared.faults.Fault.{Fault}
 use Rattle.swc_nodes.specs.NodeTree.{marked_tree, prop_of, pat_prop_of}
-use Rattle.swc_nodes.specs.NodeParts.{expr, key_parts, expr_part, pat_part, target_part, flat}
-use Rattle.swc_nodes.specs.NodeParts.{item_parts}
+use Rattle.swc_nodes.specs.NodeParts.{expr, key_parts, expr_part, pat_part, target_part, flat, item_parts}
 use Rattle.swc_nodes.specs.GrowingNodes.{count, tree_at, From, Stood, seat_at, Apart}
-use Rattle.swc_nodes.specs.declared.node.ExprId.{ExprId}
-use Rattle.swc_nodes.specs.declared.node.PatId.{PatId}
-use Rattle.swc_nodes.specs.declared.node.Node.{Node}
-use Rattle.swc_nodes.specs.declared.node.Node.TheVariants as n
-use Rattle.swc_nodes.specs.declared.node.PatPropNode.{PatPropNode}
-use Rattle.swc_nodes.specs.declared.node.PatPropNode.TheVariants as pat_prop
-use Rattle.swc_nodes.specs.declared.node.PropNode.{PropNode}
-use Rattle.swc_nodes.specs.declared.node.PropNode.TheVariants as prop
-use Rattle.swc_nodes.specs.declared.node.TargetNode.{TargetNode}
-use Rattle.swc_nodes.specs.declared.node.TargetNode.TheVariants as target
-use Rattle.swc_nodes.specs.declared.nodes.Nodes.{Nodes}
+use Rattle.swc_nodes.specs.{declared.node.ExprId.ExprId, declared.node.PatId.PatId, declared.node.Node.Node, declared.node.Node.Node as n, declared.node.PatPropNode.PatPropNode, declared.node.PatPropNode.PatPropNode as pat_prop, declared.node.PropNode.PropNode, declared.node.PropNode.PropNode as prop, declared.node.TargetNode.TargetNode, declared.node.TargetNode.TargetNode as target, declared.nodes.Nodes.Nodes}
 
 pub recorded-as : {was now : List Fault} {u v : Verdict} {r : Option Span} → u ≡ v → Recorded was u now r →
     Recorded was v now r

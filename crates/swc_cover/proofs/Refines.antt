@@ -1,37 +1,18 @@
 -- What was checked and refined: the pattern that the expression is, where nothing was recorded.
-use Rattle.std.proofs.Common.{◌≡◌, ℕ, ◌<◌, ◌≢◌, Bool, true, false, List, Option, Some, None, refl, sym, ap, subst, ◌∙◌}
-use Rattle.std.proofs.Common.{arith}
+use Rattle.std.proofs.Common.{◌≡◌, ℕ, ◌<◌, ◌≢◌, Bool, true, false, List, Option, Some, None, refl, sym, ap, subst, ◌∙◌, arith}
 use Rattle.std.specs.Prelude.{if◌then◌else◌}
-use Rattle.swc_context.specs.declared.context.Context.{Context}
-use Rattle.swc_context.specs.declared.error.Error.{Error}
-use Rattle.swc_context.specs.declared.span.Span.{Span}
-use Rattle.swc_input.specs.Buffer.{context}
-use Rattle.swc_input.specs.Source.{Model}
-use Rattle.swc_input.specs.declared.buffer.Buffer.{Buffer}
+use Rattle.swc_context.specs.{declared.context.Context.Context, declared.error.Error.Error, declared.span.Span.Span}
+use Rattle.swc_input.specs.{Buffer.context, Source.Model, declared.buffer.Buffer.Buffer}
 use Rattle.swc_ast.specs.Tree.{array, array_with, object_with, Tree, node, Trees}
-use Rattle.swc_ast.specs.Trees.{is_valid, are_valid}
-use Rattle.swc_ast.specs.declared.expr.ExprOrSpread.{ExprOrSpread}
-use Rattle.swc_ast.specs.declared.spanned.Spanned.{Ghosts}
+use Rattle.swc_ast.specs.{Trees.is_valid, Trees.are_valid, declared.expr.ExprOrSpread.ExprOrSpread, declared.spanned.Spanned.Ghosts}
 use Rattle.swc_grammar.specs.Cover.{binding, is_pattern, as_elements, as_literal, heads_ok}
-use Rattle.swc_cover.proofs.Bound.{params-are}
-use Rattle.swc_cover.proofs.Checked.{whole-then}
-use Rattle.swc_cover.proofs.Fitting.{chain-in}
 use Rattle.swc_cover.proofs.Formed.{Formed, AllFormed, part-formed, items-formed}
-use Rattle.swc_cover.proofs.Ties.{pattern-is, as-elems-is}
-use Rattle.swc_cover.specs.Fits.{Binding, elems_fit}
-use Rattle.swc_cover.specs.Heads.{names_ok}
-use Rattle.swc_cover.specs.Items.{want_items, AllMade}
-use Rattle.swc_cover.specs.Moving.{KeptTo}
-use Rattle.swc_cover.specs.PatTypes.{want_as, pattern_as}
-use Rattle.swc_cover.specs.Refining.{ChecksWhole, Unfitting, Refined, RefinedItems, fits_at, items_at}
-use Rattle.swc_cover.specs.Refining.{pats_at, items_floor, params_ok, takes_heads}
-use Rattle.swc_cover.specs.declared.pat_type.PatType.{PatType}
-use Rattle.swc_cover.specs.declared.pat_type.PatType.TheVariants.{AssignPat}
+use Rattle.swc_cover.proofs.{Bound.params-are, Checked.whole-then, Fitting.chain-in, Ties.pattern-is, Ties.as-elems-is}
+use Rattle.swc_cover.specs.Refining.{ChecksWhole, Unfitting, Refined, RefinedItems, fits_at, items_at, pats_at, items_floor, params_ok, takes_heads}
+use Rattle.swc_cover.specs.{Fits.Binding, Fits.elems_fit, Heads.names_ok, Items.want_items, Items.AllMade, Moving.KeptTo, PatTypes.want_as, PatTypes.pattern_as, declared.pat_type.PatType.PatType, declared.pat_type.PatType.TheVariants.AssignPat}
 use Rattle.swc_nodes.specs.NodeParts.{expr_part, pat_part, flat, item_parts}
 use Rattle.swc_nodes.specs.GrowingNodes.{count, seat_at, tree_at, first_at, Apart, From, Made}
-use Rattle.swc_nodes.specs.declared.node.ExprId.{ExprId}
-use Rattle.swc_nodes.specs.declared.node.PatId.{PatId}
-use Rattle.swc_nodes.specs.declared.nodes.Nodes.{Nodes}
+use Rattle.swc_nodes.specs.{declared.node.ExprId.ExprId, declared.node.PatId.PatId, declared.nodes.Nodes.Nodes}
 use Rattle.swc_steps.specs.Parsing.{Checks, Loud, recorded}
 use Rattle.swc_steps.specs.declared.productions.Productions.{Productions}
 

@@ -1,20 +1,15 @@
 -- Productions that change nodes which were there, and how they go on to productions that append alone.
 use Rattle.std.proofs.Common.{◌≡◌, ℕ, ◌≤◌, Bool, List, Result, Ok, Err, IsErrAnd, Some, arith}
 use Rattle.swc_context.specs.declared.error.Error.{Error}
-use Rattle.swc_input.specs.declared.token.TokenAndSpan.{TokenAndSpan}
-use Rattle.swc_input.specs.Source.{Model}
+use Rattle.swc_input.specs.{declared.token.TokenAndSpan.TokenAndSpan, Source.Model}
 use Rattle.swc_ast.specs.declared.spanned.Spanned.{Ghosts}
-use Rattle.swc_grammar.specs.Clean.{Out}
-use Rattle.swc_grammar.specs.Scope.{Scope}
-use Rattle.swc_grammar.specs.Words.{◌>>=◌}
-use Rattle.swc_nodes.specs.GrowingNodes.{count, Grows}
-use Rattle.swc_nodes.specs.declared.nodes.Nodes.{Nodes}
+use Rattle.swc_grammar.specs.{Clean.Out, Scope.Scope, Words.◌>>=◌}
+use Rattle.swc_nodes.specs.{GrowingNodes.count, GrowingNodes.Grows, declared.nodes.Nodes.Nodes}
 use Rattle.swc_steps.specs.Parsing.{On, Heard, Unheard, Produces, GoesOn}
 use Rattle.swc_steps.specs.declared.productions.Productions.{Productions}
 use Rattle.swc_steps.proofs.Making.{if_held, yes}
 use Rattle.swc_steps.proofs.Steps.{Reader, less, on_then, parses_call, parses_call_read, unheard_after}
-use Rattle.swc_cover.specs.Moving.{KeptTo}
-use Rattle.swc_cover.specs.Rewriting.{Rewrites}
+use Rattle.swc_cover.specs.{Moving.KeptTo, Rewriting.Rewrites}
 use Rattle.swc_cover.proofs.Kept.{grows-kept, kept-grows, kept-less, kept-then}
 
 module _ {S H F C K : Type 0} {fg : Ghosts F} {cg : Ghosts C} {kg : Ghosts K} {model : Model S} {sure : Bool} {T A : Type 0}

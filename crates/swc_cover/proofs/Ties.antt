@@ -2,26 +2,17 @@
 -- fault is recorded.
 use Rattle.std.proofs.Common.{◌≡◌, Bool, true, false, not, ◌&&◌, Option, Some, None, refl, sym, ap, ◌∙◌}
 use Rattle.std.specs.Prelude.{if◌then◌else◌}
-use Rattle.swc_context.specs.declared.operator.AssignOp.TheVariants as op
-use Rattle.swc_context.specs.declared.span.Span.{Span}
-use Rattle.swc_ast.specs.Parts.{no_tree}
+use Rattle.swc_context.specs.{declared.operator.AssignOp.AssignOp as op, declared.span.Span.Span}
 use Rattle.swc_ast.specs.Patterns.{rest_p, name_p, put_element}
-use Rattle.swc_ast.specs.Targets.{is_target}
-use Rattle.swc_ast.specs.Tree.{Kind, hole, item, spread, ident, array, array_with, object, object_with, assign, paren}
-use Rattle.swc_ast.specs.Tree.{member, super_prop, shorthand, key_value, cover, binding_prop, rest, default}
-use Rattle.swc_ast.specs.Tree.{pat_expr, Tree, node, Trees, nil, cons, span_of}
-use Rattle.swc_ast.specs.Trees.{is_ident, hole_e}
-use Rattle.swc_grammar.specs.Cover.{target, ◌>>>◌, is_assign, is_pattern, is_rest_of, stays, as_pat}
-use Rattle.swc_grammar.specs.Cover.{as_elements, as_props}
+use Rattle.swc_ast.specs.Tree.{Kind, hole, item, spread, ident, array, array_with, object, object_with, assign, paren, member, super_prop, shorthand, key_value, cover, binding_prop, rest, default, pat_expr, Tree, node, Trees, nil, cons, span_of}
+use Rattle.swc_ast.specs.{Parts.no_tree, Targets.is_target, Trees.is_ident, Trees.hole_e}
+use Rattle.swc_grammar.specs.Cover.{target, ◌>>>◌, is_assign, is_pattern, is_rest_of, stays, as_pat, as_elements, as_props}
 use Rattle.swc_grammar.specs.Patterns.{binds_names, all_bind_names, prop_binds_names, props_bind_names, any}
 use Rattle.swc_cover.proofs.Covers.{binds-same, holes-same, keep-is, keeps-by, span-want, two-are}
 use Rattle.swc_cover.proofs.Formed.{PatFormed, AllPats, Formed, AllFormed}
-use Rattle.swc_cover.specs.Fits.{Way, Binding, Target, role_of, binds, all_bind, prop_binds, props_bind}
-use Rattle.swc_cover.specs.Fits.{rest_held, left_fits, fits, elems_fit, props_fit}
-use Rattle.swc_cover.specs.PatTypes.{cover_role, way_in, role_in, stands_whole, held_whole, want_as, fits_as}
-use Rattle.swc_cover.specs.PatTypes.{pattern_as}
-use Rattle.swc_cover.specs.Wanted.{Keep, Bind, Assign, Rebind, Held, Ident, Array, Object, all_holes}
-use Rattle.swc_cover.specs.Wanted.{pat_elems, rest_of, pat_props, want, want_parts, left_as}
+use Rattle.swc_cover.specs.Fits.{Way, Binding, Target, role_of, binds, all_bind, prop_binds, props_bind, rest_held, left_fits, fits, elems_fit, props_fit}
+use Rattle.swc_cover.specs.PatTypes.{cover_role, way_in, role_in, stands_whole, held_whole, want_as, fits_as, pattern_as}
+use Rattle.swc_cover.specs.Wanted.{Keep, Bind, Assign, Rebind, Held, Ident, Array, Object, all_holes, pat_elems, rest_of, pat_props, want, want_parts, left_as}
 use Rattle.swc_cover.specs.declared.pat_type.PatType.{PatType}
 use Rattle.swc_cover.specs.declared.pat_type.PatType.TheVariants.{BindingPat, BindingElement, AssignPat, AssignElement}
 

@@ -1,24 +1,15 @@
 -- The kinds of patterns that expressions are refined as: what is sought, and where nothing is recorded.
 use Rattle.std.proofs.Common.{◌≡◌, ℕ, Bool, true, false, not, ◌&&◌, refl, sym, ap, subst, ◌∙◌}
 use Rattle.std.specs.Prelude.{if◌then◌else◌}
-use Rattle.swc_ast.specs.Targets.{is_target}
 use Rattle.swc_ast.specs.Tree.{ident, pat_expr, Tree, node, nil, cons, span_of}
-use Rattle.swc_ast.specs.Trees.{is_ident, is_valid}
-use Rattle.swc_ast.specs.declared.spanned.Spanned.{Ghosts}
-use Rattle.swc_cover.proofs.Covers.{keeps-by}
-use Rattle.swc_cover.proofs.Quiet.{fits-quiet, quiet-fits}
+use Rattle.swc_ast.specs.{Targets.is_target, Trees.is_ident, Trees.is_valid, declared.spanned.Spanned.Ghosts}
+use Rattle.swc_cover.proofs.{Covers.keeps-by, Quiet.fits-quiet, Quiet.quiet-fits}
 use Rattle.swc_cover.specs.Faults.{clean, recorded, one_if, verdict}
-use Rattle.swc_cover.specs.Fits.{fits}
 use Rattle.swc_cover.specs.PatTypes.{role_in, role_for, way_in, stands_whole, held_whole, want_as, fits_as, verdict_as}
-use Rattle.swc_cover.specs.Roles.{sought}
 use Rattle.swc_cover.specs.Wanted.{want, Assign, Ident}
-use Rattle.swc_cover.specs.declared.faults.FaultKind.TheVariants as fault
-use Rattle.swc_cover.specs.declared.pat_type.PatType.{PatType}
 use Rattle.swc_cover.specs.declared.pat_type.PatType.TheVariants.{BindingPat, BindingElement, AssignPat, AssignElement}
-use Rattle.swc_nodes.specs.NodeParts.{Part}
-use Rattle.swc_nodes.specs.GrowingNodes.{Made}
-use Rattle.swc_nodes.specs.declared.nodes.Nodes.{Nodes}
-use Rattle.swc_cover.specs.declared.role.Role.{Role as NodeRole}
+use Rattle.swc_cover.specs.{Fits.fits, Roles.sought, declared.faults.FaultKind.FaultKind as fault, declared.pat_type.PatType.PatType, declared.role.Role.Role as NodeRole}
+use Rattle.swc_nodes.specs.{NodeParts.Part, GrowingNodes.Made, declared.nodes.Nodes.Nodes}
 
 chosen : {A : Type 0} (b : Bool) (x y : A) → b ≡ true → (if b then x else y) ≡ x
 chosen true x y h = refl

@@ -1,10 +1,8 @@
 -- As what an expression is checked that is to become a pattern.
 use Rattle.std.specs.Prelude.{Bool, true, false}
-use Rattle.swc_context.specs.declared.operator.AssignOp.{AssignOp}
-use Rattle.swc_context.specs.declared.operator.AssignOp.TheVariants as op
+use Rattle.swc_context.specs.declared.operator.AssignOp.{AssignOp, AssignOp as op}
 use Rattle.swc_cover.specs.Fits as cover
-use Rattle.swc_cover.specs.declared.checking.Way.{Way}
-use Rattle.swc_cover.specs.declared.checking.Way.TheVariants as way
+use Rattle.swc_cover.specs.declared.checking.Way.{Way, Way as way}
 
 -- as what it is checked
 abbrev pub way_of : Way → cover.Way

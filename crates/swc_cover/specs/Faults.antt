@@ -1,22 +1,12 @@
 -- What is recorded where an expression becomes a pattern, in its order, and where that is refused.
 use Rattle.std.specs.Prelude.{◌≡◌, Bool, true, false, not, if◌then◌else◌, List, [], ◌∷◌, ◌++◌, Option, Some, None}
-use Rattle.swc_context.specs.declared.operator.AssignOp.TheVariants as op
-use Rattle.swc_context.specs.declared.span.Span.{Span}
-use Rattle.swc_ast.specs.Targets.{is_target}
-use Rattle.swc_ast.specs.Tree.{Kind, hole, item, spread, ident, str, boolean, null, num, big, regex, array_with}
-use Rattle.swc_ast.specs.Tree.{object_with, fun, class, assign, paren, member, super_prop, call, new, tpl, invalid}
-use Rattle.swc_ast.specs.Tree.{shorthand, key_value, cover, binding_prop, rest, default, Tree, node, Trees}
-use Rattle.swc_ast.specs.Tree.{nil, cons, span_of}
+use Rattle.swc_context.specs.{declared.operator.AssignOp.AssignOp as op, declared.span.Span.Span}
+use Rattle.swc_ast.specs.Tree.{Kind, hole, item, spread, ident, str, boolean, null, num, big, regex, array_with, object_with, fun, class, assign, paren, member, super_prop, call, new, tpl, invalid, shorthand, key_value, cover, binding_prop, rest, default, Tree, node, Trees, nil, cons, span_of}
+use Rattle.swc_ast.specs.{Targets.is_target, Trees.is_ident}
 use Rattle.swc_grammar.specs.Cover.{is_assign, is_pattern}
 use Rattle.swc_cover.specs.Fits as way
-use Rattle.swc_cover.specs.Fits.{is_nil}
-use Rattle.swc_ast.specs.Trees.{is_ident}
-use Rattle.swc_cover.specs.declared.faults.Fault.{Fault}
-use Rattle.swc_cover.specs.declared.faults.FaultKind.{FaultKind}
-use Rattle.swc_cover.specs.declared.faults.FaultKind.TheVariants as fault
-use Rattle.swc_cover.specs.declared.faults.OwnKind.{OwnKind}
 use Rattle.swc_cover.specs.declared.faults.OwnKind.TheVariants.{Held, Assignment, Other}
-use Rattle.swc_cover.specs.Roles.{kind_of}
+use Rattle.swc_cover.specs.{Fits.is_nil, declared.faults.Fault.Fault, declared.faults.FaultKind.FaultKind, declared.faults.FaultKind.FaultKind as fault, declared.faults.OwnKind.OwnKind, Roles.kind_of}
 
 -- what is recorded, and the property at which it is refused: nothing is recorded after that
 pub record Verdict : Type 0 where

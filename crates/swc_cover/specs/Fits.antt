@@ -1,12 +1,8 @@
 -- Which finished expressions are patterns (ECMA-262, 13.15.5 and 15.3), so that they are refined with nothing recorded.
 use Rattle.std.specs.Prelude.{Bool, true, false, not, ◌&&◌, if◌then◌else◌, Option, None, is_none}
-use Rattle.swc_context.specs.declared.operator.AssignOp.TheVariants as op
-use Rattle.swc_context.specs.declared.span.Span.{Span}
-use Rattle.swc_ast.specs.Targets.{is_target}
-use Rattle.swc_ast.specs.Tree.{hole, item, spread, ident, array_with, object_with, assign, paren}
-use Rattle.swc_ast.specs.Tree.{member, super_prop, shorthand, key_value, cover, binding_prop, rest, default}
-use Rattle.swc_ast.specs.Tree.{Tree, node, Trees, nil, cons}
-use Rattle.swc_ast.specs.Trees.{is_ident}
+use Rattle.swc_context.specs.{declared.operator.AssignOp.AssignOp as op, declared.span.Span.Span}
+use Rattle.swc_ast.specs.Tree.{hole, item, spread, ident, array_with, object_with, assign, paren, member, super_prop, shorthand, key_value, cover, binding_prop, rest, default, Tree, node, Trees, nil, cons}
+use Rattle.swc_ast.specs.{Targets.is_target, Trees.is_ident}
 use Rattle.swc_grammar.specs.Cover.{is_assign, is_pattern}
 use Rattle.swc_cover.specs.Wanted.{Role, Bind, Assign}
 

@@ -1,12 +1,7 @@
 -- The names `eval` and `arguments` that patterns bind, which in strict code they may not (ECMA-262, 13.1.1 and 15.3.1).
 use Rattle.std.specs.Prelude.{ℕ, Bool, true, false, not, ◌&&◌, ◌||◌, List, [], ◌∷◌, ◌++◌, if◌then◌else◌}
-use Rattle.swc_context.specs.Reserved.{strict_binding_words}
-use Rattle.swc_context.specs.Texts.{is_one_of}
-use Rattle.swc_context.specs.declared.context.Context.{Context}
-use Rattle.swc_context.specs.declared.span.Span.{Span}
-use Rattle.swc_ast.specs.Tree.{array_with, object_with, ident, rest, default, binding_prop, key_value, Tree, node}
-use Rattle.swc_ast.specs.Tree.{Trees}
-use Rattle.swc_ast.specs.Tree.{nil, cons}
+use Rattle.swc_context.specs.{Reserved.strict_binding_words, Texts.is_one_of, declared.context.Context.Context, declared.span.Span.Span}
+use Rattle.swc_ast.specs.Tree.{array_with, object_with, ident, rest, default, binding_prop, key_value, Tree, node, Trees, nil, cons}
 
 -- where they are bound, in their order
 abbrev pub name_spans : List ℕ → Span → List Span

@@ -2,20 +2,11 @@
 use Rattle.std.specs.Prelude.{◌≡◌, ℕ, List, [], ◌∷◌, map, Option, Some, None}
 use Rattle.swc_context.specs.declared.span.Span.{Span}
 use Rattle.swc_ast.specs.Tree.{Trees, trees, array}
-use Rattle.swc_ast.specs.declared.expr.ExprOrSpread.{ExprOrSpread}
-use Rattle.swc_ast.specs.declared.spanned.Spanned.{Ghosts}
+use Rattle.swc_ast.specs.{declared.expr.ExprOrSpread.ExprOrSpread, declared.spanned.Spanned.Ghosts}
 use Rattle.swc_cover.specs.Wanted as wanted
-use Rattle.swc_cover.specs.Wanted.{pat_elems, want_parts}
-use Rattle.swc_cover.specs.Roles.{Due}
-use Rattle.swc_cover.specs.declared.items.Dotted.{Dotted}
-use Rattle.swc_cover.specs.declared.role.Role.{Role}
-use Rattle.swc_nodes.specs.Renumbering.{given}
+use Rattle.swc_cover.specs.{Wanted.pat_elems, Wanted.want_parts, Roles.Due, declared.items.Dotted.Dotted, declared.role.Role.Role}
 use Rattle.swc_nodes.specs.NodeParts.{expr_part, flat, one_pat}
-use Rattle.swc_nodes.specs.GrowingNodes.{tree_at, Apart}
-use Rattle.swc_nodes.specs.declared.renumbering.Numbers.{Numbers}
-use Rattle.swc_nodes.specs.declared.node.ExprId.{ExprId}
-use Rattle.swc_nodes.specs.declared.node.PatId.{PatId}
-use Rattle.swc_nodes.specs.declared.nodes.Nodes.{Nodes}
+use Rattle.swc_nodes.specs.{Renumbering.given, GrowingNodes.tree_at, GrowingNodes.Apart, declared.renumbering.Numbers.Numbers, declared.node.ExprId.ExprId, declared.node.PatId.PatId, declared.nodes.Nodes.Nodes}
 
 -- what items become: as the elements of an array do that binds
 abbrev pub want_items : {F C K : Type 0} → Trees F C K → Trees F C K

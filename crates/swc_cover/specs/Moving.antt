@@ -1,15 +1,11 @@
 -- What was taken from the end of the nodes, and what stays.
 use Rattle.std.specs.Prelude.{◌≡◌, ℕ, suc, ◌+◌, ◌<◌, ◌≤◌, true, List, [], ◌∷◌, ◌⊎◌, length, map, take}
-use Rattle.swc_ast.specs.Tree.{Tree}
-use Rattle.swc_ast.specs.declared.spanned.Spanned.{Ghosts}
+use Rattle.swc_ast.specs.{Tree.Tree, declared.spanned.Spanned.Ghosts}
 use Rattle.swc_cover.specs.Roles.{Due, dues_in, new_view, ready, sought}
 use Rattle.swc_cover.specs.declared.moving.Lifted.{Lifted}
-use Rattle.swc_nodes.specs.Renumbering.{given}
-use Rattle.swc_nodes.specs.declared.renumbering.Numbers.{Numbers}
-use Rattle.swc_nodes.specs.NumberedTrees.{chain}
 use Rattle.swc_nodes.specs.NodeParts.{Part, Form, slots, form}
 use Rattle.swc_nodes.specs.GrowingNodes.{count, seat_at, tree_at, first_at, node_seat, Apart}
-use Rattle.swc_nodes.specs.declared.nodes.Nodes.{Nodes}
+use Rattle.swc_nodes.specs.{Renumbering.given, declared.renumbering.Numbers.Numbers, NumberedTrees.chain, declared.nodes.Nodes.Nodes}
 
 -- what is one of a list
 abbrev pub In : {A : Type 0} → A → List A → Type 0

@@ -1,21 +1,13 @@
 -- Which faults a check records in the buffer, in which order, and what it refuses.
 use Rattle.std.specs.Prelude.{◌≡◌, ◌≢◌, true, false, if◌then◌else◌, List, [], ◌∷◌, map, Option, Some, None, Result, MatchResult}
-use Rattle.swc_context.specs.Spans.{in_order}
-use Rattle.swc_context.specs.declared.context.Context.{Context}
-use Rattle.swc_context.specs.declared.error.Error.{Error}
-use Rattle.swc_context.specs.declared.error.SyntaxError.{SyntaxError}
+use Rattle.swc_context.specs.{Spans.in_order, declared.context.Context.Context, declared.error.Error.Error, declared.error.SyntaxError.SyntaxError, declared.span.Span.Span}
 use Rattle.swc_context.specs.declared.error.SyntaxError.TheVariants as kind
-use Rattle.swc_context.specs.declared.span.Span.{Span}
 use Rattle.swc_input.specs.Buffer.{source, state_of, with_source}
 use Rattle.swc_input.specs.Recordings.{Judges, NotesAll, RefusesAfter}
 use Rattle.swc_input.specs.Source.{Model, Source, with_module_error}
 use Rattle.swc_input.specs.declared.buffer.Buffer.{Buffer}
 use Rattle.swc_ast.specs.Tree.{Trees}
-use Rattle.swc_cover.specs.Faults.{Verdict}
-use Rattle.swc_cover.specs.Heads.{all_reserved}
-use Rattle.swc_cover.specs.declared.faults.Fault.{Fault}
-use Rattle.swc_cover.specs.declared.faults.FaultKind.{FaultKind}
-use Rattle.swc_cover.specs.declared.faults.FaultKind.TheVariants as fault
+use Rattle.swc_cover.specs.{Faults.Verdict, Heads.all_reserved, declared.faults.Fault.Fault, declared.faults.FaultKind.FaultKind, declared.faults.FaultKind.FaultKind as fault}
 
 -- as what a fault is recorded
 abbrev pub kind_is : FaultKind → SyntaxError

@@ -1,18 +1,14 @@
 -- As which kind of pattern an expression is refined, and what it becomes.
 use Rattle.std.specs.Prelude.{Bool, true, false, not, ◌&&◌, if◌then◌else◌, Option, None}
-use Rattle.swc_ast.specs.Targets.{is_target}
 use Rattle.swc_ast.specs.Tree.{array_with, object_with, invalid, pat_expr, Tree, node, nil, cons, span_of}
+use Rattle.swc_ast.specs.{Targets.is_target, Trees.is_ident}
 use Rattle.swc_grammar.specs.Cover as cover
 use Rattle.swc_grammar.specs.Cover.{is_assign, as_pat}
 use Rattle.swc_cover.specs.Faults.{Verdict, recorded, one_if, verdict}
 use Rattle.swc_cover.specs.Fits.{Way, Binding, Target, fits}
-use Rattle.swc_ast.specs.Trees.{is_ident}
 use Rattle.swc_cover.specs.Wanted.{Role, Bind, Assign, want}
-use Rattle.swc_cover.specs.declared.faults.FaultKind.TheVariants as fault
-use Rattle.swc_cover.specs.declared.pat_type.PatType.{PatType}
 use Rattle.swc_cover.specs.declared.pat_type.PatType.TheVariants.{BindingPat, BindingElement, AssignPat, AssignElement}
-use Rattle.swc_cover.specs.declared.role.Role.{Role as NodeRole}
-use Rattle.swc_cover.specs.declared.role.Role.TheVariants as node_role
+use Rattle.swc_cover.specs.{declared.faults.FaultKind.FaultKind as fault, declared.pat_type.PatType.PatType, declared.role.Role.Role as NodeRole, declared.role.Role.Role as node_role}
 
 -- as what the parts of such a pattern are refined
 abbrev pub element_of : PatType → PatType

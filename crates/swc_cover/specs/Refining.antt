@@ -1,29 +1,14 @@
 -- What a check of what is to become a pattern records, and what refinement makes of it.
 use Rattle.std.specs.Prelude.{◌≡◌, ◌≢◌, ℕ, ◌<◌, Bool, true, false, List, [], map, Option, Some, None, if◌then◌else◌}
-use Rattle.swc_context.specs.declared.context.Context.{Context}
-use Rattle.swc_context.specs.declared.error.Error.{Error}
-use Rattle.swc_context.specs.declared.error.SyntaxError.TheVariants.{OutOfMemory}
-use Rattle.swc_context.specs.declared.span.Span.{Span}
-use Rattle.swc_input.specs.Buffer.{context}
-use Rattle.swc_input.specs.Source.{Model}
-use Rattle.swc_input.specs.declared.buffer.Buffer.{Buffer}
-use Rattle.swc_ast.specs.Parts.{item_trees}
-use Rattle.swc_ast.specs.Tree.{Trees, trees}
-use Rattle.swc_ast.specs.Trees.{is_valid, are_valid}
-use Rattle.swc_ast.specs.declared.expr.ExprOrSpread.{ExprOrSpread}
-use Rattle.swc_ast.specs.declared.spanned.Spanned.{Ghosts}
-use Rattle.swc_cover.specs.Fits.{Binding, elems_fit}
-use Rattle.swc_cover.specs.Items.{want_items, AllMade}
-use Rattle.swc_cover.specs.Moving.{KeptTo}
+use Rattle.swc_context.specs.{declared.context.Context.Context, declared.error.Error.Error, declared.error.SyntaxError.TheVariants.OutOfMemory, declared.span.Span.Span}
+use Rattle.swc_input.specs.{Buffer.context, Source.Model, declared.buffer.Buffer.Buffer}
+use Rattle.swc_ast.specs.{Parts.item_trees, Tree.Trees, Tree.trees, Trees.is_valid, Trees.are_valid, declared.expr.ExprOrSpread.ExprOrSpread, declared.spanned.Spanned.Ghosts}
 use Rattle.swc_cover.specs.PatTypes.{fits_as, want_as, pattern_as}
-use Rattle.swc_cover.specs.declared.pat_type.PatType.{PatType}
+use Rattle.swc_cover.specs.{Fits.Binding, Fits.elems_fit, Items.want_items, Items.AllMade, Moving.KeptTo, declared.pat_type.PatType.PatType}
 use Rattle.swc_grammar.specs.Cover.{binding, as_elements, heads_ok}
-use Rattle.swc_nodes.specs.NumberedTrees.{floor}
 use Rattle.swc_nodes.specs.NodeParts.{pat_part, flat, item_parts}
 use Rattle.swc_nodes.specs.GrowingNodes.{count, seat_at, tree_at, first_at, Made}
-use Rattle.swc_nodes.specs.declared.node.ExprId.{ExprId}
-use Rattle.swc_nodes.specs.declared.node.PatId.{PatId}
-use Rattle.swc_nodes.specs.declared.nodes.Nodes.{Nodes}
+use Rattle.swc_nodes.specs.{NumberedTrees.floor, declared.node.ExprId.ExprId, declared.node.PatId.PatId, declared.nodes.Nodes.Nodes}
 use Rattle.swc_steps.specs.Parsing.{Leads, Loud, Refuses, recorded}
 use Rattle.swc_steps.specs.declared.productions.Productions.{Productions}
 

@@ -1,15 +1,11 @@
 -- What a production does that changes nodes which were there: those of an expression that becomes a pattern.
 use Rattle.std.specs.Prelude.{◌≤◌, ℕ, Bool, List, Result, MatchResult, OnOk, IfOk}
 use Rattle.swc_context.specs.declared.error.Error.{Error}
-use Rattle.swc_input.specs.declared.token.TokenAndSpan.{TokenAndSpan}
-use Rattle.swc_input.specs.Source.{Model}
-use Rattle.swc_input.specs.Buffer.{to_come}
+use Rattle.swc_input.specs.{declared.token.TokenAndSpan.TokenAndSpan, Source.Model, Buffer.to_come}
 use Rattle.swc_ast.specs.declared.spanned.Spanned.{Ghosts}
-use Rattle.swc_grammar.specs.Scope.{Scope}
-use Rattle.swc_grammar.specs.Clean.{Out}
+use Rattle.swc_grammar.specs.{Scope.Scope, Clean.Out}
 use Rattle.swc_nodes.specs.declared.nodes.Nodes.{Nodes}
-use Rattle.swc_steps.specs.Parsing.{On, Unheard}
-use Rattle.swc_steps.specs.declared.productions.Productions.{Productions}
+use Rattle.swc_steps.specs.{Parsing.On, Parsing.Unheard, declared.productions.Productions.Productions}
 use Rattle.swc_cover.specs.Moving.{KeptTo}
 
 module _ {S H F C K : Type 0} {fg : Ghosts F} {cg : Ghosts C} {kg : Ghosts K} (model : Model S) (sure : Bool)

@@ -1,31 +1,16 @@
 -- What becomes of a node that is to become a pattern, at the node alone: by what is there, and for each part by
 -- what the part is, and in an object by its place. What the whole tree is to become is said in Wanted.antt.
 use Rattle.std.specs.Prelude.{Bool, true, false, ◌&&◌, if◌then◌else◌, List, [], ◌∷◌, ◌++◌, map}
-use Rattle.swc_context.specs.declared.operator.AssignOp.{AssignOp}
-use Rattle.swc_context.specs.declared.operator.AssignOp.TheVariants as op
-use Rattle.swc_context.specs.declared.span.Span.{Span}
+use Rattle.swc_context.specs.{declared.operator.AssignOp.AssignOp, declared.operator.AssignOp.AssignOp as op, declared.span.Span.Span}
 use Rattle.swc_ast.specs.Parts.{leaf, no_tree}
-use Rattle.swc_ast.specs.Tree.{Kind, hole, ident, str, boolean, null, num, big, regex, array, array_with, object}
-use Rattle.swc_ast.specs.Tree.{object_with, fun, class, assign, paren, member, super_prop, call, new, tpl, invalid}
-use Rattle.swc_ast.specs.Tree.{rest, default, pat_expr, Tree, node, nil, cons, span_of}
+use Rattle.swc_ast.specs.Tree.{Kind, hole, ident, str, boolean, null, num, big, regex, array, array_with, object, object_with, fun, class, assign, paren, member, super_prop, call, new, tpl, invalid, rest, default, pat_expr, Tree, node, nil, cons, span_of}
 use Rattle.swc_cover.specs.Wanted as wanted
 use Rattle.swc_cover.specs.Wanted.{want, pat_elems, pat_props, rest_ok}
-use Rattle.swc_cover.specs.declared.role.Becomes.{Becomes}
-use Rattle.swc_cover.specs.declared.role.Becomes.TheVariants.{Same, PatObject, Held, Ident, Array, Object, Default}
-use Rattle.swc_cover.specs.declared.role.Becomes.TheVariants.{Nothing, Instead}
-use Rattle.swc_cover.specs.declared.role.Duty.{Duty}
-use Rattle.swc_cover.specs.declared.role.Role.{Role}
+use Rattle.swc_cover.specs.declared.role.Becomes.TheVariants.{Same, PatObject, Held, Ident, Array, Object, Default, Nothing, Instead}
 use Rattle.swc_cover.specs.declared.role.Role.TheVariants.{Keep, Bind, Assign, Rebind, BindRest, RebindRest}
-use Rattle.swc_nodes.specs.NodeTree.{marked_tree}
-use Rattle.swc_nodes.specs.NodeParts.{Part, View, Form, expr, pat, simple, pattern, view_ok, target_pat, other_pat}
-use Rattle.swc_nodes.specs.NodeParts.{flat, key_parts, prop_parts, pat_prop_parts, slots}
-use Rattle.swc_nodes.specs.Walking.{part_of}
-use Rattle.swc_nodes.specs.declared.node.Node.{Node}
-use Rattle.swc_nodes.specs.declared.node.Node.TheVariants as n
-use Rattle.swc_nodes.specs.declared.node.PatPropNode.{PatPropNode}
-use Rattle.swc_nodes.specs.declared.node.PatPropNode.TheVariants as pat_prop
-use Rattle.swc_nodes.specs.declared.node.PropNode.{PropNode}
-use Rattle.swc_nodes.specs.declared.node.PropNode.TheVariants as prop
+use Rattle.swc_cover.specs.{declared.role.Becomes.Becomes, declared.role.Duty.Duty, declared.role.Role.Role}
+use Rattle.swc_nodes.specs.NodeParts.{Part, View, Form, expr, pat, simple, pattern, view_ok, target_pat, other_pat, flat, key_parts, prop_parts, pat_prop_parts, slots}
+use Rattle.swc_nodes.specs.{NodeTree.marked_tree, Walking.part_of, declared.node.Node.Node, declared.node.Node.Node as n, declared.node.PatPropNode.PatPropNode, declared.node.PatPropNode.PatPropNode as pat_prop, declared.node.PropNode.PropNode, declared.node.PropNode.PropNode as prop}
 
 abbrev pub kind_of : {F C K : Type 0} → Tree F C K → Kind F C K
 kind_of (node k s ts) = k

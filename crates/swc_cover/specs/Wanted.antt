@@ -1,15 +1,9 @@
 -- What a tree becomes that is to become a pattern, with `Invalid` where it is none: for every tree.
 use Rattle.std.specs.Prelude.{Bool, true, false, ◌&&◌, ◌||◌, if◌then◌else◌}
-use Rattle.swc_context.specs.declared.operator.AssignOp.{AssignOp}
-use Rattle.swc_context.specs.declared.operator.AssignOp.TheVariants as op
-use Rattle.swc_context.specs.declared.span.Span.{Span}
-use Rattle.swc_ast.specs.Parts.{leaf, no_tree}
-use Rattle.swc_ast.specs.Trees.{is_ident}
+use Rattle.swc_context.specs.{declared.operator.AssignOp.AssignOp, declared.operator.AssignOp.AssignOp as op, declared.span.Span.Span}
+use Rattle.swc_ast.specs.Tree.{Kind, hole, item, spread, ident, str, boolean, null, num, big, regex, array, array_with, object, object_with, fun, class, assign, paren, member, super_prop, call, new, tpl, invalid, shorthand, key_value, cover, binding_prop, rest, default, pat_expr, Tree, node, Trees, nil, cons, span_of}
+use Rattle.swc_ast.specs.{Parts.leaf, Parts.no_tree, Trees.is_ident}
 use Rattle.swc_grammar.specs.Cover.{is_hole, is_pattern}
-use Rattle.swc_ast.specs.Tree.{Kind, hole, item, spread, ident, str, boolean, null, num, big, regex, array, array_with}
-use Rattle.swc_ast.specs.Tree.{object, object_with, fun, class, assign, paren, member, super_prop, call, new, tpl}
-use Rattle.swc_ast.specs.Tree.{invalid, shorthand, key_value, cover, binding_prop, rest, default, pat_expr, Tree, node}
-use Rattle.swc_ast.specs.Tree.{Trees, nil, cons, span_of}
 
 -- what a tree is to become: what it is; of an expression, a pattern that binds or that is assigned to; of a pattern
 -- that was assigned to, one that binds; of an item or a property, one in which what it holds became that

@@ -2,8 +2,7 @@
 ghost use Rattle.std.specs.Prelude.{◌≡◌};
 ghost use Rattle.swc_grammar.specs.Cover.{is_assign};
 ghost use Rattle.swc_cover.specs.Checking.{plain_op};
-ghost use Rattle.swc_nodes.specs.NodeParts.{expr_part};
-ghost use Rattle.swc_nodes.specs.GrowingNodes.{tree_at, From};
+ghost use Rattle.swc_nodes.specs.{NodeParts.expr_part, GrowingNodes.tree_at, GrowingNodes.From};
 
 use swc_ast::spanned::Spanned;
 use swc_context::operator::AssignOp;

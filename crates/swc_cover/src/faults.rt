@@ -1,20 +1,10 @@
 // What is recorded where an expression becomes a pattern, in its order.
 ghost use Rattle.std.specs.Prelude.{◌≡◌, ◌++◌, true, None, IfOk};
-ghost use Rattle.swc_cover.specs.Checking.{way_of};
+ghost use Rattle.swc_cover.specs.Faults.{again, all_again, prop_again, props_again, own_faults, own_kind, kind_faults, left_faults, one, one_if, spread_faults, rest_faults, comma_faults, plain_assignment, may_rest, Recorded, param_faults, param_verdict, params_verdict, verdict, elem_verdict, elems_verdict, held_verdict, prop_verdict, props_verdict, recorded};
+ghost use Rattle.swc_cover.specs.Below.{ElemFrom, PropFrom, PatElemFrom, PatPropFrom, ElemsBelow, PropsBelow, PatElemsBelow, PatPropsBelow};
+ghost use Rattle.swc_cover.specs.{Checking.way_of, PatTypes.verdict_as, Roles.kind_of};
 ghost use Rattle.swc_cover.specs.Fits as cover;
 ghost use Rattle.swc_ast.specs.Parts.{or_hole, item_tree, item_trees};
-ghost use Rattle.swc_cover.specs.Faults.{again, all_again, prop_again, props_again, own_faults, own_kind, kind_faults};
-ghost use Rattle.swc_cover.specs.Faults.{left_faults, one, one_if};
-ghost use Rattle.swc_cover.specs.Faults.{spread_faults, rest_faults, comma_faults, plain_assignment, may_rest};
-ghost use Rattle.swc_cover.specs.Faults.{Recorded};
-ghost use Rattle.swc_cover.specs.Faults.{param_faults, param_verdict, params_verdict};
-ghost use Rattle.swc_cover.specs.Faults.{verdict, elem_verdict, elems_verdict, held_verdict, prop_verdict};
-ghost use Rattle.swc_cover.specs.Faults.{props_verdict};
-ghost use Rattle.swc_cover.specs.Faults.{recorded};
-ghost use Rattle.swc_cover.specs.Below.{ElemFrom, PropFrom, PatElemFrom, PatPropFrom};
-ghost use Rattle.swc_cover.specs.Below.{ElemsBelow, PropsBelow, PatElemsBelow, PatPropsBelow};
-ghost use Rattle.swc_cover.specs.PatTypes.{verdict_as};
-ghost use Rattle.swc_cover.specs.Roles.{kind_of};
 ghost use Rattle.swc_nodes.specs.Lists.{elem_tree, elem_trees, props_trees, pat_elem_trees, pat_props_trees};
 ghost use Rattle.swc_nodes.specs.NodeTree.{prop_of, pat_prop_of};
 ghost use Rattle.swc_nodes.specs.NodeParts.{expr_part, pat_part, flat, item_parts};

@@ -1,17 +1,14 @@
 // The names `eval` and `arguments` that parameters bind, which in strict code they may not (ECMA-262, 13.1.1 and
 // 15.3.1).
 ghost use Rattle.std.specs.Prelude.{◌≡◌, ◌++◌, ◌≤◌, not, ◌||◌, map, IfOk, OnOk};
-ghost use Rattle.swc_ast.specs.Parts.{or_hole};
-ghost use Rattle.swc_ast.specs.Tree.{trees};
+ghost use Rattle.swc_ast.specs.{Parts.or_hole, Tree.trees};
 ghost use Rattle.swc_cover.specs.Below.{PatElemFrom, PatPropFrom, PatElemsBelow, PatPropsBelow};
-ghost use Rattle.swc_cover.specs.Heads.{name_spans, reserved_spans, all_reserved, prop_reserved, props_reserved};
-ghost use Rattle.swc_cover.specs.Heads.{has_none, names_ok};
+ghost use Rattle.swc_cover.specs.Heads.{name_spans, reserved_spans, all_reserved, prop_reserved, props_reserved, has_none, names_ok};
 ghost use Rattle.swc_cover.specs.Noting.{name_error, names_bound, NotesStrict};
 ghost use Rattle.swc_input.specs.Buffer.{context, to_come};
-ghost use Rattle.swc_nodes.specs.Lists.{pat_elem_trees, pat_props_trees};
-ghost use Rattle.swc_nodes.specs.NodeTree.{pat_prop_of};
 ghost use Rattle.swc_nodes.specs.NodeParts.{pat_part, one_pat, flat};
 ghost use Rattle.swc_nodes.specs.GrowingNodes.{tree_at, Apart, From};
+ghost use Rattle.swc_nodes.specs.{Lists.pat_elem_trees, Lists.pat_props_trees, NodeTree.pat_prop_of};
 ghost use Rattle.swc_steps.specs.Parsing.{Checked};
 
 use std::alloc::AllocError;

@@ -2,11 +2,9 @@
 ghost use Rattle.std.specs.Prelude.{◌≡◌, ◌++◌, map, IfOk};
 ghost use Rattle.swc_ast.specs.Parts.{item_trees};
 ghost use Rattle.swc_cover.specs.Items.{item_due, listed, last_rest, want_items, AllMade};
-ghost use Rattle.swc_cover.specs.Moving.{KeptTo};
-ghost use Rattle.swc_cover.specs.Roles.{due};
-ghost use Rattle.swc_nodes.specs.NumberedTrees.{floor};
-ghost use Rattle.swc_nodes.specs.NodeParts.{flat, item_parts};
+ghost use Rattle.swc_cover.specs.{Moving.KeptTo, Roles.due};
 ghost use Rattle.swc_nodes.specs.GrowingNodes.{count, tree_at, seat_at, Apart};
+ghost use Rattle.swc_nodes.specs.{NumberedTrees.floor, NodeParts.flat, NodeParts.item_parts};
 
 use crate::making::span;
 use crate::moving::move_over;
@@ -27,7 +25,7 @@ pub struct Dotted {
     pub held: ExprId,
 }
 
-/// Makes patterns of items, and lets go of all after them, as `refine` does of one expression. All are taken from
+/// Makes patterns of items, and drops all after them, as `refine` does of one expression. All are taken from
 /// the end before the first is appended again. A spread that is the last becomes a rest; any other is dropped.
 pub fn refine_items<F: Spanned + Drop, C: Spanned + Drop, K: Spanned + Drop>(
     nodes: &mut Nodes<F, C, K>,

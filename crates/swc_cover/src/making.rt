@@ -2,14 +2,11 @@
 ghost use Rattle.std.specs.Prelude.{◌≡◌, ℕ, ◌<◌, ◌≤◌, true, IfOk};
 ghost use Rattle.swc_ast.specs.Tree.{span_of};
 ghost use Rattle.swc_cover.specs.Moving.{Stays};
-ghost use Rattle.swc_cover.specs.Roles.{becomes_in, ready, recast_in, new_form};
-ghost use Rattle.swc_cover.specs.Roles.{shallow_as, as_held, as_nothing, as_array, as_object, as_default};
-ghost use Rattle.swc_cover.specs.Nodes.{is_ident, is_array, is_object, is_assign, as_pats, with_default};
-ghost use Rattle.swc_cover.specs.Nodes.{as_pat_prop, as_pat_props, IsArray, IsPat, Adds, AddsItem};
-ghost use Rattle.swc_nodes.specs.Lists.{elem_parts};
-ghost use Rattle.swc_nodes.specs.NodeTree.{marked_tree};
+ghost use Rattle.swc_cover.specs.Roles.{becomes_in, ready, recast_in, new_form, shallow_as, as_held, as_nothing, as_array, as_object, as_default};
+ghost use Rattle.swc_cover.specs.Nodes.{is_ident, is_array, is_object, is_assign, as_pats, with_default, as_pat_prop, as_pat_props, IsArray, IsPat, Adds, AddsItem};
 ghost use Rattle.swc_nodes.specs.NodeParts.{slots, form, view_ok, expr, pat, other_pat, target_pat, pat_part};
 ghost use Rattle.swc_nodes.specs.GrowingNodes.{count, tree_at, Apart, From, Grows};
+ghost use Rattle.swc_nodes.specs.{Lists.elem_parts, NodeTree.marked_tree};
 
 use crate::role::{Becomes, Role, how};
 use std::alloc::{AllocError, Global};

@@ -2,9 +2,8 @@
 ghost use Rattle.std.specs.Prelude.{◌≡◌, true, map, IfOk};
 ghost use Rattle.swc_cover.specs.Moving.{IsLifted, KeptTo, MovedOver};
 ghost use Rattle.swc_cover.specs.Roles.{due, suit, part_of_due, refines, sought};
-ghost use Rattle.swc_nodes.specs.NumberedTrees.{floor};
-ghost use Rattle.swc_nodes.specs.NodeParts.{expr_part, pat_part};
 ghost use Rattle.swc_nodes.specs.GrowingNodes.{count, tree_at, seat_at, first_at, Apart, From, Left, Made};
+ghost use Rattle.swc_nodes.specs.{NumberedTrees.floor, NodeParts.expr_part, NodeParts.pat_part};
 
 use crate::making::make;
 use crate::numbers::set;
@@ -25,7 +24,7 @@ pub struct Lifted<F, C, K> {
     pub node: Node<F, C, K>,
 }
 
-/// Makes a pattern of an expression, and lets go of all after it. Nodes with numbers below all that is reached from
+/// Makes a pattern of an expression, and drops all after it. Nodes with numbers below all that is reached from
 /// the expression stay; it and what it holds are taken from the end, and appended again in their order.
 pub fn refine<F: Spanned + Drop, C: Spanned + Drop, K: Spanned + Drop>(
     nodes: &mut Nodes<F, C, K>,

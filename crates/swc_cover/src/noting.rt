@@ -2,16 +2,11 @@
 ghost use Rattle.std.specs.Prelude.{◌≡◌, ◌≢◌, ◌≤◌, true, false, None, IfErr, IsSome, OnOk};
 ghost use Rattle.swc_context.specs.declared.error.SyntaxError.TheVariants.{OutOfMemory};
 ghost use Rattle.swc_ast.specs.Trees.{is_valid, are_valid};
-ghost use Rattle.swc_cover.specs.Faults.{params_verdict};
-ghost use Rattle.swc_cover.specs.Fits.{Binding, elems_fit};
-ghost use Rattle.swc_cover.specs.Heads.{has_none};
 ghost use Rattle.swc_cover.specs.Noting.{errors_of, kind_is, JudgesBy};
-ghost use Rattle.swc_cover.specs.PatTypes.{fits_as, verdict_as};
-ghost use Rattle.swc_cover.specs.Clear.{is_clear};
 ghost use Rattle.swc_cover.specs.Refining.{ChecksWhole, Unfitting, items_at};
+ghost use Rattle.swc_cover.specs.{Faults.params_verdict, Fits.Binding, Fits.elems_fit, Heads.has_none, PatTypes.fits_as, PatTypes.verdict_as, Clear.is_clear};
 ghost use Rattle.swc_input.specs.Buffer.{context, current, to_come};
-ghost use Rattle.swc_input.specs.Kinds.{at_token};
-ghost use Rattle.swc_input.specs.Recordings.{NotesAll};
+ghost use Rattle.swc_input.specs.{Kinds.at_token, Recordings.NotesAll};
 ghost use Rattle.swc_grammar.specs.Clean.{no_error};
 ghost use Rattle.swc_nodes.specs.NodeParts.{expr_part, flat, item_parts};
 ghost use Rattle.swc_nodes.specs.GrowingNodes.{tree_at, Apart, From};

@@ -2,8 +2,7 @@
 ghost use Rattle.std.specs.Prelude.{◌≡◌};
 ghost use Rattle.swc_cover.specs.Checking.{way_of};
 ghost use Rattle.swc_cover.specs.PatTypes.{element_of, way_in, is_refined, stands_whole};
-ghost use Rattle.swc_nodes.specs.NodeParts.{expr_part};
-ghost use Rattle.swc_nodes.specs.GrowingNodes.{tree_at, From};
+ghost use Rattle.swc_nodes.specs.{NodeParts.expr_part, GrowingNodes.tree_at, GrowingNodes.From};
 
 use crate::checking::Way;
 use swc_ast::spanned::Spanned;

@@ -1,8 +1,7 @@
 // Expressions that become patterns (ECMA-262, 13.15.5 and 15.3).
 ghost use Rattle.std.specs.Prelude.{◌≡◌, IfOk};
 ghost use Rattle.swc_ast.specs.Tree.{pat_expr, node, nil, cons, span_of};
-ghost use Rattle.swc_cover.specs.Moving.{KeptTo};
-ghost use Rattle.swc_cover.specs.PatTypes.{role_for, want_as};
+ghost use Rattle.swc_cover.specs.{Moving.KeptTo, PatTypes.role_for, PatTypes.want_as};
 ghost use Rattle.swc_nodes.specs.NodeParts.{expr_part, pat_part};
 ghost use Rattle.swc_nodes.specs.GrowingNodes.{tree_at, first_at, From, Grows, Made};
 
@@ -14,7 +13,7 @@ use swc_ast::spanned::Spanned;
 use swc_nodes::node::{ExprId, Node, PatId};
 use swc_nodes::nodes::Nodes;
 
-/// Makes a pattern of an expression, and lets go of all after it. Nodes with numbers below all that is reached from
+/// Makes a pattern of an expression, and drops all after it. Nodes with numbers below all that is reached from
 /// the expression stay; it and what it holds are taken from the end, and appended again in their order.
 pub fn refine_pat<F: Spanned + Drop, C: Spanned + Drop, K: Spanned + Drop>(
     nodes: &mut Nodes<F, C, K>,

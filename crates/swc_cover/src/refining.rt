@@ -1,17 +1,13 @@
 // Expressions that were read become patterns: what is wrong of them is recorded, and their nodes are moved over.
 ghost use Rattle.std.specs.Prelude.{◌≡◌, ◌≢◌, ◌≤◌, ◌&&◌, true, false, IfOk, IfErr, OnOk};
 ghost use Rattle.swc_context.specs.declared.error.SyntaxError.TheVariants.{OutOfMemory};
-ghost use Rattle.swc_cover.specs.Clear.{is_clear};
-ghost use Rattle.swc_cover.specs.Faults.{params_verdict};
-ghost use Rattle.swc_cover.specs.Heads.{names_ok};
-ghost use Rattle.swc_cover.specs.Items.{want_items};
 ghost use Rattle.swc_cover.specs.Noting.{names_bound, JudgesBy, JudgesParams};
-ghost use Rattle.swc_cover.specs.PatTypes.{verdict_as};
+ghost use Rattle.swc_cover.specs.Refining.{Refined, Unrefined, RefinedItems, UnrefinedItems, items_at, pats_at};
+ghost use Rattle.swc_cover.specs.{Clear.is_clear, Faults.params_verdict, Heads.names_ok, Items.want_items, PatTypes.verdict_as};
 ghost use Rattle.swc_grammar.specs.Clean.{no_error};
 ghost use Rattle.swc_input.specs.Kinds.{at_token};
-ghost use Rattle.swc_steps.specs.Parsing.{Checks, seen};
-ghost use Rattle.swc_cover.specs.Refining.{Refined, Unrefined, RefinedItems, UnrefinedItems, items_at, pats_at};
 ghost use Rattle.swc_input.specs.Buffer.{context, current, to_come};
+ghost use Rattle.swc_steps.specs.Parsing.{Checks, seen};
 ghost use Rattle.swc_nodes.specs.NodeParts.{expr_part, flat, item_parts};
 ghost use Rattle.swc_nodes.specs.GrowingNodes.{tree_at, Apart, From};
 
@@ -29,7 +25,7 @@ use swc_nodes::node::{ExprId, PatId};
 use swc_steps::productions::Productions;
 
 /// Makes a pattern of an expression, and records what is wrong of it. Nodes with numbers below all that is reached from
-/// the expression stay; those after it are let go.
+/// the expression stay; those after it are dropped.
 pub fn reparse_expr_as_pat<I: Tokens, B: Bodies<I>>(
     p: &mut Productions<I, B>,
     pat_type: PatType,

@@ -1,7 +1,6 @@
 // What becomes of a node that is taken from the end of the nodes and appended again.
 ghost use Rattle.std.specs.Prelude.{◌≡◌, ◌++◌, true, map, get_or, IfOk};
-ghost use Rattle.swc_cover.specs.Roles.{becomes_in, child_role, due, dues, dues_in, ready, kept, rest_role};
-ghost use Rattle.swc_cover.specs.Roles.{places, prop_places, pat_prop_places};
+ghost use Rattle.swc_cover.specs.Roles.{becomes_in, child_role, due, dues, dues_in, ready, kept, rest_role, places, prop_places, pat_prop_places};
 ghost use Rattle.swc_nodes.specs.NodeParts.{flat, form, view_ok, expr, pat};
 ghost use Rattle.swc_nodes.specs.Walking.{part_of};
 

@@ -1,67 +1,33 @@
 -- The parameters of an arrow function (ECMA-262, 13.2.9 and 15.3), from what the code reads to what is promised of them.
-use Rattle.std.proofs.Common.{◌≡◌, ◌≢◌, ℕ, Bool, true, false, ◌&&◌, if◌then◌else◌, List, [], ◌∷◌, ◌++◌, Option, Some, None}
-use Rattle.std.proofs.Common.{Result, Ok, Err, IfOk, IfErr, map, refl, sym, ap, subst, ◌∙◌}
-use Rattle.std.specs.declared.alloc.Global.{Global}
-use Rattle.std.specs.declared.vec.Vec.{Vec}
-use Rattle.swc_context.specs.declared.error.Error.{Error}
-use Rattle.swc_context.specs.declared.error.SyntaxError.TheVariants.{OutOfMemory}
-use Rattle.swc_context.specs.declared.span.Span.{Span}
-use Rattle.swc_input.specs.declared.buffer.Buffer.{Buffer}
-use Rattle.swc_input.specs.declared.token.TokenAndSpan.{TokenAndSpan}
-use Rattle.swc_input.specs.Buffer.{context}
-use Rattle.swc_input.specs.Source.{Model}
+use Rattle.std.proofs.Common.{◌≡◌, ◌≢◌, ℕ, Bool, true, false, ◌&&◌, if◌then◌else◌, List, [], ◌∷◌, ◌++◌, Option, Some, None, Result, Ok, Err, IfOk, IfErr, map, refl, sym, ap, subst, ◌∙◌}
+use Rattle.std.specs.{declared.alloc.Global.Global, declared.vec.Vec.Vec}
+use Rattle.swc_context.specs.{declared.error.Error.Error, declared.error.SyntaxError.TheVariants.OutOfMemory, declared.span.Span.Span}
+use Rattle.swc_input.specs.{declared.buffer.Buffer.Buffer, declared.token.TokenAndSpan.TokenAndSpan, Buffer.context, Source.Model}
 use Rattle.swc_ast.specs.Tree.{Tree, node, Trees, args, no_span, span_of, trees}
 use Rattle.swc_ast.specs.Trees.{to, comma_of, items_of, listed, unmarked}
-use Rattle.swc_ast.specs.declared.expr.ExprOrSpread.{ExprOrSpread}
-use Rattle.swc_ast.specs.declared.spanned.Spanned.{Ghosts}
+use Rattle.swc_ast.specs.{declared.expr.ExprOrSpread.ExprOrSpread, declared.spanned.Spanned.Ghosts}
 use Rattle.swc_bodies.specs.Readings.{Hook, LawfulHook}
 use Rattle.swc_grammar.specs.Clean.{Out, and_then, exec, plan, sym as at, run}
-use Rattle.swc_grammar.specs.Cover.{as_params, heads_ok}
-use Rattle.swc_grammar.specs.Grammar.{heads}
-use Rattle.swc_grammar.specs.Patterns.{any, all_bind_names}
 use Rattle.swc_grammar.specs.Reads.{Reads, by, took, held, part}
 use Rattle.swc_grammar.specs.Rule.{gives, check, given, ◌>>=◌ as ◌▸◌}
-use Rattle.swc_grammar.specs.Scope.{Scope}
 use Rattle.swc_grammar.specs.Symbols.{Args, Arguments, Heads, Side}
-use Rattle.swc_grammar.specs.Tokens.{is_lparen, with_in}
-use Rattle.swc_grammar.specs.Words.{◌>>=◌}
-use Rattle.swc_grammar.proofs.Induct.{gives-given, gives-side}
-use Rattle.swc_grammar.proofs.Knot.{knot}
-use Rattle.swc_grammar.proofs.MarkedBinds.{all-same-binds}
-use Rattle.swc_grammar.proofs.Meets.{all-meet}
+use Rattle.swc_grammar.specs.{Cover.as_params, Cover.heads_ok, Grammar.heads, Patterns.any, Patterns.all_bind_names, Scope.Scope, Tokens.is_lparen, Tokens.with_in, Words.◌>>=◌}
+use Rattle.swc_grammar.proofs.{Induct.gives-given, Induct.gives-side, Knot.knot, MarkedBinds.all-same-binds, Meets.all-meet}
 use Rattle.swc_nodes.specs.Commas.{commas_in, commas_of_all, part_commas}
 use Rattle.swc_nodes.specs.GrowingNodes.{count, seat_at, Apart, Grows}
-use Rattle.swc_nodes.specs.Lists.{pats_parts}
 use Rattle.swc_nodes.specs.NodeParts.{args_parts, flat, one_pat}
-use Rattle.swc_nodes.specs.declared.node.ExprId.{ExprId}
-use Rattle.swc_nodes.specs.declared.node.PatId.{PatId}
-use Rattle.swc_nodes.specs.declared.nodes.Nodes.{Nodes}
+use Rattle.swc_nodes.specs.{Lists.pats_parts, declared.node.ExprId.ExprId, declared.node.PatId.PatId, declared.nodes.Nodes.Nodes}
 use Rattle.swc_nodes.proofs.Chains.{floor-above}
-use Rattle.swc_cover.specs.Clear.{is_clear}
-use Rattle.swc_cover.specs.Faults.{params_verdict}
-use Rattle.swc_cover.specs.Fits.{Binding, elems_fit}
-use Rattle.swc_cover.specs.Heads.{names_ok}
-use Rattle.swc_cover.specs.Items.{want_items}
 use Rattle.swc_cover.specs.Refining.{RefinedItems, UnrefinedItems, items_at, pats_at, takes_heads}
-use Rattle.swc_cover.proofs.Bound.{params-are}
-use Rattle.swc_cover.proofs.Clear.{clear-items}
-use Rattle.swc_cover.proofs.Kept.{grows-kept}
+use Rattle.swc_cover.specs.{Clear.is_clear, Faults.params_verdict, Fits.Binding, Fits.elems_fit, Heads.names_ok, Items.want_items}
+use Rattle.swc_cover.proofs.{Bound.params-are, Clear.clear-items, Kept.grows-kept}
 use Rattle.swc_arrows.specs.Readers.{takes_params}
 use Rattle.swc_arrows.proofs.ListLaws.{Refines, refines_at}
-use Rattle.swc_steps.specs.Args.{args_inside, counted}
-use Rattle.swc_steps.specs.Keys.{expected}
 use Rattle.swc_steps.specs.Parsing.{scope, args_at, Checks, Heard, On, Produces, Refuses, Unheard}
-use Rattle.swc_steps.specs.declared.productions.Productions.{Productions}
-use Rattle.swc_steps.specs.declared.tokens.Listed.{Listed}
-use Rattle.swc_steps.proofs.Building.{apart-down, apart-lower}
-use Rattle.swc_steps.proofs.Endings.{read-valid}
-use Rattle.swc_steps.proofs.Keys.{then_token}
-use Rattle.swc_steps.proofs.Lists.{bind_same, binds}
+use Rattle.swc_steps.specs.{Args.args_inside, Args.counted, Keys.expected, declared.productions.Productions.Productions, declared.tokens.Listed.Listed}
+use Rattle.swc_steps.proofs.{Building.apart-down, Building.apart-lower, Endings.read-valid, Keys.then_token, Lists.bind_same, Lists.binds, Steps.Reader, Steps.give, Steps.Calls.on_call_read, Steps.Tokens.heard_then}
 use Rattle.swc_steps.proofs.Making as making
 use Rattle.swc_steps.proofs.Steps as steps
-use Rattle.swc_steps.proofs.Steps.{Reader, give}
-use Rattle.swc_steps.proofs.Steps.Calls.{on_call_read}
-use Rattle.swc_steps.proofs.Steps.Tokens.{heard_then}
 use Rattle.swc_productions.proofs.ByThemselves.{args_counted, arguments_splits}
 use Rattle.swc_ecma_parser.specs.Heads.{heads_at, heads_items, heads_of}
 use Rattle.swc_ecma_parser.specs.Promise.{keep_items, only_items}

@@ -1,50 +1,27 @@
 -- From what is read of the parameters of an arrow function to what is promised of them.
 use Rattle.std.proofs.Common.{◌≡◌, ◌≢◌, ℕ, Bool, true, List, [], Some, Result, Ok, Err, OnOk, MatchResult, refl, sym, ap, ◌∙◌}
-use Rattle.std.specs.declared.alloc.Global.{Global}
-use Rattle.std.specs.declared.vec.Vec.{Vec}
-use Rattle.swc_context.specs.declared.error.Error.{Error}
-use Rattle.swc_context.specs.declared.error.SyntaxError.TheVariants.{OutOfMemory}
-use Rattle.swc_input.specs.declared.buffer.Buffer.{Buffer}
-use Rattle.swc_input.specs.declared.token.TokenAndSpan.{TokenAndSpan}
-use Rattle.swc_input.specs.Buffer.{last_position}
-use Rattle.swc_input.specs.Recording.{no_memory}
-use Rattle.swc_input.specs.Source.{Model}
+use Rattle.std.specs.{declared.alloc.Global.Global, declared.vec.Vec.Vec}
+use Rattle.swc_context.specs.{declared.error.Error.Error, declared.error.SyntaxError.TheVariants.OutOfMemory, declared.span.Span.Span}
+use Rattle.swc_input.specs.{declared.buffer.Buffer.Buffer, declared.token.TokenAndSpan.TokenAndSpan, Buffer.last_position, Recording.no_memory, Source.Model}
 use Rattle.swc_ast.specs.Tree.{Tree, node, args, no_span}
-use Rattle.swc_ast.specs.Trees.{items_of, unmarked}
-use Rattle.swc_ast.specs.TreeOf.{pat_tree}
-use Rattle.swc_ast.specs.declared.pat.Pat.{Pat as PatOf}
-use Rattle.swc_ast.specs.declared.spanned.Spanned.{Ghosts}
+use Rattle.swc_ast.specs.{Trees.items_of, Trees.unmarked, TreeOf.pat_tree, declared.pat.Pat.Pat as PatOf, declared.spanned.Spanned.Ghosts}
 use Rattle.swc_bodies.specs.Readings.{Hook, LawfulHook}
-use Rattle.swc_context.specs.declared.span.Span.{Span}
-use Rattle.swc_grammar.specs.Clean.{sym as at, run}
-use Rattle.swc_grammar.specs.Patterns.{any, all_bind_names}
-use Rattle.swc_grammar.specs.Scope.{Scope}
-use Rattle.swc_grammar.specs.Symbols.{Heads}
-use Rattle.swc_grammar.specs.Words.{◌>>=◌}
+use Rattle.swc_grammar.specs.{Clean.sym as at, Clean.run, Patterns.any, Patterns.all_bind_names, Scope.Scope, Symbols.Heads, Words.◌>>=◌}
 use Rattle.swc_grammar.proofs.Complete as clean_all
 use Rattle.swc_grammar.proofs.Cut.{cut-append}
 use Rattle.swc_grammar.proofs.Sound as clean
-use Rattle.swc_nodes.specs.Commas.{part_commas, Recalls}
 use Rattle.swc_nodes.specs.GrowingNodes.{tree_at, bare_at, CutTo}
-use Rattle.swc_nodes.specs.Lists.{pats_parts}
-use Rattle.swc_nodes.specs.declared.commas.TrailingCommas.{TrailingCommas}
-use Rattle.swc_nodes.specs.declared.node.PatId.{PatId}
-use Rattle.swc_nodes.specs.declared.nodes.Nodes.{Nodes}
+use Rattle.swc_nodes.specs.{Commas.part_commas, Commas.Recalls, Lists.pats_parts, declared.commas.TrailingCommas.TrailingCommas, declared.node.PatId.PatId, declared.nodes.Nodes.Nodes}
 use Rattle.swc_steps.specs.Parsing.{scope, Parses}
 use Rattle.swc_steps.proofs.Steps.{Reader}
 use Rattle.swc_verifier.proofs.Left.{pats-left}
-use Rattle.swc_ecma_parser.specs.Calls.{pats_tree, Kept}
-use Rattle.swc_ecma_parser.specs.Finishing.{parts_done, ChecksAnswer}
-use Rattle.swc_ecma_parser.specs.Heads.{heads_at, heads_items}
 use Rattle.swc_ecma_parser.specs.Promise.{BoundItems, EndsAt, Finished, RemembersAll, ReadsAs, Sound, covers_done, keep_items, only_items}
+use Rattle.swc_ecma_parser.specs.{Calls.pats_tree, Calls.Kept, Finishing.parts_done, Finishing.ChecksAnswer, Heads.heads_at, Heads.heads_items}
 use Rattle.swc_ecma_parser.proofs.ArrowParams.{items-bare, items-bind, items-bind-marked, pats-commas}
-use Rattle.swc_ecma_parser.proofs.Finished.{checked, finished-complete, finished-derives, finished-parses, finished-sound, finished-well}
-use Rattle.swc_ecma_parser.proofs.Finished.{meets-checked, parts-told, parts-told-bare}
+use Rattle.swc_ecma_parser.proofs.Finished.{checked, finished-complete, finished-derives, finished-parses, finished-sound, finished-well, meets-checked, parts-told, parts-told-bare}
 use Rattle.swc_ecma_parser.proofs.Moving.{kept-moved, kept-parses, moved-parses, recalled-by}
-use Rattle.swc_ecma_parser.proofs.Placed.{heads-kept-placed, heads-placed}
-use Rattle.swc_ecma_parser.proofs.Refined.{pats-bare}
-use Rattle.swc_ecma_parser.proofs.Top.{IsSound, IsComplete, Leaves, Meets, bare, is_sound_as, items_grouped, items_valid, leaves-items, meets, stripped_from}
-use Rattle.swc_ecma_parser.proofs.Top.{well_as}
+use Rattle.swc_ecma_parser.proofs.Top.{IsSound, IsComplete, Leaves, Meets, bare, is_sound_as, items_grouped, items_valid, leaves-items, meets, stripped_from, well_as}
+use Rattle.swc_ecma_parser.proofs.{Placed.heads-kept-placed, Placed.heads-placed, Refined.pats-bare}
 
 module _ {F C K : Type 0} {fun_at : F → Span} {class_at : C → Span} {block_at : K → Span} (hook : Hook F C K)
     (laws : LawfulHook fun_at class_at block_at hook) where

@@ -1,46 +1,24 @@
 -- Trees in boxes have no marks of commas.
 use Rattle.std.proofs.Common.{◌≡◌, Bool, List, [], ◌∷◌, ◌++◌, Option, Some, None, map, refl, sym, ap, subst, ◌∙◌}
-use Rattle.std.specs.declared.alloc.Global.{Global}
-use Rattle.std.specs.declared.boxed.Box.{Box}
-use Rattle.std.specs.declared.vec.Vec.{Vec}
+use Rattle.std.specs.{declared.alloc.Global.Global, declared.boxed.Box.Box, declared.vec.Vec.Vec}
 use Rattle.swc_context.specs.declared.span.Span.{Span}
-use Rattle.swc_ast.specs.Parts.{or_hole, item_of, item_tree, quasi_tree}
-use Rattle.swc_ast.specs.Parts.{lit_tree, param_tree}
+use Rattle.swc_ast.specs.Parts.{or_hole, item_of, item_tree, quasi_tree, lit_tree, param_tree}
 use Rattle.swc_ast.specs.Tree.{Kind, Tree, Trees, node, nil, cons, trees, param}
 use Rattle.swc_ast.specs.TreeOf.{expr_tree, target_tree, pat_prop_tree, pat_tree, prop_tree, prop_or_spread_tree, boxed_tree}
 use Rattle.swc_ast.specs.Trees.{unmarked, unmarked_kind, all_unmarked}
 use Rattle.swc_ast.specs.declared.expr.AssignTarget.{AssignTarget, AssignTarget-F, map-AssignTarget, roll-AssignTarget}
-use Rattle.swc_ast.specs.declared.expr.AssignTarget.TheFolds.{ind-Expr}
+use Rattle.swc_ast.specs.declared.expr.Expr.{Expr, Expr-F, map-Expr, roll-Expr}
+use Rattle.swc_ast.specs.declared.pat.ObjectPatProp.{ObjectPatProp, ObjectPatProp-F, map-ObjectPatProp, roll-ObjectPatProp}
+use Rattle.swc_ast.specs.declared.pat.Pat.{Pat, Pat-F, map-Pat, roll-Pat}
+use Rattle.swc_ast.specs.declared.prop.Prop.{Prop, Prop-F, map-Prop, roll-Prop}
+use Rattle.swc_ast.specs.declared.prop.PropOrSpread.{PropOrSpread, PropOrSpread-F, map-PropOrSpread, roll-PropOrSpread}
+use Rattle.swc_ast.specs.{declared.expr.AssignTarget.TheFolds.ind-Expr, declared.expr.BlockStmtOrExpr.BlockStmtOrExpr, declared.expr.BlockStmtOrExpr.BlockStmtOrExpr as body, declared.expr.Callee.Callee as callee, declared.expr.ExprOrSpread.ExprOrSpread, declared.expr.MemberExpr.MemberExpr, declared.expr.MemberProp.MemberProp, declared.expr.MemberProp.MemberProp as member_prop, declared.expr.OptChainBase.OptChainBase, declared.expr.OptChainBase.OptChainBase as base, declared.expr.OptChainExpr.OptChainExpr, declared.expr.SimpleAssignTarget.SimpleAssignTarget as simple, declared.expr.SuperProp.SuperProp, declared.expr.SuperProp.SuperProp as super_part, declared.expr.SuperPropExpr.SuperPropExpr, declared.expr.TplElement.TplElement, declared.function.Param.Param, declared.lit.Lit.Lit, declared.lit.Lit.Lit as lit, declared.prop.PropName.PropName as prop_name}
 use Rattle.swc_ast.specs.declared.expr.AssignTarget.TheOpen as o
 use Rattle.swc_ast.specs.declared.expr.AssignTarget.TheVariants as target
-use Rattle.swc_ast.specs.declared.expr.BlockStmtOrExpr.{BlockStmtOrExpr}
-use Rattle.swc_ast.specs.declared.expr.BlockStmtOrExpr.TheVariants as body
-use Rattle.swc_ast.specs.declared.expr.Callee.TheVariants as callee
-use Rattle.swc_ast.specs.declared.expr.Expr.{Expr, Expr-F, map-Expr, roll-Expr}
 use Rattle.swc_ast.specs.declared.expr.Expr.TheVariants as expr
-use Rattle.swc_ast.specs.declared.expr.ExprOrSpread.{ExprOrSpread}
-use Rattle.swc_ast.specs.declared.expr.MemberExpr.{MemberExpr}
-use Rattle.swc_ast.specs.declared.expr.MemberProp.{MemberProp}
-use Rattle.swc_ast.specs.declared.expr.MemberProp.TheVariants as member_prop
-use Rattle.swc_ast.specs.declared.expr.OptChainBase.{OptChainBase}
-use Rattle.swc_ast.specs.declared.expr.OptChainBase.TheVariants as base
-use Rattle.swc_ast.specs.declared.expr.OptChainExpr.{OptChainExpr}
-use Rattle.swc_ast.specs.declared.expr.SimpleAssignTarget.TheVariants as simple
-use Rattle.swc_ast.specs.declared.expr.SuperProp.{SuperProp}
-use Rattle.swc_ast.specs.declared.expr.SuperProp.TheVariants as super_part
-use Rattle.swc_ast.specs.declared.expr.SuperPropExpr.{SuperPropExpr}
-use Rattle.swc_ast.specs.declared.expr.TplElement.{TplElement}
-use Rattle.swc_ast.specs.declared.function.Param.{Param}
-use Rattle.swc_ast.specs.declared.lit.Lit.{Lit}
-use Rattle.swc_ast.specs.declared.lit.Lit.TheVariants as lit
-use Rattle.swc_ast.specs.declared.pat.ObjectPatProp.{ObjectPatProp, ObjectPatProp-F, map-ObjectPatProp, roll-ObjectPatProp}
 use Rattle.swc_ast.specs.declared.pat.ObjectPatProp.TheVariants as pat_prop
-use Rattle.swc_ast.specs.declared.pat.Pat.{Pat, Pat-F, map-Pat, roll-Pat}
 use Rattle.swc_ast.specs.declared.pat.Pat.TheVariants as pat
-use Rattle.swc_ast.specs.declared.prop.Prop.{Prop, Prop-F, map-Prop, roll-Prop}
 use Rattle.swc_ast.specs.declared.prop.Prop.TheVariants as prop
-use Rattle.swc_ast.specs.declared.prop.PropName.TheVariants as prop_name
-use Rattle.swc_ast.specs.declared.prop.PropOrSpread.{PropOrSpread, PropOrSpread-F, map-PropOrSpread, roll-PropOrSpread}
 use Rattle.swc_ast.specs.declared.prop.PropOrSpread.TheVariants as either
 use Rattle.swc_ast.proofs.Equations as eq
 use Rattle.swc_trees.proofs.Leaves as leaf_eq

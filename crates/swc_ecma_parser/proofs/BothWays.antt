@@ -1,51 +1,24 @@
 -- From what the two calls promise to the law of the cover grammar and its converse.
-use Rattle.std.proofs.Common.{◌≡◌, ℕ, Bool, true, false, not, ◌||◌, List, [], ◌∷◌, ◌++◌, Option, Some, None, Result, Ok, Err}
-use Rattle.std.proofs.Common.{IfOk, MatchResult, map, refl, sym, ap, subst, ◌∙◌}
-use Rattle.std.specs.declared.alloc.Global.{Global}
-use Rattle.std.specs.declared.vec.Vec.{Vec}
-use Rattle.swc_context.specs.Contexts.{view}
-use Rattle.swc_context.specs.declared.context.Context.{Context}
-use Rattle.swc_context.specs.declared.context.EsVersion.{EsVersion}
-use Rattle.swc_context.specs.declared.context.Syntax.{Syntax}
-use Rattle.swc_context.specs.declared.error.Error.{Error}
-use Rattle.swc_context.specs.declared.error.SyntaxError.TheVariants.{OutOfMemory}
+use Rattle.std.proofs.Common.{◌≡◌, ℕ, Bool, true, false, not, ◌||◌, List, [], ◌∷◌, ◌++◌, Option, Some, None, Result, Ok, Err, IfOk, MatchResult, map, refl, sym, ap, subst, ◌∙◌}
+use Rattle.std.specs.{declared.alloc.Global.Global, declared.vec.Vec.Vec}
+use Rattle.swc_context.specs.{Contexts.view, declared.context.Context.Context, declared.context.EsVersion.EsVersion, declared.context.Syntax.Syntax, declared.error.Error.Error, declared.error.SyntaxError.TheVariants.OutOfMemory}
 use Rattle.swc_input.specs.Buffer as buffer
 use Rattle.swc_input.specs.Buffer.{Known, held, last_position, source}
-use Rattle.swc_input.specs.Kinds.{at_token}
-use Rattle.swc_input.specs.Laws.{Known-after, Known-Future}
 use Rattle.swc_input.specs.Listed.{listed_model, listed_laws, listed_state, new_state}
-use Rattle.swc_input.specs.Source.{Model}
-use Rattle.swc_input.specs.declared.buffer.Buffer.{Buffer}
-use Rattle.swc_input.specs.declared.listed.TokensInput.{TokensInput}
-use Rattle.swc_input.specs.declared.token.TokenAndSpan.{TokenAndSpan}
-use Rattle.swc_ast.specs.Pedantic.{none_left}
-use Rattle.swc_ast.specs.Tree.{Tree, node, Trees, nil, cons, erase, erase_all, no_span, args, trees}
-use Rattle.swc_ast.specs.Tree.{args_with, array_with, object_with}
+use Rattle.swc_input.specs.{Kinds.at_token, Laws.Known-after, Laws.Known-Future, Source.Model, declared.buffer.Buffer.Buffer, declared.listed.TokensInput.TokensInput, declared.token.TokenAndSpan.TokenAndSpan}
+use Rattle.swc_ast.specs.Tree.{Tree, node, Trees, nil, cons, erase, erase_all, no_span, args, trees, args_with, array_with, object_with}
 use Rattle.swc_ast.specs.Trees.{items_of, listed, unmarked, unmarked_kind, all_unmarked}
-use Rattle.swc_ast.specs.declared.function.Param.{Param}
-use Rattle.swc_ast.specs.declared.pat.Pat.{Pat}
-use Rattle.swc_ast.specs.declared.spanned.Spanned.{Ghosts}
+use Rattle.swc_ast.specs.{Pedantic.none_left, declared.function.Param.Param, declared.pat.Pat.Pat, declared.spanned.Spanned.Ghosts}
 use Rattle.swc_bodies.specs.Readings.{Hook}
-use Rattle.swc_grammar.specs.Clean.{first}
-use Rattle.swc_grammar.specs.Patterns.{all_bind_names}
-use Rattle.swc_grammar.specs.Reads.{Reads, ReadsUnmarked}
-use Rattle.swc_grammar.specs.Scope.{Scope}
-use Rattle.swc_grammar.specs.Symbols.{Heads, Params}
-use Rattle.swc_grammar.specs.Tokens.{is_lparen, is_rparen}
-use Rattle.swc_grammar.specs.Words.{rest}
+use Rattle.swc_grammar.specs.{Clean.first, Patterns.all_bind_names, Reads.Reads, Reads.ReadsUnmarked, Scope.Scope, Symbols.Heads, Symbols.Params, Tokens.is_lparen, Tokens.is_rparen, Words.rest}
 use Rattle.swc_grammar.proofs.MarkedBinds.{all-same-binds}
 use Rattle.swc_laws.specs.Bound.{Spelled, is_free_name, is_kept_name}
-use Rattle.swc_laws.proofs.ConverseLaw.{converse-heads}
-use Rattle.swc_laws.proofs.CoverLaw.{heads-cover}
-use Rattle.swc_laws.proofs.PedanticTrees.{all-covers-erased}
+use Rattle.swc_laws.proofs.{ConverseLaw.converse-heads, CoverLaw.heads-cover, PedanticTrees.all-covers-erased}
 use Rattle.swc_steps.specs.Parsing.{scope, scope_of}
-use Rattle.swc_ecma_parser.specs.BothWays.{ConverseLaw, CoverLaw, Fresh, Left, Same, StandsBefore, faults}
-use Rattle.swc_ecma_parser.specs.BothWays.{patterns, param_patterns}
+use Rattle.swc_ecma_parser.specs.BothWays.{ConverseLaw, CoverLaw, Fresh, Left, Same, StandsBefore, faults, patterns, param_patterns}
 use Rattle.swc_ecma_parser.specs.Calls.{buffer_of, has_failed, with_bound}
-use Rattle.swc_ecma_parser.specs.Promise.{Finished, Promised, PromisedParams, ReadsAs, ClosedBy, covers_done, heads_in_boxes}
-use Rattle.swc_ecma_parser.specs.Promise.{items_done, only_items, params_in_boxes}
-use Rattle.swc_ecma_parser.specs.WholeList.{plain_list, IsHeeded}
-use Rattle.swc_ecma_parser.specs.declared.parser.Parser.{Parser}
+use Rattle.swc_ecma_parser.specs.Promise.{Finished, Promised, PromisedParams, ReadsAs, ClosedBy, covers_done, heads_in_boxes, items_done, only_items, params_in_boxes}
+use Rattle.swc_ecma_parser.specs.{WholeList.plain_list, WholeList.IsHeeded, declared.parser.Parser.Parser}
 use Rattle.swc_ecma_parser.proofs.WholeList.{fresh-known, fresh-loud}
 
 -- ---- trees without places, and without marks

@@ -1,14 +1,10 @@
 -- From what is recorded of the cover names that are left in an item to what a look through the item does.
-use Rattle.std.proofs.Common.{◌≡◌, ◌≤◌, ◌<◌, Bool, true, false, List, [], ◌∷◌, ◌++◌, Result, Ok, Err, IsOk, IfErr, OnOk, length}
-use Rattle.std.proofs.Common.{refl, sym, ap, subst, ◌∙◌, arith, length-append}
-use Rattle.swc_context.specs.declared.error.Error.{Error}
-use Rattle.swc_context.specs.declared.span.Span.{Span}
+use Rattle.std.proofs.Common.{◌≡◌, ◌≤◌, ◌<◌, Bool, true, false, List, [], ◌∷◌, ◌++◌, Result, Ok, Err, IsOk, IfErr, OnOk, length, refl, sym, ap, subst, ◌∙◌, arith, length-append}
+use Rattle.swc_context.specs.{declared.error.Error.Error, declared.span.Span.Span}
 use Rattle.swc_input.specs.Buffer.{Lives, Read, ReadSome, current, last_position, state_of}
 use Rattle.swc_input.specs.Recording.{error_here, error_list, is_silent, no_memory, Recorded}
 use Rattle.swc_input.specs.Source.{Keeps, Laws, Model}
-use Rattle.swc_input.specs.declared.buffer.Buffer.{Buffer}
-use Rattle.swc_input.specs.declared.token.TokenAndSpan.{TokenAndSpan}
-use Rattle.swc_input.specs.Recordings.{RecordsAll}
+use Rattle.swc_input.specs.{declared.buffer.Buffer.Buffer, declared.token.TokenAndSpan.TokenAndSpan, Recordings.RecordsAll}
 use Rattle.swc_verifier.specs.Faults.{cover_faults}
 use Rattle.swc_steps.specs.Parsing.{recorded, Checks}
 use Rattle.swc_steps.proofs.Steps.{check_passes}

@@ -1,10 +1,8 @@
 -- What a look for the end tells.
 use Rattle.std.proofs.Common.{◌≡◌, Bool, true, false, None, Result, Ok, Err, IfOk, IfErr, IsSome}
 use Rattle.swc_context.specs.declared.error.Error.{Error}
-use Rattle.swc_input.specs.declared.buffer.Buffer.{Buffer}
-use Rattle.swc_input.specs.Source.{Model}
 use Rattle.swc_input.specs.Buffer.{Looked, current, last_position, state_of}
-use Rattle.swc_input.specs.Recording.{no_memory}
+use Rattle.swc_input.specs.{declared.buffer.Buffer.Buffer, Source.Model, Recording.no_memory}
 use Rattle.swc_steps.specs.Parsing.{Looks}
 use Rattle.swc_ecma_parser.specs.Calls.{SeesEnd}
 

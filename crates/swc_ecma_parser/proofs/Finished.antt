@@ -1,34 +1,16 @@
 -- Readings that are finished: no cover name is left in what they give, where the syntax is pedantic. From an answer that was looked
 -- through for such names to what is promised of it.
-use Rattle.std.proofs.Common.{◌≡◌, ◌≢◌, ℕ, Bool, true, false, not, ◌||◌, if◌then◌else◌, List, [], ◌∷◌, Option, Some, None}
-use Rattle.std.proofs.Common.{Result, Ok, Err, IfOk, OnOk, MatchResult, refl, sym, ap, subst, ◌∙◌}
-use Rattle.swc_context.specs.declared.error.Error.{Error}
-use Rattle.swc_context.specs.declared.error.SyntaxError.TheVariants.{OutOfMemory}
-use Rattle.swc_context.specs.declared.span.Span.{Span}
-use Rattle.swc_input.specs.Buffer.{last_position}
-use Rattle.swc_input.specs.Recording.{no_memory}
-use Rattle.swc_input.specs.Source.{Model}
-use Rattle.swc_input.specs.declared.buffer.Buffer.{Buffer}
-use Rattle.swc_input.specs.declared.token.TokenAndSpan.{TokenAndSpan}
-use Rattle.swc_ast.specs.Parts.{args_tree}
-use Rattle.swc_ast.specs.Pedantic.{no_cover_left}
-use Rattle.swc_ast.specs.Tree.{Tree}
-use Rattle.swc_ast.specs.Trees.{unmarked}
-use Rattle.swc_ast.specs.declared.expr.ExprOrSpread.{ExprOrSpread}
-use Rattle.swc_ast.specs.declared.spanned.Spanned.{Ghosts}
+use Rattle.std.proofs.Common.{◌≡◌, ◌≢◌, ℕ, Bool, true, false, not, ◌||◌, if◌then◌else◌, List, [], ◌∷◌, Option, Some, None, Result, Ok, Err, IfOk, OnOk, MatchResult, refl, sym, ap, subst, ◌∙◌}
+use Rattle.swc_context.specs.{declared.error.Error.Error, declared.error.SyntaxError.TheVariants.OutOfMemory, declared.span.Span.Span}
+use Rattle.swc_input.specs.{Buffer.last_position, Recording.no_memory, Source.Model, declared.buffer.Buffer.Buffer, declared.token.TokenAndSpan.TokenAndSpan}
+use Rattle.swc_ast.specs.{Parts.args_tree, Pedantic.no_cover_left, Tree.Tree, Trees.unmarked, declared.expr.ExprOrSpread.ExprOrSpread, declared.spanned.Spanned.Ghosts}
 use Rattle.swc_bodies.specs.Readings.{Hook, LawfulHook}
 use Rattle.swc_grammar.specs.Clean.{Out, sym as at, run}
+use Rattle.swc_grammar.specs.{Scope.Scope, Symbols.Symbol, Words.◌>>=◌}
 use Rattle.swc_grammar.specs.Reads as grammar
-use Rattle.swc_grammar.specs.Scope.{Scope}
-use Rattle.swc_grammar.specs.Symbols.{Symbol}
-use Rattle.swc_grammar.specs.Words.{◌>>=◌}
 use Rattle.swc_nodes.specs.Commas.{commas_in, part_commas, Recalls}
-use Rattle.swc_nodes.specs.GrowingNodes.{tree_at}
 use Rattle.swc_nodes.specs.NodeParts.{Part, args_parts, one_expr, one_pat}
-use Rattle.swc_nodes.specs.declared.commas.TrailingCommas.{TrailingCommas}
-use Rattle.swc_nodes.specs.declared.node.ExprId.{ExprId}
-use Rattle.swc_nodes.specs.declared.node.PatId.{PatId}
-use Rattle.swc_nodes.specs.declared.nodes.Nodes.{Nodes}
+use Rattle.swc_nodes.specs.{GrowingNodes.tree_at, declared.commas.TrailingCommas.TrailingCommas, declared.node.ExprId.ExprId, declared.node.PatId.PatId, declared.nodes.Nodes.Nodes}
 use Rattle.swc_laws.proofs.PedanticTrees.{covers-unmarked}
 use Rattle.swc_verifier.specs.CoverNames.{covers_left, parts_covers_left}
 use Rattle.swc_verifier.proofs.Left.{args-left, expr-left, none-has, nowhere, pat-left}
@@ -38,10 +20,8 @@ use Rattle.swc_steps.specs.Parsing.{scope, args_at, tree_of, Heard, Parses, Unhe
 use Rattle.swc_steps.proofs.Steps.{Reader, give, forgoes_later, heard_more, on_checked_in, unheard_call, unheard_memory}
 use Rattle.swc_ecma_parser.specs.Finishing.{no_places, parts_done, ChecksAnswer}
 use Rattle.swc_ecma_parser.specs.Promise.{Derivation, EndsAt, Finished, ReadsAs, RemembersAll, covers_done, only_items}
-use Rattle.swc_ecma_parser.proofs.Moving.{recalled-by}
-use Rattle.swc_ecma_parser.proofs.Placed.{PrivatesLeft}
-use Rattle.swc_ecma_parser.proofs.Top.{IsSound, IsComplete, Leaves, Meets, Stopping, Well, bare, stripped, is_complete, is_complete_as}
-use Rattle.swc_ecma_parser.proofs.Top.{is_complete_bare, is_sound, is_sound_as, is_sound_bare, meets, well, well_as, well_bare}
+use Rattle.swc_ecma_parser.proofs.Top.{IsSound, IsComplete, Leaves, Meets, Stopping, Well, bare, stripped, is_complete, is_complete_as, is_complete_bare, is_sound, is_sound_as, is_sound_bare, meets, well, well_as, well_bare}
+use Rattle.swc_ecma_parser.proofs.{Moving.recalled-by, Placed.PrivatesLeft}
 
 -- ---- readers
 

@@ -1,23 +1,12 @@
 -- The expression in the head of a `for` (ECMA-262, 14.7.4 and 14.7.5), by what the context says of `for await`: from what is
 -- read to what is promised.
 use Rattle.std.proofs.Common.{◌≡◌, Bool, true, false, List, Some, Result, Err, ap, ◌∙◌}
-use Rattle.std.specs.declared.alloc.Global.{Global}
-use Rattle.std.specs.declared.boxed.Box.{Box}
-use Rattle.swc_context.specs.declared.error.Error.{Error}
-use Rattle.swc_context.specs.declared.span.Span.{Span}
-use Rattle.swc_input.specs.declared.buffer.Buffer.{Buffer}
-use Rattle.swc_input.specs.declared.token.TokenAndSpan.{TokenAndSpan}
-use Rattle.swc_input.specs.Buffer.{previous}
-use Rattle.swc_input.specs.Source.{Model}
-use Rattle.swc_ast.specs.Tree.{Tree}
-use Rattle.swc_ast.specs.Trees.{unmarked}
-use Rattle.swc_ast.specs.declared.expr.Expr.{Expr as ExprOf}
-use Rattle.swc_ast.specs.declared.spanned.Spanned.{Ghosts}
+use Rattle.std.specs.{declared.alloc.Global.Global, declared.boxed.Box.Box}
+use Rattle.swc_context.specs.{declared.error.Error.Error, declared.span.Span.Span}
+use Rattle.swc_input.specs.{declared.buffer.Buffer.Buffer, declared.token.TokenAndSpan.TokenAndSpan, Buffer.previous, Source.Model}
+use Rattle.swc_ast.specs.{Tree.Tree, Trees.unmarked, declared.expr.Expr.Expr as ExprOf, declared.spanned.Spanned.Ghosts}
 use Rattle.swc_bodies.specs.Readings.{Hook, LawfulHook}
-use Rattle.swc_grammar.specs.ForHead.{in_own_for, HeadStops}
-use Rattle.swc_grammar.specs.Reads.{Reads, ReadsUnmarked}
-use Rattle.swc_grammar.specs.Symbols.{Expr}
-use Rattle.swc_grammar.specs.Words.{◌>>=◌}
+use Rattle.swc_grammar.specs.{ForHead.in_own_for, ForHead.HeadStops, Reads.Reads, Reads.ReadsUnmarked, Symbols.Expr, Words.◌>>=◌}
 use Rattle.swc_grammar.proofs.Complete as clean_all
 use Rattle.swc_grammar.proofs.ForHeads.{head-stops}
 use Rattle.swc_nodes.specs.GrowingNodes.{SameNodes}
@@ -29,8 +18,7 @@ use Rattle.swc_ecma_parser.specs.Promise.{Complete, Derivation, EndsAt, covers_d
 use Rattle.swc_ecma_parser.specs.declared.parser.Parser.{Parser}
 use Rattle.swc_ecma_parser.proofs.Calling.{not_both, promised-again}
 use Rattle.swc_ecma_parser.proofs.Finished.{checked, checked-complete, finished-derives, meets-checked}
-use Rattle.swc_ecma_parser.proofs.Top.{IsComplete, IsSound, Meets, Well, bare, complete, expr-stops, is_complete_bare}
-use Rattle.swc_ecma_parser.proofs.Top.{is_sound, is_sound_bare, well_bare}
+use Rattle.swc_ecma_parser.proofs.Top.{IsComplete, IsSound, Meets, Well, bare, complete, expr-stops, is_complete_bare, is_sound, is_sound_bare, well_bare}
 
 module _ {F C K : Type 0} (hook : Hook F C K) where
   -- what is derived in a head

@@ -1,73 +1,39 @@
 -- Heads of `for` (ECMA-262, 14.7.4 and 14.7.5), from what the code reads to what is promised of them.
-use Rattle.std.proofs.Common.{◌≡◌, ◌≢◌, ℕ, Bool, true, false, ◌&&◌, if◌then◌else◌, not, List, [], ◌∷◌, ◌++◌, Option, Some, None}
-use Rattle.std.proofs.Common.{Result, Ok, Err, IfOk, IfErr, OnOk, MatchResult, length, ◌||◌, refl, sym, ap, subst, ◌∙◌, arith}
-use Rattle.swc_context.specs.declared.error.Error.{Error}
-use Rattle.swc_context.specs.declared.error.SyntaxError.TheVariants.{OutOfMemory}
-use Rattle.swc_context.specs.declared.span.BytePos.{BytePos}
-use Rattle.swc_context.specs.declared.span.Span.{Span}
-use Rattle.swc_input.specs.declared.buffer.Buffer.{Buffer}
-use Rattle.swc_input.specs.declared.token.Token.{Token}
-use Rattle.swc_input.specs.declared.token.Token.TheVariants as token
-use Rattle.swc_input.specs.declared.token.TokenAndSpan.{TokenAndSpan}
+use Rattle.std.proofs.Common.{◌≡◌, ◌≢◌, ℕ, Bool, true, false, ◌&&◌, if◌then◌else◌, not, List, [], ◌∷◌, ◌++◌, Option, Some, None, Result, Ok, Err, IfOk, IfErr, OnOk, MatchResult, length, ◌||◌, refl, sym, ap, subst, ◌∙◌, arith}
+use Rattle.swc_context.specs.{declared.error.Error.Error, declared.error.SyntaxError.TheVariants.OutOfMemory, declared.span.BytePos.BytePos, declared.span.Span.Span}
 use Rattle.swc_input.specs.Buffer.{Future, Known, context, last_position, previous, state_of}
-use Rattle.swc_input.specs.Kinds.{at_token}
-use Rattle.swc_input.specs.Laws.{Future-some}
-use Rattle.swc_input.specs.Recording.{is_silent, no_memory}
-use Rattle.swc_input.specs.Source.{Model}
-use Rattle.swc_ast.specs.Pedantic.{privates_ok}
+use Rattle.swc_input.specs.{declared.buffer.Buffer.Buffer, declared.token.Token.Token, declared.token.Token.Token as token, declared.token.TokenAndSpan.TokenAndSpan, Kinds.at_token, Laws.Future-some, Recording.is_silent, Recording.no_memory, Source.Model}
 use Rattle.swc_ast.specs.Tree.{Tree, array_with, invalid, item, object_with, node, nil, cons, no_span}
 use Rattle.swc_ast.specs.Trees.{is_grouped, is_valid, unmarked}
-use Rattle.swc_ast.specs.declared.for_head.ForHead.{ForHead as HeadOf}
-use Rattle.swc_ast.specs.declared.spanned.Spanned.{Ghosts}
+use Rattle.swc_ast.specs.{Pedantic.privates_ok, declared.for_head.ForHead.ForHead as HeadOf, declared.spanned.Spanned.Ghosts}
 use Rattle.swc_bodies.specs.Readings.{Hook, LawfulHook}
 use Rattle.swc_grammar.specs.Clean.{Out, and_then, first, no_error}
 use Rattle.swc_grammar.specs.Cover.{Role, is_assign, as_pat, target}
-use Rattle.swc_grammar.specs.ForHead.{ForHead, for_target, for_expr, in_for, is_each, is_for_target, head_tree, next}
-use Rattle.swc_grammar.specs.ForHead.{unmarked_head, HeadStops, ReadsHead, ReadsHeadUnmarked, expr-head, target-head}
+use Rattle.swc_grammar.specs.ForHead.{ForHead, for_target, for_expr, in_for, is_each, is_for_target, head_tree, next, unmarked_head, HeadStops, ReadsHead, ReadsHeadUnmarked, expr-head, target-head}
 use Rattle.swc_grammar.specs.ForHeadClean.{for_head, for_tail, written}
-use Rattle.swc_grammar.specs.Rule.{sees}
-use Rattle.swc_grammar.specs.Scope.{Scope}
-use Rattle.swc_grammar.specs.Symbols.{Expr}
-use Rattle.swc_grammar.specs.Words.{◌>>=◌}
-use Rattle.swc_grammar.proofs.Answers.{both}
+use Rattle.swc_grammar.specs.{Rule.sees, Scope.Scope, Symbols.Expr, Words.◌>>=◌}
 use Rattle.swc_grammar.proofs.ForHeads.{head-front, head-grouped, head-next, head-sound, head-valid}
-use Rattle.swc_grammar.proofs.Marks.{same-grouped, same-valid}
-use Rattle.swc_laws.proofs.PedanticTrees.{privates-unmarked}
-use Rattle.swc_laws.proofs.Privates.{privates}
-use Rattle.swc_laws.proofs.PrivatesKept.{elements-fit}
+use Rattle.swc_grammar.proofs.{Answers.both, Marks.same-grouped, Marks.same-valid}
+use Rattle.swc_laws.proofs.{PedanticTrees.privates-unmarked, Privates.privates, PrivatesKept.elements-fit}
 use Rattle.swc_nodes.specs.Commas.{comma_at, commas_in, part_commas, recalled, Recalls}
 use Rattle.swc_nodes.specs.GrowingNodes.{tree_at, bare_at, CutTo, From}
-use Rattle.swc_nodes.specs.NodeParts.{expr_part, for_head_parts}
-use Rattle.swc_nodes.specs.declared.commas.TrailingCommas.{TrailingCommas}
-use Rattle.swc_nodes.specs.declared.node.ExprId.{ExprId}
-use Rattle.swc_nodes.specs.declared.node.ForHeadId.{ForHeadId}
-use Rattle.swc_nodes.specs.declared.node.ForHeadId.TheVariants as number
-use Rattle.swc_nodes.specs.declared.nodes.Nodes.{Nodes}
-use Rattle.swc_cover.specs.Clear.{is_clear}
-use Rattle.swc_cover.proofs.Formed.{Formed}
+use Rattle.swc_nodes.specs.{NodeParts.expr_part, NodeParts.for_head_parts, declared.commas.TrailingCommas.TrailingCommas, declared.node.ExprId.ExprId, declared.node.ForHeadId.ForHeadId, declared.node.ForHeadId.ForHeadId as number, declared.nodes.Nodes.Nodes}
 use Rattle.swc_cover.specs.PatTypes.{stands_whole, verdict_as, want_as}
-use Rattle.swc_cover.specs.declared.pat_type.PatType.TheVariants.{AssignPat}
-use Rattle.swc_cover.proofs.Clear.{clear-fits}
-use Rattle.swc_cover.proofs.Refines.{expr-formed}
-use Rattle.swc_cover.proofs.Ties.{pattern-is}
+use Rattle.swc_cover.specs.{Clear.is_clear, declared.pat_type.PatType.TheVariants.AssignPat}
+use Rattle.swc_cover.proofs.{Formed.Formed, Clear.clear-fits, Refines.expr-formed, Ties.pattern-is}
 use Rattle.swc_steps.specs.Parsing.{scope, recorded, seen, tree_of, Checks, Heard, Here, Leads, Loud, On, Parses, Refuses, Unheard}
-use Rattle.swc_steps.proofs.Endings.{read-valid}
-use Rattle.swc_steps.proofs.Steps as steps
 use Rattle.swc_steps.proofs.Steps.{Reader, give, consumes_of, more_recorded, read_scope}
-use Rattle.swc_steps.proofs.Steps.Calls.{on_call_read}
+use Rattle.swc_steps.proofs.{Endings.read-valid, Steps.Calls.on_call_read}
+use Rattle.swc_steps.proofs.Steps as steps
 use Rattle.swc_verifier.specs.CoverNames.{covers_left, parts_covers_left}
 use Rattle.swc_verifier.proofs.Left.{expr-left, pat-left}
 use Rattle.swc_ecma_parser.specs.Calls.{buffer_of, nodes_of, commas_of, has_failed, wants_memory, parser_failed, Kept}
 use Rattle.swc_ecma_parser.specs.Finishing.{no_places, parts_done, ChecksAnswer, ChecksCovers}
-use Rattle.swc_ecma_parser.specs.ForHeads.{boxed_head, coded, for_head_at, head_by, head_done, head_expr, is_each_word, is_target_id}
-use Rattle.swc_ecma_parser.specs.ForHeads.{DerivesHead, HeadAnswer, HeadPromise, PromisedHead, RemembersHead}
+use Rattle.swc_ecma_parser.specs.ForHeads.{boxed_head, coded, for_head_at, head_by, head_done, head_expr, is_each_word, is_target_id, DerivesHead, HeadAnswer, HeadPromise, PromisedHead, RemembersHead}
 use Rattle.swc_ecma_parser.specs.Promise.{Complete, Derivation, Finished, Unmarred, covers_done}
 use Rattle.swc_ecma_parser.specs.declared.parser.Parser.{Parser}
-use Rattle.swc_ecma_parser.proofs.ArrowParams.{heard_behind}
-use Rattle.swc_ecma_parser.proofs.Calling.{failing, not_both}
 use Rattle.swc_ecma_parser.proofs.Finished.{finished, finished-from, finished-into, finished-parses, parts-told, parts-told-bare}
-use Rattle.swc_ecma_parser.proofs.Moving.{moved-as}
-use Rattle.swc_ecma_parser.proofs.Top.{stripped, complete}
+use Rattle.swc_ecma_parser.proofs.{ArrowParams.heard_behind, Calling.failing, Calling.not_both, Moving.moved-as, Top.stripped, Top.complete}
 
 -- ---- the definition, as the code goes it
 
@@ -266,7 +232,7 @@ module _ {F C K : Type 0} (hook : Hook F C K) (is_await : Bool) where
   which_bare (for_target p) = refl
   which_bare (for_expr e) = refl
 
-  -- in an expression that becomes a pattern private names stand where they stood, as in one that becomes an element
+  -- in an expression that becomes a pattern private names are where they were, as in one that becomes an element
   target_placed : (m : Role) (e p : Tree F C K) → as_pat m e ≡ Some p → privates_ok false e ≡ true → privates_ok false p ≡ true
   target_placed m e p h y =
       (both (privates_ok false p) true

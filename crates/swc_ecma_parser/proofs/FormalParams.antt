@@ -1,66 +1,34 @@
 -- From what is read of formal parameters to what is promised of them.
-use Rattle.std.proofs.Common.{◌≡◌, ◌≢◌, ℕ, Bool, true, false, List, [], ◌∷◌, ◌++◌, not, if◌then◌else◌, Some, None}
-use Rattle.std.proofs.Common.{Result, Ok, Err, IfOk, OnOk, MatchResult, map, length, ◌||◌, refl, sym, ap, subst, ◌∙◌, append_assoc}
-use Rattle.std.proofs.Common.{arith}
-use Rattle.std.specs.declared.alloc.Global.{Global}
-use Rattle.std.specs.declared.vec.Vec.{Vec}
-use Rattle.swc_context.specs.declared.error.Error.{Error}
-use Rattle.swc_context.specs.declared.error.SyntaxError.TheVariants.{OutOfMemory}
-use Rattle.swc_context.specs.declared.span.BytePos.{BytePos}
-use Rattle.swc_context.specs.declared.span.Span.{Span}
-use Rattle.swc_input.specs.declared.buffer.Buffer.{Buffer}
-use Rattle.swc_input.specs.declared.token.TokenAndSpan.{TokenAndSpan}
+use Rattle.std.proofs.Common.{◌≡◌, ◌≢◌, ℕ, Bool, true, false, List, [], ◌∷◌, ◌++◌, not, if◌then◌else◌, Some, None, Result, Ok, Err, IfOk, OnOk, MatchResult, map, length, ◌||◌, refl, sym, ap, subst, ◌∙◌, append_assoc, arith}
+use Rattle.std.specs.{declared.alloc.Global.Global, declared.vec.Vec.Vec}
+use Rattle.swc_context.specs.{declared.error.Error.Error, declared.error.SyntaxError.TheVariants.OutOfMemory, declared.span.BytePos.BytePos, declared.span.Span.Span}
 use Rattle.swc_input.specs.Buffer.{Future, Known, last_position, previous}
-use Rattle.swc_input.specs.Laws.{Known-after, Known-Future}
-use Rattle.swc_input.specs.Recording.{no_memory}
-use Rattle.swc_input.specs.Source.{Model}
-use Rattle.swc_ast.specs.Parts.{param_tree}
-use Rattle.swc_ast.specs.Pedantic.{all_privates_ok, none_left}
+use Rattle.swc_input.specs.{declared.buffer.Buffer.Buffer, declared.token.TokenAndSpan.TokenAndSpan, Laws.Known-after, Laws.Known-Future, Recording.no_memory, Source.Model}
 use Rattle.swc_ast.specs.Tree.{Tree, node, Trees, args, nil, cons, no_span, trees}
-use Rattle.swc_ast.specs.TreeOf.{pat_tree}
 use Rattle.swc_ast.specs.Trees.{are_grouped, are_valid, items_of, listed, unmarked, all_unmarked}
-use Rattle.swc_ast.specs.declared.function.Param.{Param}
-use Rattle.swc_ast.specs.declared.pat.Pat.{Pat as PatOf}
-use Rattle.swc_ast.specs.declared.spanned.Spanned.{Ghosts}
+use Rattle.swc_ast.specs.{Parts.param_tree, Pedantic.all_privates_ok, Pedantic.none_left, TreeOf.pat_tree, declared.function.Param.Param, declared.pat.Pat.Pat as PatOf, declared.spanned.Spanned.Ghosts}
 use Rattle.swc_bodies.specs.Readings.{Hook, LawfulHook}
 use Rattle.swc_grammar.specs.Clean.{Out, sym as at, run}
-use Rattle.swc_grammar.specs.Patterns.{any, all_bind_names}
-use Rattle.swc_grammar.specs.Reads.{Reads, ReadsUnmarked}
-use Rattle.swc_grammar.specs.Scope.{Scope}
-use Rattle.swc_grammar.specs.Symbols.{Params}
-use Rattle.swc_grammar.specs.Tokens.{is_rparen}
-use Rattle.swc_grammar.specs.Words.{◌>>=◌}
+use Rattle.swc_grammar.specs.{Patterns.any, Patterns.all_bind_names, Reads.Reads, Reads.ReadsUnmarked, Scope.Scope, Symbols.Params, Tokens.is_rparen, Words.◌>>=◌}
 use Rattle.swc_grammar.proofs.Complete as clean_all
-use Rattle.swc_grammar.proofs.Cut.{cut-append}
-use Rattle.swc_grammar.proofs.MarkedBinds.{all-same-binds}
-use Rattle.swc_grammar.proofs.Marks.{same-grouped, same-valid}
+use Rattle.swc_grammar.proofs.{Cut.cut-append, MarkedBinds.all-same-binds, Marks.same-grouped, Marks.same-valid}
 use Rattle.swc_grammar.proofs.Sound as clean
 use Rattle.swc_laws.proofs.PedanticTrees.{all-covers-unmarked, all-privates-unmarked}
 use Rattle.swc_nodes.specs.Commas.{comma_at, commas_in, commas_of_all, part_commas, recalled, Recalls}
 use Rattle.swc_nodes.specs.GrowingNodes.{tree_at, bare_at, Apart, CutTo}
-use Rattle.swc_nodes.specs.NodeParts.{flat, param_parts}
-use Rattle.swc_nodes.specs.declared.commas.TrailingCommas.{TrailingCommas}
-use Rattle.swc_nodes.specs.declared.node.PatId.{PatId}
-use Rattle.swc_nodes.specs.declared.nodes.Nodes.{Nodes}
-use Rattle.swc_patterns.specs.Answers.{params_at, params_of}
-use Rattle.swc_patterns.specs.Params.{params_close}
-use Rattle.swc_patterns.specs.ParamsRead.{AllReadAlone}
-use Rattle.swc_steps.specs.Keys.{expected}
-use Rattle.swc_steps.specs.Lists.{eaten}
+use Rattle.swc_nodes.specs.{NodeParts.flat, NodeParts.param_parts, declared.commas.TrailingCommas.TrailingCommas, declared.node.PatId.PatId, declared.nodes.Nodes.Nodes}
+use Rattle.swc_patterns.specs.{Answers.params_at, Answers.params_of, Params.params_close, ParamsRead.AllReadAlone}
 use Rattle.swc_steps.specs.Parsing.{scope, recorded, Checks, Loud, Acts, On, Unheard}
+use Rattle.swc_steps.specs.{Keys.expected, Lists.eaten}
 use Rattle.swc_steps.proofs.Hearing.{same_faults}
-use Rattle.swc_steps.proofs.Steps.{Reader, forgoes_later, forgoes_refuses, on_call, on_checked_in, on_then, on_within_call, spent}
-use Rattle.swc_steps.proofs.Steps.{more_recorded, unheard_call, unheard_memory}
+use Rattle.swc_steps.proofs.Steps.{Reader, forgoes_later, forgoes_refuses, on_call, on_checked_in, on_then, on_within_call, spent, more_recorded, unheard_call, unheard_memory}
 use Rattle.swc_verifier.specs.CoverNames.{covers_left, covers_left_of_all, parts_covers_left}
 use Rattle.swc_ecma_parser.specs.Calls.{buffer_of, nodes_of, commas_of, has_failed, wants_memory, parser_failed, params_tree, Kept}
-use Rattle.swc_ecma_parser.specs.Finishing.{parts_done, ChecksAnswer}
-use Rattle.swc_ecma_parser.specs.Promise.{ClosedBy, Derivation, DerivesOnlyParams, DerivesParams, Finished, ParamsAnswer, PromisedParams}
-use Rattle.swc_ecma_parser.specs.Promise.{RemembersParams, Unmarred, items_done, pats_of}
-use Rattle.swc_ecma_parser.specs.declared.parser.Parser.{Parser}
-use Rattle.swc_ecma_parser.proofs.Calling.{failing, not_both}
+use Rattle.swc_ecma_parser.specs.Promise.{ClosedBy, Derivation, DerivesOnlyParams, DerivesParams, Finished, ParamsAnswer, PromisedParams, RemembersParams, Unmarred, items_done, pats_of}
+use Rattle.swc_ecma_parser.specs.{Finishing.parts_done, Finishing.ChecksAnswer, declared.parser.Parser.Parser}
 use Rattle.swc_ecma_parser.proofs.Finished.{finished, finished-from, finished-into, parts-told}
-use Rattle.swc_ecma_parser.proofs.ParamsAlone.{AllFine, all-fine}
 use Rattle.swc_ecma_parser.proofs.Top.{as_many, memory, parts}
+use Rattle.swc_ecma_parser.proofs.{Calling.failing, Calling.not_both, ParamsAlone.AllFine, ParamsAlone.all-fine}
 
 -- ---- patterns of parameters
 

@@ -1,12 +1,8 @@
--- From what the hook reads where a statement stands to what the call promises.
+-- From what the hook reads where a statement is to what the call promises.
 use Rattle.std.proofs.Common.{◌≡◌, ◌<◌, Bool, true, List, [], ◌∷◌, ◌++◌, Some, None, Result, OnOk, sym, subst, ◌∙◌}
 use Rattle.std.proofs.lemmas.List.{append-nil, append_cancel_right}
-use Rattle.swc_context.specs.declared.error.Error.{Error}
-use Rattle.swc_context.specs.declared.span.Span.{Span}
-use Rattle.swc_input.specs.declared.buffer.Buffer.{Buffer}
-use Rattle.swc_input.specs.declared.token.TokenAndSpan.{TokenAndSpan}
-use Rattle.swc_input.specs.Buffer.{to_come}
-use Rattle.swc_input.specs.Source.{Model}
+use Rattle.swc_context.specs.{declared.error.Error.Error, declared.span.Span.Span}
+use Rattle.swc_input.specs.{declared.buffer.Buffer.Buffer, declared.token.TokenAndSpan.TokenAndSpan, Buffer.to_come, Source.Model}
 use Rattle.swc_bodies.specs.Readings.{Reading, IsReading}
 use Rattle.swc_grammar.specs.Scope.{Scope}
 use Rattle.swc_steps.specs.Parsing.{Parses, by_hook}

@@ -1,41 +1,21 @@
 -- The tree of an answer is moved out of the nodes, and the nodes that were made are cut off.
 use Rattle.std.proofs.Common.{◌≡◌, ◌≢◌, ℕ, Bool, List, [], ◌∷◌, Option, None, Result, Ok, Err, Some, IfOk, OnOk, MatchResult, refl, sym, ap, subst, ◌∙◌, arith}
-use Rattle.std.specs.declared.alloc.Global.{Global}
-use Rattle.std.specs.declared.boxed.Box.{Box}
-use Rattle.std.specs.declared.vec.Vec.{Vec}
-use Rattle.swc_context.specs.declared.error.Error.{Error}
-use Rattle.swc_context.specs.declared.error.SyntaxError.TheVariants.{OutOfMemory}
-use Rattle.swc_context.specs.declared.span.BytePos.{BytePos}
-use Rattle.swc_input.specs.declared.buffer.Buffer.{Buffer}
-use Rattle.swc_context.specs.declared.span.Span.{Span}
-use Rattle.swc_input.specs.Source.{Model}
-use Rattle.swc_input.specs.Buffer.{last_position}
-use Rattle.swc_input.specs.Recording.{no_memory}
+use Rattle.std.specs.{declared.alloc.Global.Global, declared.boxed.Box.Box, declared.vec.Vec.Vec}
+use Rattle.swc_context.specs.{declared.error.Error.Error, declared.error.SyntaxError.TheVariants.OutOfMemory, declared.span.BytePos.BytePos, declared.span.Span.Span}
+use Rattle.swc_input.specs.{declared.buffer.Buffer.Buffer, Source.Model, Buffer.last_position, Recording.no_memory}
 use Rattle.swc_ast.specs.Parts.{item_of, item_trees, args_tree, tpl_tree}
 use Rattle.swc_ast.specs.Tree.{Tree, node, args, args_with, no_span}
 use Rattle.swc_ast.specs.Trees.{unmarked, all_unmarked, items_of}
-use Rattle.swc_ast.specs.declared.expr.Expr.{Expr}
-use Rattle.swc_ast.specs.declared.expr.ExprOrSpread.{ExprOrSpread}
-use Rattle.swc_ast.specs.declared.expr.Tpl.{Tpl}
-use Rattle.swc_ast.specs.declared.spanned.Spanned.{Ghosts}
+use Rattle.swc_ast.specs.{declared.expr.Expr.Expr, declared.expr.ExprOrSpread.ExprOrSpread, declared.expr.Tpl.Tpl, declared.spanned.Spanned.Ghosts}
 use Rattle.swc_bodies.specs.Readings.{Hook, LawfulHook}
-use Rattle.swc_grammar.specs.Clean.{run}
+use Rattle.swc_grammar.specs.{Clean.run, Reads.Reads, Symbols.Symbol, Words.◌>>=◌}
 use Rattle.swc_grammar.specs.Clean as clean
-use Rattle.swc_grammar.specs.Reads.{Reads}
-use Rattle.swc_grammar.specs.Symbols.{Symbol}
-use Rattle.swc_grammar.specs.Words.{◌>>=◌}
 use Rattle.swc_nodes.specs.Commas.{comma_at, commas_in, part_commas, Recalls}
-use Rattle.swc_nodes.specs.Commas as recall
-use Rattle.swc_nodes.specs.NumberedTrees.{floor}
-use Rattle.swc_nodes.specs.NodeParts.{Part}
 use Rattle.swc_nodes.specs.GrowingNodes.{count, seat_at, tree_at, bare_at, Apart, From, Grows, CutTo, Left, SameNodes}
-use Rattle.swc_nodes.specs.declared.commas.TrailingCommas.{TrailingCommas}
-use Rattle.swc_nodes.specs.declared.node.ExprId.{ExprId}
+use Rattle.swc_nodes.specs.{NumberedTrees.floor, NodeParts.Part, declared.commas.TrailingCommas.TrailingCommas, declared.node.ExprId.ExprId, declared.nodes.Nodes.Nodes}
+use Rattle.swc_nodes.specs.Commas as recall
 use Rattle.swc_nodes.specs.declared.node.Node.TheVariants as n
-use Rattle.swc_nodes.specs.declared.nodes.Nodes.{Nodes}
-use Rattle.swc_nodes.proofs.Chains.{chain-down, floor-under}
-use Rattle.swc_nodes.proofs.Standing.{cut_kept, grows-same}
-use Rattle.swc_nodes.proofs.Unmarked.{unmarked-node}
+use Rattle.swc_nodes.proofs.{Chains.chain-down, Chains.floor-under, Standing.cut_kept, Standing.grows-same, Unmarked.unmarked-node}
 use Rattle.swc_steps.specs.declared.tokens.Listed.{Listed}
 use Rattle.swc_steps.specs.Parsing.{args_at, Loud, Heard, Unheard, Parses}
 use Rattle.swc_productions.specs.Pieces.{tpl_at}

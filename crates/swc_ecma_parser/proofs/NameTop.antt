@@ -1,26 +1,18 @@
 -- The clean readers of names are the grammar's, both ways.
 use Rattle.std.proofs.Common.{◌≡◌, Bool, true, ◌&&◌, if◌then◌else◌, List, [], ◌∷◌, ◌++◌, Option, Some, None, refl, sym, ap, subst, ◌∙◌}
 use Rattle.std.proofs.lemmas.List.{append_cancel_right}
-use Rattle.swc_context.specs.Words.{word_text}
-use Rattle.swc_context.specs.declared.context.Context.{Context}
-use Rattle.swc_context.specs.declared.span.Span.{Span}
-use Rattle.swc_context.specs.declared.word.Word.{Word}
-use Rattle.swc_input.specs.declared.token.Token.{Token}
-use Rattle.swc_input.specs.declared.token.Token.TheVariants as token
-use Rattle.swc_input.specs.declared.token.TokenAndSpan.{TokenAndSpan}
-use Rattle.swc_input.specs.Kinds.{at_token}
-use Rattle.swc_grammar.specs.Scope.{Scope}
+use Rattle.swc_context.specs.{Words.word_text, declared.context.Context.Context, declared.span.Span.Span, declared.word.Word.Word}
+use Rattle.swc_input.specs.{declared.token.Token.Token, declared.token.Token.Token as token, declared.token.TokenAndSpan.TokenAndSpan, Kinds.at_token}
 use Rattle.swc_grammar.specs.Names.{Spelling, spelling, NameKind, Reference, Binding, Name, Private, ReadsName, reference, spelled, may_refer, may_bind}
-use Rattle.swc_grammar.specs.Tokens.{may_be_reference, ref_ok}
-use Rattle.swc_grammar.specs.Clean.{first}
 use Rattle.swc_grammar.specs.Words.{rest, one, word_by, word, hash_word}
+use Rattle.swc_grammar.specs.{Scope.Scope, Tokens.may_be_reference, Tokens.ref_ok, Clean.first}
 use Rattle.swc_grammar.proofs.Cut.{cut-list, cut-of}
 use Rattle.swc_grammar.proofs.Names.{reference-sound, reference-complete, binding-sound, binding-complete, name-sound, name-complete, private-sound, private-complete, cut-name}
 use Rattle.swc_ident.specs.Verdicts.{reference_verdict, binding_verdict, name_of_any}
 use Rattle.swc_ecma_parser.specs.Promise.{Anywhere, RefersIfFree}
 use Rattle.swc_steps.proofs.Naming.{word_of}
-use Rattle.swc_ecma_parser.proofs.Top.{IsSound, IsComplete}
 use Rattle.swc_steps.proofs.Words.{is_clean, binding-table, reference-table}
+use Rattle.swc_ecma_parser.proofs.Top.{IsSound, IsComplete}
 
 -- a name needs nothing of what follows it
 cut-append : {k : NameKind} {c : Scope} {n : Spelling} (own ys : List TokenAndSpan) → ReadsName k c (own ++ ys) ys n → ReadsName k c own [] n

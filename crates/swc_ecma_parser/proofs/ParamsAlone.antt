@@ -7,9 +7,7 @@ use Rattle.swc_ast.specs.Tree.{Tree, Trees, nil, cons}
 use Rattle.swc_ast.specs.Trees.{are_grouped, are_valid, is_grouped, is_valid}
 use Rattle.swc_bodies.specs.Readings.{Hook, LawfulHook}
 use Rattle.swc_grammar.specs.Patterns.{any, all_bind_names, binds_names}
-use Rattle.swc_grammar.specs.Reads.{Reads}
-use Rattle.swc_grammar.specs.Scope.{Scope}
-use Rattle.swc_grammar.specs.Symbols.{Element, Rest}
+use Rattle.swc_grammar.specs.{Reads.Reads, Scope.Scope, Symbols.Element, Symbols.Rest}
 use Rattle.swc_grammar.proofs.Direct.{dotted-binds, element-binds}
 use Rattle.swc_grammar.proofs.Good as good
 use Rattle.swc_grammar.proofs.Sound as clean

@@ -1,46 +1,25 @@
 -- From readings of patterns, and of properties of object patterns, to what is promised of them.
 use Rattle.std.proofs.Common.{◌≡◌, Bool, true, false, ◌||◌, List, [], ◌∷◌, ◌++◌, Some, Result, Ok, Err, refl, sym, ap, subst, ◌∙◌}
-use Rattle.swc_context.specs.declared.error.Error.{Error}
-use Rattle.swc_context.specs.declared.span.Span.{Span}
-use Rattle.swc_input.specs.declared.buffer.Buffer.{Buffer}
-use Rattle.swc_input.specs.declared.token.Token.{Token}
-use Rattle.swc_input.specs.declared.token.Token.TheVariants as token
-use Rattle.swc_input.specs.declared.token.TokenAndSpan.{TokenAndSpan}
-use Rattle.swc_input.specs.Buffer.{previous}
-use Rattle.swc_input.specs.Kinds.{at_token}
-use Rattle.swc_input.specs.Source.{Model}
-use Rattle.swc_ast.specs.Pedantic.{privates_ok}
-use Rattle.swc_ast.specs.Tree.{Tree}
-use Rattle.swc_ast.specs.TreeOf.{pat_prop_tree}
-use Rattle.swc_ast.specs.declared.pat.ObjectPatProp.{ObjectPatProp}
-use Rattle.swc_ast.specs.declared.spanned.Spanned.{Ghosts}
+use Rattle.swc_context.specs.{declared.error.Error.Error, declared.span.Span.Span}
+use Rattle.swc_input.specs.{declared.buffer.Buffer.Buffer, declared.token.Token.Token, declared.token.Token.Token as token, declared.token.TokenAndSpan.TokenAndSpan, Buffer.previous, Kinds.at_token, Source.Model}
 use Rattle.swc_ast.specs.Trees.{is_grouped, is_valid, unmarked}
+use Rattle.swc_ast.specs.{Pedantic.privates_ok, Tree.Tree, TreeOf.pat_prop_tree, declared.pat.ObjectPatProp.ObjectPatProp, declared.spanned.Spanned.Ghosts}
 use Rattle.swc_bodies.specs.Readings.{Hook, LawfulHook}
 use Rattle.swc_grammar.specs.Clean.{first, sym as at, run}
-use Rattle.swc_grammar.specs.Firsts.{begins_key}
-use Rattle.swc_grammar.specs.Grammar.{pat-rest}
 use Rattle.swc_grammar.specs.Patterns.{any, binds_names, prop_binds_names}
 use Rattle.swc_grammar.specs.Reads.{Reads, ReadsUnmarked, by, gave, took, held, part}
-use Rattle.swc_grammar.specs.Scope.{Scope}
 use Rattle.swc_grammar.specs.Symbols.{Pat, Element, PatProp, Rest}
-use Rattle.swc_grammar.specs.Tokens.{is_dots}
-use Rattle.swc_grammar.specs.Words.{◌>>=◌}
+use Rattle.swc_grammar.specs.{Firsts.begins_key, Grammar.pat-rest, Scope.Scope, Tokens.is_dots, Words.◌>>=◌}
 use Rattle.swc_grammar.proofs.Complete as clean_all
-use Rattle.swc_grammar.proofs.Complete.{stops-pat-prop}
-use Rattle.swc_grammar.proofs.Cut.{cut-append}
 use Rattle.swc_grammar.proofs.Direct.{pattern-binds, element-binds, property-binds, dotted-binds}
-use Rattle.swc_grammar.proofs.Firsts.{begins}
-use Rattle.swc_grammar.proofs.MarkedBinds.{same-binds, prop-same-binds}
+use Rattle.swc_grammar.proofs.{Complete.stops-pat-prop, Cut.cut-append, Firsts.begins, MarkedBinds.same-binds, MarkedBinds.prop-same-binds}
 use Rattle.swc_grammar.proofs.Sound as clean
 use Rattle.swc_nodes.specs.GrowingNodes.{SameNodes}
-use Rattle.swc_patterns.specs.Objects.{pat_prop_by, pat_prop_item}
-use Rattle.swc_patterns.specs.Rests.{rest_node}
+use Rattle.swc_patterns.specs.{Objects.pat_prop_by, Objects.pat_prop_item, Rests.rest_node}
 use Rattle.swc_steps.specs.Parsing.{scope, Parses}
 use Rattle.swc_steps.proofs.Lists.{eaten_not, eaten_takes}
 use Rattle.swc_ecma_parser.specs.Calls.{buffer_of, nodes_of, has_failed, parser_failed}
-use Rattle.swc_ecma_parser.specs.Promise.{Anywhere, Bound, BoundAsProp, Complete, Derivation, EndsAt, Finished, PropOrRest, as-prop}
-use Rattle.swc_ecma_parser.specs.Promise.{as-rest, Sound, covers_done}
-use Rattle.swc_ecma_parser.specs.Promise.{Promised, PromisedPatProp, pat_prop_in_boxes}
+use Rattle.swc_ecma_parser.specs.Promise.{Anywhere, Bound, BoundAsProp, Complete, Derivation, EndsAt, Finished, PropOrRest, as-prop, as-rest, Sound, covers_done, Promised, PromisedPatProp, pat_prop_in_boxes}
 use Rattle.swc_ecma_parser.specs.declared.parser.Parser.{Parser}
 use Rattle.swc_ecma_parser.proofs.Calling.{not_both, promised-again}
 use Rattle.swc_ecma_parser.proofs.Top.{IsSound, IsComplete, Meets, Well, bare, complete, meets, stripped_from, well_bare}

@@ -1,15 +1,11 @@
--- Where the syntax is pedantic private names stand where they may also in what is left of a list: its items alone.
+-- Where the syntax is pedantic private names are where they may be, also in what is left of a list: its items alone.
 use Rattle.std.proofs.Common.{◌≡◌, Bool, true, false, List, ◌∙◌}
 use Rattle.swc_input.specs.declared.token.TokenAndSpan.{TokenAndSpan}
-use Rattle.swc_ast.specs.Pedantic.{all_privates_ok, privates_ok}
-use Rattle.swc_ast.specs.Tree.{Tree, node}
-use Rattle.swc_ast.specs.Trees.{items_of}
+use Rattle.swc_ast.specs.{Pedantic.all_privates_ok, Pedantic.privates_ok, Tree.Tree, Tree.node, Trees.items_of}
 use Rattle.swc_bodies.specs.Readings.{Hook}
-use Rattle.swc_grammar.specs.Reads.{Reads}
-use Rattle.swc_grammar.specs.Scope.{Scope}
 use Rattle.swc_grammar.specs.Symbols.{Symbol, Arguments, Heads}
-use Rattle.swc_laws.proofs.PedanticTrees.{all-privates-unmarked}
-use Rattle.swc_laws.proofs.Privates.{privates-listed}
+use Rattle.swc_grammar.specs.{Reads.Reads, Scope.Scope}
+use Rattle.swc_laws.proofs.{PedanticTrees.all-privates-unmarked, Privates.privates-listed}
 use Rattle.swc_ecma_parser.specs.Promise.{items_and_comma, keep_items, only_items}
 
 module _ {F C K : Type 0} where

@@ -1,23 +1,15 @@
 -- Private names: what the call answers is what the clean reader of a `#` and a name reads.
 use Rattle.std.proofs.Common.{◌≡◌, ℕ, Bool, true, false, ◌&&◌, if◌then◌else◌, List, Option, Some, None, Result, Ok, Err, refl}
-use Rattle.swc_context.specs.declared.error.Error.{Error}
-use Rattle.swc_context.specs.declared.span.BytePos.{BytePos}
-use Rattle.swc_context.specs.declared.span.Span.{Span}
-use Rattle.swc_input.specs.declared.buffer.Buffer.{Buffer}
-use Rattle.swc_input.specs.declared.token.TokenAndSpan.{TokenAndSpan}
-use Rattle.swc_input.specs.Source.{Model, Laws}
-use Rattle.swc_input.specs.Kinds.{is_hash}
+use Rattle.swc_context.specs.{declared.error.Error.Error, declared.span.BytePos.BytePos, declared.span.Span.Span}
+use Rattle.swc_input.specs.{declared.buffer.Buffer.Buffer, declared.token.TokenAndSpan.TokenAndSpan, Source.Model, Source.Laws, Kinds.is_hash}
 use Rattle.swc_ast.specs.Trees.{to}
-use Rattle.swc_grammar.specs.Scope.{Scope}
-use Rattle.swc_grammar.specs.Clean.{Out, first}
 use Rattle.swc_grammar.specs.Names.{Spelling, spelling, may_name}
 use Rattle.swc_grammar.specs.Words.{◌>>=◌, rest, begins_at, hash_by, hash_word, word}
+use Rattle.swc_grammar.specs.{Scope.Scope, Clean.Out, Clean.first}
 use Rattle.swc_ident.specs.Naming.{PrivateNames}
-use Rattle.swc_steps.specs.Args.{hash_name}
+use Rattle.swc_steps.specs.{Args.hash_name, Parsing.Parses}
 use Rattle.swc_steps.specs.Args as args
-use Rattle.swc_steps.specs.Parsing.{Parses}
-use Rattle.swc_steps.proofs.PrivateNames.{heard_private, unheard_private}
-use Rattle.swc_steps.proofs.Steps.{heard_call, unheard_call}
+use Rattle.swc_steps.proofs.{PrivateNames.heard_private, PrivateNames.unheard_private, Steps.heard_call, Steps.unheard_call}
 
 -- the name, without where it ends
 abbrev alone : Scope → (Spelling × BytePos) × List TokenAndSpan → Out Spelling

@@ -1,51 +1,29 @@
 -- What expressions become that were put after all nodes, marked with their commas, and made patterns of.
-use Rattle.std.proofs.Common.{◌≡◌, ℕ, ◌≤◌, Bool, true, false, List, take, Option, Some}
-use Rattle.std.proofs.Common.{None, Result, Ok, Err, IfOk, IfErr, refl, sym, ap, ◌∙◌, arith}
-use Rattle.std.specs.Prelude.{if◌then◌else◌}
-use Rattle.std.specs.Option.{is_some}
+use Rattle.std.proofs.Common.{◌≡◌, ℕ, ◌≤◌, Bool, true, false, List, take, Option, Some, None, Result, Ok, Err, IfOk, IfErr, refl, sym, ap, ◌∙◌, arith}
 use Rattle.std.proofs.lemmas.List.{take_all, take-take}
-use Rattle.std.specs.declared.alloc.Global.{Global}
-use Rattle.std.specs.declared.boxed.Box.{Box}
-use Rattle.std.specs.declared.vec.Vec.{Vec}
-use Rattle.swc_context.specs.declared.context.Context.{Context}
-use Rattle.swc_context.specs.declared.error.Error.{Error}
-use Rattle.swc_context.specs.declared.span.Span.{Span}
-use Rattle.swc_input.specs.Buffer.{context}
-use Rattle.swc_input.specs.Source.{Model}
-use Rattle.swc_ast.specs.Parts.{args_tree}
+use Rattle.std.specs.{Prelude.if◌then◌else◌, Option.is_some, declared.alloc.Global.Global, declared.boxed.Box.Box, declared.vec.Vec.Vec}
+use Rattle.swc_context.specs.{declared.context.Context.Context, declared.error.Error.Error, declared.span.Span.Span}
+use Rattle.swc_input.specs.{Buffer.context, Source.Model}
 use Rattle.swc_ast.specs.Tree.{Tree, node, Trees, args, no_span}
 use Rattle.swc_ast.specs.Trees.{is_valid, are_valid, items_of}
-use Rattle.swc_ast.specs.declared.expr.Expr.{Expr}
-use Rattle.swc_ast.specs.declared.expr.ExprOrSpread.{ExprOrSpread}
-use Rattle.swc_ast.specs.declared.spanned.Spanned.{Ghosts}
+use Rattle.swc_ast.specs.{Parts.args_tree, declared.expr.Expr.Expr, declared.expr.ExprOrSpread.ExprOrSpread, declared.spanned.Spanned.Ghosts}
 use Rattle.swc_grammar.specs.Cover.{binding, as_elements, heads_ok}
 use Rattle.swc_grammar.proofs.Marks.{same-valid}
-use Rattle.swc_nodes.specs.Lists.{pats_parts}
 use Rattle.swc_nodes.specs.Marking.{Marker, Marks, marked_by, all_marked_by}
 use Rattle.swc_nodes.specs.NodeParts.{Part, expr_part, one_pat, pat_part, args_parts}
 use Rattle.swc_nodes.specs.GrowingNodes.{count, seat_at, tree_at, Apart, From, Grows, Made}
-use Rattle.swc_nodes.specs.declared.node.ExprId.{ExprId}
-use Rattle.swc_nodes.specs.declared.node.PatId.{PatId}
-use Rattle.swc_nodes.specs.declared.nodes.Nodes.{Nodes}
-use Rattle.swc_nodes.proofs.Chains.{chain-down, floor-above}
-use Rattle.swc_nodes.proofs.Held.{apart-from, from-down}
+use Rattle.swc_nodes.specs.{Lists.pats_parts, declared.node.ExprId.ExprId, declared.node.PatId.PatId, declared.nodes.Nodes.Nodes}
 use Rattle.swc_nodes.proofs.Marked.{items, apart-marked, marks-apart, marks-from, unmarked-marked, all-unmarked-marked}
-use Rattle.swc_nodes.proofs.Standing.{cut_kept, grows-count}
-use Rattle.swc_cover.specs.Items.{want_items}
-use Rattle.swc_cover.specs.Moving.{KeptTo}
+use Rattle.swc_nodes.proofs.{Chains.chain-down, Chains.floor-above, Held.apart-from, Held.from-down, Standing.cut_kept, Standing.grows-count}
 use Rattle.swc_cover.specs.PatTypes.{fits_as, pattern_as, want_as}
-use Rattle.swc_cover.specs.Fits.{Binding, elems_fit}
-use Rattle.swc_cover.specs.Refining.{Refined, Unrefined, RefinedItems, UnrefinedItems}
-use Rattle.swc_cover.specs.Refining.{items_at, items_floor, params_ok, pats_at, takes_heads}
-use Rattle.swc_cover.specs.declared.pat_type.PatType.{PatType}
-use Rattle.swc_cover.proofs.Refines.{expr-formed}
-use Rattle.swc_cover.proofs.Ties.{pattern-is}
+use Rattle.swc_cover.specs.Refining.{Refined, Unrefined, RefinedItems, UnrefinedItems, items_at, items_floor, params_ok, pats_at, takes_heads}
+use Rattle.swc_cover.specs.{Items.want_items, Moving.KeptTo, Fits.Binding, Fits.elems_fit, declared.pat_type.PatType.PatType}
+use Rattle.swc_cover.proofs.{Refines.expr-formed, Ties.pattern-is}
 use Rattle.swc_patterns.specs.Answers.{pat_at}
 use Rattle.swc_steps.specs.declared.productions.Productions.{Productions}
 use Rattle.swc_trees.specs.Moving.{boxed_in}
 use Rattle.swc_ecma_parser.specs.Calls.{buffer_of, nodes_of, tree_by}
-use Rattle.swc_ecma_parser.specs.Refinement.{Recast, Recasts, Unrecast, boxed_items, heads_among, marked_expr}
-use Rattle.swc_ecma_parser.specs.Refinement.{marked_items, marks_of, params_of, pattern_of}
+use Rattle.swc_ecma_parser.specs.Refinement.{Recast, Recasts, Unrecast, boxed_items, heads_among, marked_expr, marked_items, marks_of, params_of, pattern_of}
 use Rattle.swc_ecma_parser.specs.declared.parser.Parser.{Parser}
 
 -- ---- expressions that hold no `Invalid`

@@ -1,37 +1,21 @@
 -- From what becomes of expressions among the nodes to what is promised of the answer in boxes.
-use Rattle.std.proofs.Common.{◌≡◌, ◌≢◌, ℕ, ◌≤◌, Bool, true, false, List, [], ◌∷◌, map, length, Option, Some}
-use Rattle.std.proofs.Common.{None, Result, Ok, Err, IfOk, MatchOption, MatchResult, ◌||◌, refl, sym, ap, subst}
-use Rattle.std.proofs.Common.{◌∙◌, arith}
-use Rattle.std.specs.Option.{is_some}
-use Rattle.std.specs.declared.alloc.Global.{Global}
-use Rattle.std.specs.declared.vec.Vec.{Vec}
-use Rattle.swc_context.specs.declared.error.Error.{Error}
-use Rattle.swc_context.specs.declared.error.SyntaxError.TheVariants.{OutOfMemory}
-use Rattle.swc_context.specs.declared.span.BytePos.{BytePos}
+use Rattle.std.proofs.Common.{◌≡◌, ◌≢◌, ℕ, ◌≤◌, Bool, true, false, List, [], ◌∷◌, map, length, Option, Some, None, Result, Ok, Err, IfOk, MatchOption, MatchResult, ◌||◌, refl, sym, ap, subst, ◌∙◌, arith}
+use Rattle.std.proofs.lemmas.List.{take_all}
+use Rattle.std.specs.{Option.is_some, declared.alloc.Global.Global, declared.vec.Vec.Vec}
+use Rattle.swc_context.specs.{declared.error.Error.Error, declared.error.SyntaxError.TheVariants.OutOfMemory, declared.span.BytePos.BytePos}
 use Rattle.swc_input.specs.Buffer.{Read, last_position, previous}
-use Rattle.swc_input.specs.Recording.{no_memory}
-use Rattle.swc_input.specs.Source.{Model}
-use Rattle.swc_input.specs.declared.buffer.Buffer.{Buffer}
+use Rattle.swc_input.specs.{Recording.no_memory, Source.Model, declared.buffer.Buffer.Buffer}
 use Rattle.swc_ast.specs.Tree.{Tree, cons, trees}
 use Rattle.swc_ast.specs.Trees.{unmarked, all_unmarked, items_of}
 use Rattle.swc_ast.specs.declared.spanned.Spanned.{Ghosts}
 use Rattle.swc_nodes.specs.GrowingNodes.{count, CutTo, SameNodes}
-use Rattle.swc_nodes.specs.NodeParts.{Part}
-use Rattle.swc_nodes.specs.declared.commas.TrailingCommas.{TrailingCommas}
-use Rattle.swc_nodes.specs.declared.node.PatId.{PatId}
-use Rattle.swc_nodes.specs.declared.nodes.Nodes.{Nodes}
-use Rattle.std.proofs.lemmas.List.{take_all}
+use Rattle.swc_nodes.specs.{NodeParts.Part, declared.commas.TrailingCommas.TrailingCommas, declared.node.PatId.PatId, declared.nodes.Nodes.Nodes}
 use Rattle.swc_cover.specs.Moving.{KeptTo}
 use Rattle.swc_steps.specs.Parsing.{Acts, Loud}
-use Rattle.swc_steps.proofs.Hearing.{same_faults}
-use Rattle.swc_steps.proofs.Steps.{spent, forgoes_refuses}
-use Rattle.swc_ecma_parser.specs.Calls.{buffer_of, nodes_of, commas_of, has_failed, wants_memory, parser_failed}
-use Rattle.swc_ecma_parser.specs.Calls.{pats_tree}
-use Rattle.swc_ecma_parser.specs.Promise.{Unmarred}
-use Rattle.swc_ecma_parser.specs.Refinement.{PromisedRefinement, Recasts}
-use Rattle.swc_ecma_parser.specs.declared.parser.Parser.{Parser}
-use Rattle.swc_ecma_parser.proofs.Calling.{failing, not_both}
-use Rattle.swc_ecma_parser.proofs.Top.{memory}
+use Rattle.swc_steps.proofs.{Hearing.same_faults, Steps.spent, Steps.forgoes_refuses}
+use Rattle.swc_ecma_parser.specs.Calls.{buffer_of, nodes_of, commas_of, has_failed, wants_memory, parser_failed, pats_tree}
+use Rattle.swc_ecma_parser.specs.{Promise.Unmarred, Refinement.PromisedRefinement, Refinement.Recasts, declared.parser.Parser.Parser}
+use Rattle.swc_ecma_parser.proofs.{Calling.failing, Calling.not_both, Top.memory}
 
 -- What making patterns of expressions does and answers, from one state of the buffer to another.
 pub record MeetsRefinement {S T A : Type 0} (model : Model S) (valid : Bool) (pattern : Option A) (becomes : A)

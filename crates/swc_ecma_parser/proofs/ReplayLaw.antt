@@ -1,48 +1,26 @@
 -- From what the two readings promise to the law of replay.
-use Rattle.std.proofs.Common.{◌≡◌, ◌≢◌, Bool, true, false, not, ◌||◌, List, [], ◌∷◌, ◌++◌, Option, Some, None, Result, Ok, Err}
-use Rattle.std.proofs.Common.{IfOk, MatchResult, length, map, refl, sym, ap, subst, ◌∙◌, arith, length-append}
+use Rattle.std.proofs.Common.{◌≡◌, ◌≢◌, Bool, true, false, not, ◌||◌, List, [], ◌∷◌, ◌++◌, Option, Some, None, Result, Ok, Err, IfOk, MatchResult, length, map, refl, sym, ap, subst, ◌∙◌, arith, length-append}
 use Rattle.std.proofs.lemmas.List.{append-nil}
-use Rattle.std.specs.declared.alloc.Global.{Global}
-use Rattle.std.specs.declared.boxed.Box.{Box}
-use Rattle.swc_context.specs.Contexts.{view}
-use Rattle.swc_context.specs.declared.context.Context.{Context}
-use Rattle.swc_context.specs.declared.context.Syntax.{Syntax}
-use Rattle.swc_context.specs.declared.error.Error.{Error}
-use Rattle.swc_context.specs.declared.error.SyntaxError.TheVariants.{OutOfMemory}
-use Rattle.swc_context.specs.declared.span.Span.{Span}
+use Rattle.std.specs.{declared.alloc.Global.Global, declared.boxed.Box.Box}
+use Rattle.swc_context.specs.{Contexts.view, declared.context.Context.Context, declared.context.Syntax.Syntax, declared.error.Error.Error, declared.error.SyntaxError.TheVariants.OutOfMemory, declared.span.Span.Span}
 use Rattle.swc_input.specs.Buffer.{Took, current, held, source, state_of}
 use Rattle.swc_input.specs.Capturing.{capturing_laws, capturing_model, capturing_state, either_failed, has_lost, tokens_kept, within}
-use Rattle.swc_input.specs.Kept.{kept_of}
-use Rattle.swc_input.specs.Laws.{Read-still}
-use Rattle.swc_input.specs.Listed.{listed_model}
-use Rattle.swc_input.specs.Recording.{is_silent}
 use Rattle.swc_input.specs.Source.{Keeps, Laws, Model, Source, given_one}
-use Rattle.swc_input.specs.declared.buffer.Buffer.{Buffer}
-use Rattle.swc_input.specs.declared.capturing.Capturing.{Capturing}
-use Rattle.swc_input.specs.declared.listed.TokensInput.{TokensInput}
-use Rattle.swc_input.specs.declared.token.TokenAndSpan.{TokenAndSpan}
+use Rattle.swc_input.specs.{Kept.kept_of, Laws.Read-still, Listed.listed_model, Recording.is_silent, declared.buffer.Buffer.Buffer, declared.capturing.Capturing.Capturing, declared.listed.TokensInput.TokensInput, declared.token.TokenAndSpan.TokenAndSpan}
 use Rattle.swc_input.proofs.Captured.{captured, kept-one-by-one}
-use Rattle.swc_ast.specs.Tree.{Tree}
-use Rattle.swc_ast.specs.Trees.{unmarked}
-use Rattle.swc_ast.specs.declared.expr.Expr.{Expr as ExprOf}
-use Rattle.swc_ast.specs.declared.spanned.Spanned.{Ghosts}
-use Rattle.swc_bodies.specs.Readings.{Hook, LawfulHook}
-use Rattle.swc_bodies.specs.Slashes.{ReplayHook, in_order}
+use Rattle.swc_ast.specs.{Tree.Tree, Trees.unmarked, declared.expr.Expr.Expr as ExprOf, declared.spanned.Spanned.Ghosts}
+use Rattle.swc_bodies.specs.{Readings.Hook, Readings.LawfulHook, Slashes.ReplayHook, Slashes.in_order}
 use Rattle.swc_grammar.specs.Reads.{Reads, ReadsUnmarked, at-end}
-use Rattle.swc_grammar.specs.Scope.{Scope}
-use Rattle.swc_grammar.specs.Symbols.{Expr}
+use Rattle.swc_grammar.specs.{Scope.Scope, Symbols.Expr}
 use Rattle.swc_grammar.proofs.One.{one-reading}
 use Rattle.swc_laws.specs.Replay.{Joined}
-use Rattle.swc_laws.proofs.Replay.{replay}
-use Rattle.swc_laws.proofs.Wanted.{replay-wanted}
+use Rattle.swc_laws.proofs.{Replay.replay, Wanted.replay-wanted}
 use Rattle.swc_steps.specs.Parsing.{Here, Loud, scope, scope_of}
 use Rattle.swc_steps.proofs.Hearing.{same_faults}
 use Rattle.swc_ecma_parser.specs.BothWays.{Fresh, Left, faults}
-use Rattle.swc_ecma_parser.specs.Calls.{buffer_of}
 use Rattle.swc_ecma_parser.specs.Promise.{Derives, Finished, Promised, Unmarred, covers_done, in_boxes}
 use Rattle.swc_ecma_parser.specs.Replaying.{HandsOut, ReadAgain, ReadsKeeping, Replayed, ReplayLaw, boxed, scope_at}
-use Rattle.swc_ecma_parser.specs.WholeList.{IsHeeded, plain_list}
-use Rattle.swc_ecma_parser.specs.declared.parser.Parser.{Parser}
+use Rattle.swc_ecma_parser.specs.{Calls.buffer_of, WholeList.IsHeeded, WholeList.plain_list, declared.parser.Parser.Parser}
 use Rattle.swc_ecma_parser.proofs.Top.{expr-stops}
 
 heeded-loud : (s : Source) → IsHeeded s.context s.syntax → is_silent s ≡ false

@@ -1,40 +1,24 @@
 -- From what the productions ensure to what callers are promised: the clean readers are the grammar's, both ways.
 use Rattle.std.proofs.Common.{◌≡◌, ◌≢◌, ◌<◌, Bool, true, false, ◌&&◌, not, List, [], ◌∷◌, ◌++◌, Some, None, Result, Ok, Err, IfOk, length, refl, sym, ap, subst, ◌∙◌, ⊎_elim, arith, length-append}
 use Rattle.std.proofs.lemmas.Bool.{cases_lt}
-use Rattle.swc_context.specs.declared.error.Error.{Error}
-use Rattle.swc_context.specs.declared.error.SyntaxError.{SyntaxError}
-use Rattle.swc_context.specs.declared.error.SyntaxError.TheVariants.{OutOfMemory}
-use Rattle.swc_context.specs.declared.span.Span.{Span}
-use Rattle.swc_input.specs.declared.buffer.Buffer.{Buffer}
-use Rattle.swc_input.specs.declared.token.TokenAndSpan.{TokenAndSpan}
-use Rattle.swc_input.specs.Source.{Model, Keeps}
-use Rattle.swc_input.specs.Buffer.{Future, Known}
+use Rattle.swc_context.specs.{declared.error.Error.Error, declared.error.SyntaxError.SyntaxError, declared.error.SyntaxError.TheVariants.OutOfMemory, declared.span.Span.Span}
 use Rattle.swc_input.specs.Laws.{Known-after, Known-Future, Future-some}
-use Rattle.swc_ast.specs.declared.lit.Lit.{Lit}
-use Rattle.swc_ast.specs.Parts.{lit_tree}
-use Rattle.swc_ast.specs.Pedantic.{privates_ok}
-use Rattle.swc_ast.specs.Tree.{Tree, node}
+use Rattle.swc_input.specs.{declared.buffer.Buffer.Buffer, declared.token.TokenAndSpan.TokenAndSpan, Source.Model, Source.Keeps, Buffer.Future, Buffer.Known}
 use Rattle.swc_ast.specs.Trees.{is_grouped, are_grouped, grouped_at, is_valid, are_valid, is_invalid, unmarked, items_of}
+use Rattle.swc_ast.specs.{declared.lit.Lit.Lit, Parts.lit_tree, Pedantic.privates_ok, Tree.Tree, Tree.node}
 use Rattle.swc_bodies.specs.Readings.{Hook, LawfulHook}
-use Rattle.swc_grammar.specs.Scope.{Scope}
 use Rattle.swc_grammar.specs.Symbols.{Symbol, Expr, Assign, Level, Unary, Lhs, Key, Prop, Literal, Arguments, Template, Pat, Element}
-use Rattle.swc_grammar.specs.Reads as grammar
 use Rattle.swc_grammar.specs.Clean.{Out, sym as at, Stop, run}
-use Rattle.swc_grammar.specs.Words.{◌>>=◌}
+use Rattle.swc_grammar.specs.{Scope.Scope, Words.◌>>=◌}
+use Rattle.swc_grammar.specs.Reads as grammar
 use Rattle.swc_grammar.proofs.Sound as clean
 use Rattle.swc_grammar.proofs.Complete as clean_all
 use Rattle.swc_grammar.proofs.Complete.{stops-expr, stops-assign, stops-level, stops-unary, stops-element}
-use Rattle.swc_grammar.proofs.Cut.{cut-append}
-use Rattle.swc_grammar.proofs.Good.{grouped, valid}
-use Rattle.swc_grammar.proofs.Literals.{literal-read}
-use Rattle.swc_grammar.proofs.Marks.{same-grouped, same-valid}
-use Rattle.swc_laws.proofs.PedanticTrees.{privates-unmarked}
-use Rattle.swc_laws.proofs.Privates.{privates}
+use Rattle.swc_grammar.proofs.{Cut.cut-append, Good.grouped, Good.valid, Literals.literal-read, Marks.same-grouped, Marks.same-valid}
+use Rattle.swc_laws.proofs.{PedanticTrees.privates-unmarked, Privates.privates}
 use Rattle.swc_steps.specs.Parsing.{scope, recorded, Loud, Consumes, Heard, Parses, TookLiteral}
-use Rattle.swc_ecma_parser.specs.Promise.{Derivation, Anywhere, EndsAt, Unmarred, Derives, DerivesOnly, Sound, Complete, OneTree}
-use Rattle.swc_ecma_parser.specs.Promise.{Grouped, Valid, PrivatesPlaced, PromisedLit, only_items, items_and_comma, ReadsAs}
-use Rattle.swc_steps.proofs.Hearing.{same_faults}
-use Rattle.swc_steps.proofs.Steps.{Reader, consumes_of}
+use Rattle.swc_ecma_parser.specs.Promise.{Derivation, Anywhere, EndsAt, Unmarred, Derives, DerivesOnly, Sound, Complete, OneTree, Grouped, Valid, PrivatesPlaced, PromisedLit, only_items, items_and_comma, ReadsAs}
+use Rattle.swc_steps.proofs.{Hearing.same_faults, Steps.Reader, Steps.consumes_of}
 use Rattle.swc_ecma_parser.proofs.Placed.{PrivatesLeft}
 
 -- What a clean reader reads is derived, and then also from its own tokens alone.

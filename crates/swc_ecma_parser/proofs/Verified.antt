@@ -1,23 +1,13 @@
 -- From what is recorded of names that are left over to what is promised of the answer in a box.
-use Rattle.std.proofs.Common.{◌≡◌, ℕ, Bool, true, false, List, Result, Ok, Err, IsOk, IfOk, IfErr, OnOk, MatchResult, ◌||◌}
-use Rattle.std.proofs.Common.{refl, sym, ap, subst, ◌∙◌}
-use Rattle.swc_context.specs.declared.error.Error.{Error}
-use Rattle.swc_context.specs.declared.span.BytePos.{BytePos}
+use Rattle.std.proofs.Common.{◌≡◌, ℕ, Bool, true, false, List, Result, Ok, Err, IsOk, IfOk, IfErr, OnOk, MatchResult, ◌||◌, refl, sym, ap, subst, ◌∙◌}
+use Rattle.swc_context.specs.{declared.error.Error.Error, declared.span.BytePos.BytePos}
 use Rattle.swc_input.specs.Buffer.{Known, Lives, Read, ReadSome, current, last_position, previous, state_of}
 use Rattle.swc_input.specs.Recording.{is_fit, is_silent, no_memory}
-use Rattle.swc_input.specs.Source.{Model, Laws}
-use Rattle.swc_input.specs.declared.buffer.Buffer.{Buffer}
-use Rattle.swc_input.specs.declared.token.TokenAndSpan.{TokenAndSpan}
-use Rattle.swc_ast.specs.Tree.{Tree}
-use Rattle.swc_ast.specs.Trees.{unmarked}
-use Rattle.swc_ast.specs.declared.spanned.Spanned.{Ghosts}
-use Rattle.swc_nodes.specs.NodeParts.{expr_part}
+use Rattle.swc_input.specs.{Source.Model, Source.Laws, declared.buffer.Buffer.Buffer, declared.token.TokenAndSpan.TokenAndSpan, Recordings.RecordsAll}
+use Rattle.swc_ast.specs.{Tree.Tree, Trees.unmarked, declared.spanned.Spanned.Ghosts}
 use Rattle.swc_nodes.specs.GrowingNodes.{bare_at, tree_at, Made, SameNodes}
-use Rattle.swc_nodes.specs.declared.commas.TrailingCommas.{TrailingCommas}
-use Rattle.swc_nodes.specs.declared.node.ExprId.{ExprId}
-use Rattle.swc_nodes.specs.declared.nodes.Nodes.{Nodes}
+use Rattle.swc_nodes.specs.{NodeParts.expr_part, declared.commas.TrailingCommas.TrailingCommas, declared.node.ExprId.ExprId, declared.nodes.Nodes.Nodes}
 use Rattle.swc_verifier.specs.CoverNames.{cover_names}
-use Rattle.swc_input.specs.Recordings.{RecordsAll}
 use Rattle.swc_verifier.specs.Faults.{cover_faults, begins_fit, Appends}
 use Rattle.swc_steps.specs.Parsing.{Loud, Tries}
 use Rattle.swc_steps.proofs.Steps.{spent}
@@ -53,7 +43,7 @@ module _ {S : Type 0} {model : Model S} (laws : Laws model) where
   }
 
 module _ {S F C K : Type 0} {fg : Ghosts F} {cg : Ghosts C} {kg : Ghosts K} {model : Model S} where
-  -- The faults are those of the expression that was put in, which stands as it did.
+  -- The faults are those of the expression that was put in, which is as it was.
   pub looked-through : (given : Tree F C K) (k : ℕ) (b c : Buffer S) (ns ms : Nodes F C K fg cg kg) (id : ExprId)
       → Made k ns (expr_part id) given → RecordsFaults model (cover_faults (cover_names (tree_at ns id.0))) b c → ms ≡ ns
       → RecordsFaults model (cover_faults (cover_names given)) b c × Made k ms (expr_part id) given

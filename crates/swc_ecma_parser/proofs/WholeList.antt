@@ -1,29 +1,16 @@
 -- From one tree read, and the end looked for, to the headline.
 use Rattle.std.proofs.Common.{◌≡◌, ℕ, Bool, true, false, not, ◌||◌, List, [], ◌∷◌, ◌++◌, Option, Some, None, Result, Err, IfOk, IsSome, MatchResult, refl, sym, ap, subst, ◌∙◌}
 use Rattle.std.proofs.lemmas.List.{append-nil}
-use Rattle.swc_context.specs.Contexts.{view}
-use Rattle.swc_context.specs.declared.context.Context.{Context}
-use Rattle.swc_context.specs.declared.context.EsVersion.{EsVersion}
-use Rattle.swc_context.specs.declared.context.Syntax.{Syntax}
-use Rattle.swc_context.specs.declared.error.Error.{Error}
-use Rattle.swc_context.specs.declared.span.BytePos.{BytePos}
-use Rattle.swc_context.specs.declared.error.SyntaxError.TheVariants.{OutOfMemory}
-use Rattle.swc_input.specs.declared.buffer.Buffer.{Buffer}
-use Rattle.swc_input.specs.declared.listed.TokensInput.{TokensInput}
-use Rattle.swc_input.specs.declared.token.TokenAndSpan.{TokenAndSpan}
+use Rattle.swc_context.specs.{Contexts.view, declared.context.Context.Context, declared.context.EsVersion.EsVersion, declared.context.Syntax.Syntax, declared.error.Error.Error, declared.span.BytePos.BytePos, declared.error.SyntaxError.TheVariants.OutOfMemory}
 use Rattle.swc_input.specs.Source.{Model, Laws, Source, given_one}
 use Rattle.swc_input.specs.Buffer.{Known, Looked, current, fresh, held, source}
 use Rattle.swc_input.specs.Listed.{listed_state, listed_model, listed_laws, new_state}
 use Rattle.swc_input.specs.Laws.{Known-after, Known-Future, Future-end}
-use Rattle.swc_input.specs.Recording.{is_silent}
-use Rattle.swc_ast.specs.Tree.{Tree}
-use Rattle.swc_ast.specs.declared.spanned.Spanned.{Ghosts}
+use Rattle.swc_input.specs.{declared.buffer.Buffer.Buffer, declared.listed.TokensInput.TokensInput, declared.token.TokenAndSpan.TokenAndSpan, Recording.is_silent}
+use Rattle.swc_ast.specs.{Tree.Tree, declared.spanned.Spanned.Ghosts}
 use Rattle.swc_bodies.specs.Readings.{Hook}
-use Rattle.swc_grammar.specs.Scope.{Scope}
-use Rattle.swc_grammar.specs.Symbols.{Symbol}
-use Rattle.swc_grammar.specs.Reads.{Reads}
-use Rattle.swc_nodes.specs.NodeParts.{Part}
-use Rattle.swc_nodes.specs.declared.nodes.Nodes.{Nodes}
+use Rattle.swc_grammar.specs.{Scope.Scope, Symbols.Symbol, Reads.Reads}
+use Rattle.swc_nodes.specs.{NodeParts.Part, declared.nodes.Nodes.Nodes}
 use Rattle.swc_steps.specs.Parsing.{scope_of, scope, Loud}
 use Rattle.swc_ecma_parser.specs.Calls.{buffer_of, has_failed, nodes_of, with_bound}
 use Rattle.swc_ecma_parser.specs.Promise.{EndsAt, Finished, Unmarred, covers_done}

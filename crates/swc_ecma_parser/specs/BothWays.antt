@@ -1,34 +1,17 @@
 -- A list in parentheses, read as the parameters of an arrow function by way of expressions (ECMA-262, 15.3), and after
 -- its parenthesis as formal parameters (15.1): the law of the cover grammar and its converse, in their own words.
 use Rattle.std.specs.Prelude.{◌≡◌, Bool, true, false, List, [], ◌∷◌, map, Result, IfOk, MatchResult}
-use Rattle.std.specs.declared.alloc.Global.{Global}
-use Rattle.std.specs.declared.vec.Vec.{Vec}
-use Rattle.swc_context.specs.Contexts.{view}
-use Rattle.swc_context.specs.declared.context.Context.{Context}
-use Rattle.swc_context.specs.declared.context.Syntax.{Syntax}
-use Rattle.swc_context.specs.declared.error.Error.{Error}
-use Rattle.swc_context.specs.declared.error.SyntaxError.TheVariants.{OutOfMemory}
-use Rattle.swc_input.specs.Buffer.{Known, source}
-use Rattle.swc_input.specs.Kinds.{at_token}
-use Rattle.swc_input.specs.Listed.{listed_model, listed_state}
-use Rattle.swc_input.specs.declared.listed.TokensInput.{TokensInput}
-use Rattle.swc_input.specs.declared.token.TokenAndSpan.{TokenAndSpan}
+use Rattle.std.specs.{declared.alloc.Global.Global, declared.vec.Vec.Vec}
+use Rattle.swc_context.specs.{Contexts.view, declared.context.Context.Context, declared.context.Syntax.Syntax, declared.error.Error.Error, declared.error.SyntaxError.TheVariants.OutOfMemory}
+use Rattle.swc_input.specs.{Buffer.Known, Buffer.source, Kinds.at_token, Listed.listed_model, Listed.listed_state, declared.listed.TokensInput.TokensInput, declared.token.TokenAndSpan.TokenAndSpan}
 use Rattle.swc_ast.specs.Tree.{Trees, erase_all, trees}
-use Rattle.swc_ast.specs.TreeOf.{pat_tree}
-use Rattle.swc_ast.specs.declared.function.Param.{Param}
-use Rattle.swc_ast.specs.declared.pat.Pat.{Pat}
-use Rattle.swc_ast.specs.declared.spanned.Spanned.{Ghosts}
+use Rattle.swc_ast.specs.{TreeOf.pat_tree, declared.function.Param.Param, declared.pat.Pat.Pat, declared.spanned.Spanned.Ghosts}
 use Rattle.swc_bodies.specs.Readings.{Hook}
-use Rattle.swc_grammar.specs.Clean.{first}
-use Rattle.swc_grammar.specs.Patterns.{all_bind_names}
-use Rattle.swc_grammar.specs.Symbols.{Heads}
-use Rattle.swc_grammar.specs.Tokens.{is_lparen, is_rparen}
+use Rattle.swc_grammar.specs.{Clean.first, Patterns.all_bind_names, Symbols.Heads, Tokens.is_lparen, Tokens.is_rparen}
 use Rattle.swc_laws.specs.Bound.{Spelled, is_free_name, is_kept_name}
 use Rattle.swc_steps.specs.Parsing.{scope, scope_of, Loud}
-use Rattle.swc_ecma_parser.specs.Calls.{buffer_of, has_failed}
 use Rattle.swc_ecma_parser.specs.Promise.{Promised, PromisedParams, heads_in_boxes, params_in_boxes, pats_of}
-use Rattle.swc_ecma_parser.specs.WholeList.{IsHeeded}
-use Rattle.swc_ecma_parser.specs.declared.parser.Parser.{Parser}
+use Rattle.swc_ecma_parser.specs.{Calls.buffer_of, Calls.has_failed, WholeList.IsHeeded, declared.parser.Parser.Parser}
 
 module _ {F C K : Type 0} where
   -- patterns in boxes, and those of parameters

@@ -1,34 +1,15 @@
 -- What the calls of a parser do.
 use Rattle.std.specs.Prelude.{◌≡◌, ℕ, List, map, Bool, true, false, None, Some, IsSome, Option, Result, Ok, Err, IfOk, IfErr, OnOk, MatchResult}
-use Rattle.std.specs.declared.alloc.Global.{Global}
-use Rattle.std.specs.declared.boxed.Box.{Box}
-use Rattle.std.specs.declared.vec.Vec.{Vec}
-use Rattle.swc_context.specs.declared.error.Error.{Error}
-use Rattle.swc_context.specs.declared.error.SyntaxError.TheVariants.{ParserFailed}
-use Rattle.swc_context.specs.declared.span.BytePos.{BytePos}
-use Rattle.swc_context.specs.declared.span.Span.{Span}
-use Rattle.swc_input.specs.declared.buffer.Buffer.{Buffer}
-use Rattle.swc_input.specs.declared.token.TokenAndSpan.{TokenAndSpan}
-use Rattle.swc_input.specs.Source.{Model}
+use Rattle.std.specs.{declared.alloc.Global.Global, declared.boxed.Box.Box, declared.vec.Vec.Vec}
+use Rattle.swc_context.specs.{declared.error.Error.Error, declared.error.SyntaxError.TheVariants.ParserFailed, declared.span.BytePos.BytePos, declared.span.Span.Span}
 use Rattle.swc_input.specs.Buffer.{ReadSome, Looked, current, last_position, previous, state_of}
-use Rattle.swc_input.specs.Recording.{no_memory}
-use Rattle.swc_input.specs.Recordings.{Judges}
-use Rattle.swc_ast.specs.Parts.{param_tree}
+use Rattle.swc_input.specs.{declared.buffer.Buffer.Buffer, declared.token.TokenAndSpan.TokenAndSpan, Source.Model, Recording.no_memory, Recordings.Judges}
 use Rattle.swc_ast.specs.Tree.{Tree, object, node, trees, args, no_span}
 use Rattle.swc_ast.specs.TreeOf.{boxed_tree, pat_tree, pat_prop_tree, prop_or_spread_tree}
-use Rattle.swc_ast.specs.declared.expr.Expr.{Expr}
-use Rattle.swc_ast.specs.declared.function.Param.{Param}
-use Rattle.swc_ast.specs.declared.pat.ObjectPatProp.{ObjectPatProp}
-use Rattle.swc_ast.specs.declared.pat.Pat.{Pat}
-use Rattle.swc_ast.specs.declared.prop.PropOrSpread.{PropOrSpread}
-use Rattle.swc_ast.specs.declared.spanned.Spanned.{Ghosts}
+use Rattle.swc_ast.specs.{Parts.param_tree, declared.expr.Expr.Expr, declared.function.Param.Param, declared.pat.ObjectPatProp.ObjectPatProp, declared.pat.Pat.Pat, declared.prop.PropOrSpread.PropOrSpread, declared.spanned.Spanned.Ghosts}
 use Rattle.swc_nodes.specs.Commas.{Remembers, Recalls, part_commas}
-use Rattle.swc_nodes.specs.NodeParts.{Part}
-use Rattle.swc_nodes.specs.declared.commas.TrailingCommas.{TrailingCommas}
-use Rattle.swc_nodes.specs.declared.nodes.Nodes.{Nodes}
-use Rattle.swc_nodes.specs.GrowingNodes.{tree_at, bare_at}
-use Rattle.swc_patterns.specs.Objects.{rests_checked, props_stage}
-use Rattle.swc_patterns.specs.RestFaults.{rests_faults, rests_refused}
+use Rattle.swc_nodes.specs.{NodeParts.Part, declared.commas.TrailingCommas.TrailingCommas, declared.nodes.Nodes.Nodes, GrowingNodes.tree_at, GrowingNodes.bare_at}
+use Rattle.swc_patterns.specs.{Objects.rests_checked, Objects.props_stage, RestFaults.rests_faults, RestFaults.rests_refused}
 use Rattle.swc_steps.specs.Parsing.{is_memory, ContinuesAlone, Looks}
 use Rattle.swc_ecma_parser.specs.declared.parser.Parser.{Parser}
 

@@ -1,16 +1,10 @@
 -- What is looked for in an answer before a call hands it out: cover names that are left in it.
 use Rattle.std.specs.Prelude.{◌≡◌, ℕ, Bool, true, false, not, ◌||◌, List, [], ◌∷◌, Result, Err, MatchResult}
-use Rattle.swc_context.specs.declared.error.Error.{Error}
-use Rattle.swc_context.specs.declared.span.Span.{Span}
-use Rattle.swc_input.specs.Buffer.{last_position, state_of}
-use Rattle.swc_input.specs.Recording.{is_silent}
-use Rattle.swc_input.specs.Source.{Model}
-use Rattle.swc_input.specs.declared.buffer.Buffer.{Buffer}
-use Rattle.swc_ast.specs.Tree.{Tree}
-use Rattle.swc_ast.specs.declared.spanned.Spanned.{Ghosts}
+use Rattle.swc_context.specs.{declared.error.Error.Error, declared.span.Span.Span}
+use Rattle.swc_input.specs.{Buffer.last_position, Buffer.state_of, Recording.is_silent, Source.Model, declared.buffer.Buffer.Buffer}
+use Rattle.swc_ast.specs.{Tree.Tree, declared.spanned.Spanned.Ghosts}
 use Rattle.swc_grammar.specs.Scope.{Scope}
-use Rattle.swc_nodes.specs.GrowingNodes.{tree_at}
-use Rattle.swc_nodes.specs.NodeParts.{Part}
+use Rattle.swc_nodes.specs.{GrowingNodes.tree_at, NodeParts.Part}
 use Rattle.swc_steps.specs.Parsing.{scope, Checks, Forgoes}
 use Rattle.swc_verifier.specs.CoverNames.{parts_covers_left}
 use Rattle.swc_ecma_parser.specs.Calls.{buffer_of, nodes_of, with_buffer, Kept, MovesOut, RemembersParts}

@@ -1,47 +1,25 @@
 -- Heads of `for` that begin with no declaration (ECMA-262, 14.7.4 and 14.7.5): as they are read, among the nodes and in
 -- boxes, and what the calls promise of them.
 use Rattle.std.specs.Prelude.{◌≡◌, ◌≢◌, ◌||◌, ℕ, Bool, true, false, List, ◌++◌, Result, Err, IfOk, MatchResult}
-use Rattle.std.specs.declared.alloc.Global.{Global}
-use Rattle.std.specs.declared.boxed.Box.{Box}
-use Rattle.swc_context.specs.declared.context.Context.{Context}
-use Rattle.swc_context.specs.declared.error.Error.{Error}
-use Rattle.swc_context.specs.declared.error.SyntaxError.TheVariants.{OutOfMemory}
-use Rattle.swc_context.specs.declared.span.Span.{Span}
-use Rattle.swc_input.specs.declared.buffer.Buffer.{Buffer}
-use Rattle.swc_input.specs.declared.token.Token.{Token}
-use Rattle.swc_input.specs.declared.token.TokenAndSpan.{TokenAndSpan}
-use Rattle.swc_input.specs.Source.{Model}
+use Rattle.std.specs.{declared.alloc.Global.Global, declared.boxed.Box.Box}
+use Rattle.swc_context.specs.{declared.context.Context.Context, declared.error.Error.Error, declared.error.SyntaxError.TheVariants.OutOfMemory, declared.span.Span.Span}
 use Rattle.swc_input.specs.Buffer.{Read, Future, Known, previous}
-use Rattle.swc_input.specs.Kinds.{at_token}
-use Rattle.swc_ast.specs.Pedantic.{privates_ok}
+use Rattle.swc_input.specs.{declared.buffer.Buffer.Buffer, declared.token.Token.Token, declared.token.TokenAndSpan.TokenAndSpan, Source.Model, Kinds.at_token}
 use Rattle.swc_ast.specs.Tree.{Tree, node, nil, cons, args, pat_expr, no_span}
-use Rattle.swc_ast.specs.TreeOf.{boxed_tree, pat_tree}
 use Rattle.swc_ast.specs.Trees.{is_grouped, is_valid, unmarked}
-use Rattle.swc_ast.specs.declared.expr.Expr.{Expr as ExprOf}
-use Rattle.swc_ast.specs.declared.for_head.ForHead.{ForHead as HeadOf}
-use Rattle.swc_ast.specs.declared.for_head.ForHead.TheVariants as boxed
-use Rattle.swc_ast.specs.declared.spanned.Spanned.{Ghosts}
+use Rattle.swc_ast.specs.{Pedantic.privates_ok, TreeOf.boxed_tree, TreeOf.pat_tree, declared.expr.Expr.Expr as ExprOf, declared.for_head.ForHead.ForHead as HeadOf, declared.for_head.ForHead.ForHead as boxed, declared.spanned.Spanned.Ghosts}
 use Rattle.swc_bodies.specs.Readings.{Hook}
-use Rattle.swc_grammar.specs.Arrows.{is_of}
 use Rattle.swc_grammar.specs.Clean.{Out, sym, run}
-use Rattle.swc_grammar.specs.ForHead.{ForHead, for_target, for_expr, for_context, in_for, in_own_for, is_for_target, is_in}
-use Rattle.swc_grammar.specs.ForHead.{ReadsHead, ReadsHeadUnmarked, HeadStops, head_tree, next, unmarked_head}
-use Rattle.swc_grammar.specs.Reads.{Reads, ReadsUnmarked}
-use Rattle.swc_grammar.specs.Scope.{Scope}
-use Rattle.swc_grammar.specs.Symbols.{Symbol, Expr}
-use Rattle.swc_nodes.specs.Commas.{commas_in, Recalls}
+use Rattle.swc_grammar.specs.ForHead.{ForHead, for_target, for_expr, for_context, in_for, in_own_for, is_for_target, is_in, ReadsHead, ReadsHeadUnmarked, HeadStops, head_tree, next, unmarked_head}
+use Rattle.swc_grammar.specs.{Arrows.is_of, Reads.Reads, Reads.ReadsUnmarked, Scope.Scope, Symbols.Symbol, Symbols.Expr}
 use Rattle.swc_nodes.specs.GrowingNodes.{tree_at, Apart, SameNodes}
-use Rattle.swc_nodes.specs.NodeParts.{for_head_parts}
-use Rattle.swc_nodes.specs.declared.commas.TrailingCommas.{TrailingCommas}
-use Rattle.swc_nodes.specs.declared.node.ForHeadId.{ForHeadId}
-use Rattle.swc_nodes.specs.declared.node.ForHeadId.TheVariants as number
-use Rattle.swc_nodes.specs.declared.nodes.Nodes.{Nodes}
+use Rattle.swc_nodes.specs.{Commas.commas_in, Commas.Recalls, NodeParts.for_head_parts, declared.commas.TrailingCommas.TrailingCommas, declared.node.ForHeadId.ForHeadId, declared.node.ForHeadId.ForHeadId as number, declared.nodes.Nodes.Nodes}
 use Rattle.swc_steps.specs.Parsing.{scope, seen, Loud, Consumes}
 use Rattle.swc_ecma_parser.specs.Calls.{buffer_of, nodes_of, commas_of, tree_by, has_failed, wants_memory, parser_failed}
 use Rattle.swc_ecma_parser.specs.Promise.{Answer, AddsParts, Complete, Derivation, Finished, Promised, Unmarred, covers_done}
 use Rattle.swc_ecma_parser.specs.declared.parser.Parser.{Parser}
 
--- the words before which what is written to stands
+-- the words that come after what is written to
 abbrev pub is_each_word : Token → Bool
 is_each_word t = is_of t || is_in t
 
@@ -175,7 +153,7 @@ pub record HeadPromise {S T F C K : Type 0} (model : Model S) (sure : Bool) (der
   -- No other head is derived up to such a token, nor up to another one of these than what was answered.
   pub one_head : sure ≡ true → Loud model b → (ts ys : List TokenAndSpan) (h : ForHead F C K) → Known model b ts
       → derives (scope model b) ts ys h → HeadStops ys → IfOk r (λ x. (h ≡ view x) × Known model c ys)
-  -- In what was answered with no fault recorded operators group as their levels say, it holds no `Invalid`, and private names stand where
+  -- In what was answered with no fault recorded operators group as their levels say, it holds no `Invalid`, and private names are where
   -- they may if the syntax is pedantic.
   pub grouped : Loud model b → IfOk r (λ h. Unmarred model b c → is_grouped (head_tree (view h)) ≡ true)
   pub valid : Loud model b → IfOk r (λ h. Unmarred model b c → is_valid (head_tree (view h)) ≡ true)

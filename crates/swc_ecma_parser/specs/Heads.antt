@@ -1,21 +1,15 @@
--- The parameters of an arrow function, read from their parenthesis on (ECMA-262, 13.2.9 and 15.3): as they stand among
+-- The parameters of an arrow function, read from their parenthesis on (ECMA-262, 13.2.9 and 15.3): as they are among
 -- the nodes, before they are moved out of these.
 use Rattle.std.specs.Prelude.{ℕ, List, Some}
-use Rattle.std.specs.declared.alloc.Global.{Global}
-use Rattle.std.specs.declared.vec.Vec.{Vec}
+use Rattle.std.specs.{declared.alloc.Global.Global, declared.vec.Vec.Vec}
 use Rattle.swc_input.specs.declared.token.TokenAndSpan.{TokenAndSpan}
 use Rattle.swc_ast.specs.Tree.{Tree, node, args, no_span}
 use Rattle.swc_ast.specs.declared.spanned.Spanned.{Ghosts}
 use Rattle.swc_bodies.specs.Readings.{Hook}
 use Rattle.swc_cover.specs.Refining.{pats_at}
 use Rattle.swc_grammar.specs.Clean.{Out, sym, run}
-use Rattle.swc_grammar.specs.Scope.{Scope}
-use Rattle.swc_grammar.specs.Symbols.{Heads}
-use Rattle.swc_grammar.specs.Words.{◌>>=◌}
-use Rattle.swc_nodes.specs.GrowingNodes.{Apart}
-use Rattle.swc_nodes.specs.Lists.{pats_parts}
-use Rattle.swc_nodes.specs.declared.node.PatId.{PatId}
-use Rattle.swc_nodes.specs.declared.nodes.Nodes.{Nodes}
+use Rattle.swc_grammar.specs.{Scope.Scope, Symbols.Heads, Words.◌>>=◌}
+use Rattle.swc_nodes.specs.{GrowingNodes.Apart, Lists.pats_parts, declared.node.PatId.PatId, declared.nodes.Nodes.Nodes}
 use Rattle.swc_ecma_parser.specs.Promise.{keep_items}
 
 -- what is read of them: the parameters alone, since the answer has no place for that of the list

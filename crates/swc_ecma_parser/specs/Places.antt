@@ -2,10 +2,7 @@
 use Rattle.std.specs.Prelude.{◌≡◌, ℕ, List, Some}
 use Rattle.swc_context.specs.declared.span.Span.{Span}
 use Rattle.swc_ast.specs.declared.spanned.Spanned.{Ghosts}
-use Rattle.swc_nodes.specs.GrowingNodes.{Stood}
-use Rattle.swc_nodes.specs.Lookup.{IsTextAt, operator_of}
-use Rattle.swc_nodes.specs.declared.node.Node.{Node}
-use Rattle.swc_nodes.specs.declared.nodes.Nodes.{Nodes}
+use Rattle.swc_nodes.specs.{GrowingNodes.Stood, Lookup.IsTextAt, Lookup.operator_of, declared.node.Node.Node, declared.nodes.Nodes.Nodes}
 
 -- at the place the text has the operator of the node that has the number
 pub record IsOperatorAt {F C K : Type 0} {fg : Ghosts F} {cg : Ghosts C} {kg : Ghosts K} (ns : Nodes F C K fg cg kg) (id : ℕ)

@@ -1,53 +1,29 @@
 -- What the calls of a parser promise, by the written grammar alone. What is derived at a buffer is derived in its scope: by
 -- the context without the four flags that decide nothing (`view`), and the syntax. The context itself, with all its flags,
 -- is after each call what it was before.
-use Rattle.std.specs.Prelude.{◌≡◌, ◌≢◌, Bool, true, false, not, ◌||◌, ◌&&◌}
-use Rattle.std.specs.Prelude.{List, [], ◌∷◌, ◌++◌, map, Option, Some, None, Result, Err, IfOk, OnOk, ◌<◌, MatchResult}
-use Rattle.swc_context.specs.declared.error.Error.{Error}
-use Rattle.swc_context.specs.declared.error.SyntaxError.TheVariants.{OutOfMemory}
-use Rattle.swc_context.specs.declared.span.Span.{Span}
-use Rattle.swc_input.specs.declared.buffer.Buffer.{Buffer}
-use Rattle.swc_input.specs.declared.token.TokenAndSpan.{TokenAndSpan}
-use Rattle.swc_input.specs.Source.{Model}
+use Rattle.std.specs.Prelude.{◌≡◌, ◌≢◌, Bool, true, false, not, ◌||◌, ◌&&◌, List, [], ◌∷◌, ◌++◌, map, Option, Some, None, Result, Err, IfOk, OnOk, ◌<◌, MatchResult}
+use Rattle.std.specs.{declared.alloc.Global.Global, declared.boxed.Box.Box, declared.vec.Vec.Vec}
+use Rattle.swc_context.specs.{declared.error.Error.Error, declared.error.SyntaxError.TheVariants.OutOfMemory, declared.span.Span.Span}
 use Rattle.swc_input.specs.Buffer.{Read, ReadSome, Future, Known, previous, to_come}
-use Rattle.swc_input.specs.Kinds.{at_token}
-use Rattle.std.specs.declared.alloc.Global.{Global}
-use Rattle.std.specs.declared.boxed.Box.{Box}
-use Rattle.std.specs.declared.vec.Vec.{Vec}
+use Rattle.swc_input.specs.{declared.buffer.Buffer.Buffer, declared.token.TokenAndSpan.TokenAndSpan, Source.Model, Kinds.at_token}
 use Rattle.swc_ast.specs.Parts.{lit_tree, prop_name_tree, args_tree, tpl_tree}
 use Rattle.swc_ast.specs.Pedantic.{all_privates_ok, no_cover_left, none_left, privates_ok}
 use Rattle.swc_ast.specs.Tree.{Tree, Trees, node, args, args_with, no_span, trees}
 use Rattle.swc_ast.specs.TreeOf.{pat_tree, pat_prop_tree, prop_or_spread_tree}
 use Rattle.swc_ast.specs.Trees.{is_grouped, are_grouped, is_valid, are_valid, items_of, comma_of, listed, unmarked, all_unmarked}
-use Rattle.swc_ast.specs.declared.expr.Expr.{Expr as ExprOf}
-use Rattle.swc_ast.specs.declared.expr.ExprOrSpread.{ExprOrSpread}
-use Rattle.swc_ast.specs.declared.expr.Tpl.{Tpl}
-use Rattle.swc_ast.specs.declared.function.Param.{Param}
-use Rattle.swc_ast.specs.declared.lit.Lit.{Lit}
-use Rattle.swc_ast.specs.declared.pat.ObjectPatProp.{ObjectPatProp}
-use Rattle.swc_ast.specs.declared.pat.Pat.{Pat as PatOf}
-use Rattle.swc_ast.specs.declared.prop.PropName.{PropName}
-use Rattle.swc_ast.specs.declared.prop.PropOrSpread.{PropOrSpread}
-use Rattle.swc_ast.specs.declared.spanned.Spanned.{Ghosts}
+use Rattle.swc_ast.specs.{declared.expr.Expr.Expr as ExprOf, declared.expr.ExprOrSpread.ExprOrSpread, declared.expr.Tpl.Tpl, declared.function.Param.Param, declared.lit.Lit.Lit, declared.pat.ObjectPatProp.ObjectPatProp, declared.pat.Pat.Pat as PatOf, declared.prop.PropName.PropName, declared.prop.PropOrSpread.PropOrSpread, declared.spanned.Spanned.Ghosts}
 use Rattle.swc_bodies.specs.Readings.{Hook, Reading}
 use Rattle.swc_grammar.specs.Scope.{Scope}
 use Rattle.swc_grammar.specs.Clean.{first, no_link, no_arrow}
 use Rattle.swc_grammar.specs.Patterns.{any, binds_names, all_bind_names, prop_binds_names}
-use Rattle.swc_grammar.specs.Symbols.{Symbol, Expr, Exprs, Assign, Level, Unary, Lhs, Left, Base, Arguments, Args, ArgsTail}
-use Rattle.swc_grammar.specs.Symbols.{Primary, Literal, Template, Parts, Elements, ElementsTail, Item, Props, PropsTail, Prop}
-use Rattle.swc_grammar.specs.Symbols.{Key, AfterKey, Shell, Pat, Element, Rest, PatElements, PatElementsTail, PatProps}
-use Rattle.swc_grammar.specs.Symbols.{PatPropsTail, PatProp, Params, ParamsTail, Heads, ArrowBody}
+use Rattle.swc_grammar.specs.Symbols.{Symbol, Expr, Exprs, Assign, Level, Unary, Lhs, Left, Base, Arguments, Args, ArgsTail, Primary, Literal, Template, Parts, Elements, ElementsTail, Item, Props, PropsTail, Prop, Key, AfterKey, Shell, Pat, Element, Rest, PatElements, PatElementsTail, PatProps, PatPropsTail, PatProp, Params, ParamsTail, Heads, ArrowBody}
 use Rattle.swc_grammar.specs.Reads.{Reads, ReadsUnmarked, Stops}
 use Rattle.swc_grammar.specs.Names.{Spelling, NameKind, Reference, ReadsName}
 use Rattle.swc_grammar.specs.Tokens.{ends_prop, is_rparen, may_be_reference}
 use Rattle.swc_nodes.specs.Commas.{commas_in, commas_of_all, Recalls}
-use Rattle.swc_nodes.specs.Lists.{pats_parts}
 use Rattle.swc_nodes.specs.NodeParts.{Part, expr_part, pat_part, key_parts, param_parts, flat}
 use Rattle.swc_nodes.specs.GrowingNodes.{count, Apart, From, Grows, SameNodes}
-use Rattle.swc_nodes.specs.declared.commas.TrailingCommas.{TrailingCommas}
-use Rattle.swc_nodes.specs.declared.node.ExprId.{ExprId}
-use Rattle.swc_nodes.specs.declared.node.PatId.{PatId}
-use Rattle.swc_nodes.specs.declared.nodes.Nodes.{Nodes}
+use Rattle.swc_nodes.specs.{Lists.pats_parts, declared.commas.TrailingCommas.TrailingCommas, declared.node.ExprId.ExprId, declared.node.PatId.PatId, declared.nodes.Nodes.Nodes}
 use Rattle.swc_patterns.specs.Answers.{pat_at, params_at}
 use Rattle.swc_steps.specs.Parsing.{scope, Loud, Acts, Consumes, key_at, tree_of}
 use Rattle.swc_ecma_parser.specs.Calls.{buffer_of, nodes_of, commas_of, tree_by, pats_tree, has_failed, wants_memory, parser_failed}
@@ -115,7 +91,7 @@ EndsAt Params ys = ⊥
 EndsAt ParamsTail ys = ⊥
 EndsAt (ArrowBody is_async) ys = ⊥
 
--- An identifier reference, where a word stands first that isn't reserved, or `let`. The other words are taken too, with faults that
+-- An identifier reference, where a word comes first that isn't reserved, or `let`. The other words are taken too, with faults that
 -- wait where the code is no module's.
 abbrev pub RefersIfFree : Derivation Spelling
 RefersIfFree c xs ys n = at_token (may_be_reference c.context) (first xs) ≡ true → ReadsName Reference c xs ys n
@@ -157,7 +133,7 @@ module _ {S T A : Type 0} (model : Model S) (derives : Derivation A) (view : T �
   OneTree stops b r c = Loud model b → IfOk r (λ x. Unmarred model b c → DerivesOnly stops (view x) b c)
 
 module _ {S F C K T : Type 0} (model : Model S) (view : T → Tree F C K) where
-  -- In a tree answered with no fault recorded operators group as their levels say, and none of `??` stands directly over or under one
+  -- In a tree answered with no fault recorded operators group as their levels say, and none of `??` is directly over or under one
   -- of `||` or `&&`.
   abbrev pub Grouped : Buffer S → Result T Error → Buffer S → Type 0
   Grouped b r c = Loud model b → IfOk r (λ x. Unmarred model b c → is_grouped (view x) ≡ true)
@@ -166,7 +142,7 @@ module _ {S F C K T : Type 0} (model : Model S) (view : T → Tree F C K) where
   abbrev pub Valid : Buffer S → Result T Error → Buffer S → Type 0
   Valid b r c = Loud model b → IfOk r (λ x. Unmarred model b c → is_valid (view x) ≡ true)
 
-  -- Where the syntax is pedantic, in a tree answered with no fault recorded `#` and a name stand on the left of `in` alone (ECMA-262,
+  -- Where the syntax is pedantic, in a tree answered with no fault recorded `#` and a name are on the left of `in` alone (ECMA-262,
   -- 13.10.1), or name a link.
   abbrev pub PrivatesPlaced : Buffer S → Result T Error → Buffer S → Type 0
   PrivatesPlaced b r c = Loud model b → (scope model b).syntax.pedantic ≡ true
@@ -520,7 +496,7 @@ pub record PromisedParams {S H T F C K : Type 0} {fg : Ghosts F} {cg : Ghosts C}
   pub one_tree : has_failed p ≡ false → Loud model (buffer_of p) → IfOk r (λ v. Unmarred model (buffer_of p) (buffer_of q)
       → DerivesOnlyParams model (answer.derives hook Params) (answer.pats (nodes_of q) v) (buffer_of p) (buffer_of q))
   -- Whether a `)` comes next or not: in the patterns answered with no fault recorded operators group as their levels say, they hold no
-  -- `Invalid`, private names stand where they may if the syntax is pedantic, and the patterns bind names alone.
+  -- `Invalid`, private names are where they may be if the syntax is pedantic, and the patterns bind names alone.
   pub grouped : has_failed p ≡ false → Loud model (buffer_of p)
       → IfOk r (λ v. Unmarred model (buffer_of p) (buffer_of q) → are_grouped (answer.pats (nodes_of q) v) ≡ true)
   pub valid : has_failed p ≡ false → Loud model (buffer_of p)
@@ -540,11 +516,11 @@ pub record PromisedParams {S H T F C K : Type 0} {fg : Ghosts F} {cg : Ghosts C}
   -- it has failed from now on where it refuses when out of memory, and only there
   pub fails : has_failed p ≡ false → has_failed q ≡ wants_memory r
 
--- what a hook reads where a statement stands, of the context alone
+-- what a hook reads where a statement is, of the context alone
 abbrev pub ReadsBody : {V : Type 0} → Reading V → Derivation V
 ReadsBody reads c xs ys v = reads c.context xs ≡ Some (v, ys)
 
--- What a call does and promises by which the hook reads a function, a class or a block where a statement stands, from b to c, where it
+-- What a call does and promises by which the hook reads a function, a class or a block where a statement is, from b to c, where it
 -- answers r. A source that failed is out of memory.
 pub record HookReads {S V : Type 0} (model : Model S) (sure : Bool) (reads : Reading V) (b : Buffer S) (r : Result V Error)
     (c : Buffer S) : Type 0 where

@@ -1,43 +1,22 @@
 -- What the calls promise that make patterns of finished expressions (ECMA-262, 13.15.5 and 15.3).
-use Rattle.std.specs.Prelude.{◌≡◌, Bool, true, false, if◌then◌else◌, List, [], map, Option, Some, None, Result}
-use Rattle.std.specs.Prelude.{Err, IfOk, MatchOption, MatchResult}
-use Rattle.std.specs.declared.alloc.Global.{Global}
-use Rattle.std.specs.declared.boxed.Box.{Box}
-use Rattle.std.specs.declared.vec.Vec.{Vec}
-use Rattle.std.specs.Option.{is_some}
-use Rattle.swc_context.specs.declared.context.Context.{Context}
-use Rattle.swc_context.specs.declared.error.Error.{Error}
-use Rattle.swc_context.specs.declared.error.SyntaxError.TheVariants.{OutOfMemory}
-use Rattle.swc_context.specs.declared.span.Span.{Span}
-use Rattle.swc_input.specs.Source.{Model}
+use Rattle.std.specs.Prelude.{◌≡◌, Bool, true, false, if◌then◌else◌, List, [], map, Option, Some, None, Result, Err, IfOk, MatchOption, MatchResult}
+use Rattle.std.specs.{declared.alloc.Global.Global, declared.boxed.Box.Box, declared.vec.Vec.Vec, Option.is_some}
+use Rattle.swc_context.specs.{declared.context.Context.Context, declared.error.Error.Error, declared.error.SyntaxError.TheVariants.OutOfMemory, declared.span.Span.Span}
 use Rattle.swc_input.specs.Buffer.{Read, context, previous}
-use Rattle.swc_input.specs.declared.buffer.Buffer.{Buffer}
-use Rattle.swc_ast.specs.Parts.{item_trees}
+use Rattle.swc_input.specs.{Source.Model, declared.buffer.Buffer.Buffer}
 use Rattle.swc_ast.specs.Tree.{Tree, Trees, trees}
-use Rattle.swc_ast.specs.TreeOf.{pat_tree}
 use Rattle.swc_ast.specs.Trees.{is_valid, are_valid, unmarked, all_unmarked}
-use Rattle.swc_ast.specs.declared.expr.Expr.{Expr}
-use Rattle.swc_ast.specs.declared.expr.ExprOrSpread.{ExprOrSpread}
-use Rattle.swc_ast.specs.declared.pat.Pat.{Pat}
-use Rattle.swc_ast.specs.declared.spanned.Spanned.{Ghosts}
+use Rattle.swc_ast.specs.{Parts.item_trees, TreeOf.pat_tree, declared.expr.Expr.Expr, declared.expr.ExprOrSpread.ExprOrSpread, declared.pat.Pat.Pat, declared.spanned.Spanned.Ghosts}
 use Rattle.swc_grammar.specs.Cover.{binding, as_elements, heads_ok}
-use Rattle.swc_nodes.specs.Commas.{comma_at}
 use Rattle.swc_nodes.specs.Marking.{Marker, marked_by, all_marked_by}
-use Rattle.swc_nodes.specs.NodeParts.{Part}
 use Rattle.swc_nodes.specs.GrowingNodes.{count, Apart, SameNodes}
-use Rattle.swc_nodes.specs.declared.nodes.Nodes.{Nodes}
-use Rattle.swc_cover.specs.Faults.{Verdict, params_verdict}
-use Rattle.swc_cover.specs.Items.{want_items}
-use Rattle.swc_cover.specs.Moving.{KeptTo}
+use Rattle.swc_nodes.specs.{Commas.comma_at, NodeParts.Part, declared.nodes.Nodes.Nodes}
 use Rattle.swc_cover.specs.Noting.{names_bound, JudgesBy, JudgesParams}
 use Rattle.swc_cover.specs.PatTypes.{pattern_as, verdict_as, want_as}
-use Rattle.swc_cover.specs.Refining.{ChecksWhole, Unfitting}
-use Rattle.swc_cover.specs.declared.pat_type.PatType.{PatType}
+use Rattle.swc_cover.specs.{Faults.Verdict, Faults.params_verdict, Items.want_items, Moving.KeptTo, Refining.ChecksWhole, Refining.Unfitting, declared.pat_type.PatType.PatType}
 use Rattle.swc_steps.specs.Parsing.{Acts, Loud}
-use Rattle.swc_ecma_parser.specs.Calls.{buffer_of, nodes_of, commas_of, has_failed, parser_failed, tree_by}
-use Rattle.swc_ecma_parser.specs.Calls.{wants_memory}
-use Rattle.swc_ecma_parser.specs.Promise.{Unmarred}
-use Rattle.swc_ecma_parser.specs.declared.parser.Parser.{Parser}
+use Rattle.swc_ecma_parser.specs.Calls.{buffer_of, nodes_of, commas_of, has_failed, parser_failed, tree_by, wants_memory}
+use Rattle.swc_ecma_parser.specs.{Promise.Unmarred, declared.parser.Parser.Parser}
 
 -- What a call promises that makes patterns of expressions, from the parser p to q, where it answers r. By the grammar
 -- the expressions are `pattern`, if they are patterns of the kind that is asked for; `becomes` is what is made of them
@@ -56,7 +35,7 @@ pub record PromisedRefinement {S H T A F C K : Type 0} {fg : Ghosts F} {cg : Gho
   -- pattern that they are.
   pub sound : has_failed p ≡ false → valid ≡ true → Loud model (buffer_of p)
       → IfOk r (λ x. Unmarred model (buffer_of p) (buffer_of q) → MatchOption pattern ⊥ (λ m. view x ≡ strip m))
-  -- Where they are a pattern, it is answered, with nothing consumed and no fault recorded; or the answer is want of
+  -- Where they are a pattern, it is answered, with nothing consumed and no fault recorded; or it is out of
   -- memory.
   pub complete : has_failed p ≡ false → (m : A) → pattern ≡ Some m
       → MatchResult r
@@ -136,7 +115,7 @@ module _ {S H F C K : Type 0} {fg : Ghosts F} {cg : Ghosts C} {kg : Ghosts K} wh
 
 module _ {S H A X F C K : Type 0} {fg : Ghosts F} {cg : Ghosts C} {kg : Ghosts K} (model : Model S) (valid : Bool)
     (pattern : Option A) (becomes : A) (of : Nodes F C K fg cg kg → X → A) (parts : X → List Part) where
-  -- Expressions were put after all nodes, checked and made patterns of: nodes that there were stay, and new ones stand
+  -- Expressions were put after all nodes, checked and made patterns of: nodes that there were stay, and new ones are
   -- for what they become.
   pub record Recast (p : Parser S H F C K fg cg kg) (x : X) (q : Parser S H F C K fg cg kg) : Type 0 where
     pub checks : ChecksWhole model valid (is_some pattern) (buffer_of p) (buffer_of q)

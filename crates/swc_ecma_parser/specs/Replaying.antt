@@ -1,36 +1,21 @@
 -- An expression that was read while its tokens were kept, and what is kept of them read again: the law of replay, in its
 -- own words.
 use Rattle.std.specs.Prelude.{◌≡◌, Bool, true, false, List, [], Result, Ok, IfOk, MatchResult}
-use Rattle.std.specs.declared.alloc.Global.{Global}
-use Rattle.std.specs.declared.boxed.Box.{Box}
-use Rattle.swc_context.specs.Contexts.{view}
-use Rattle.swc_context.specs.declared.context.Context.{Context}
-use Rattle.swc_context.specs.declared.context.Syntax.{Syntax}
-use Rattle.swc_context.specs.declared.error.Error.{Error}
-use Rattle.swc_context.specs.declared.error.SyntaxError.TheVariants.{OutOfMemory}
+use Rattle.std.specs.{declared.alloc.Global.Global, declared.boxed.Box.Box}
+use Rattle.swc_context.specs.{Contexts.view, declared.context.Context.Context, declared.context.Syntax.Syntax, declared.error.Error.Error, declared.error.SyntaxError.TheVariants.OutOfMemory}
 use Rattle.swc_input.specs.Buffer.{fresh, last_position, source, state_of, with_source}
 use Rattle.swc_input.specs.Capturing.{capturing_model, tokens_kept, within}
-use Rattle.swc_input.specs.Kept.{kept_of, one_by_one}
-use Rattle.swc_input.specs.Listed.{listed_model}
-use Rattle.swc_input.specs.Source.{Model, Source}
-use Rattle.swc_input.specs.declared.capturing.Capturing.{Capturing}
-use Rattle.swc_input.specs.declared.listed.TokensInput.{TokensInput}
-use Rattle.swc_input.specs.declared.token.TokenAndSpan.{TokenAndSpan}
-use Rattle.swc_ast.specs.Tree.{Tree}
-use Rattle.swc_ast.specs.declared.expr.Expr.{Expr as ExprOf}
-use Rattle.swc_ast.specs.declared.spanned.Spanned.{Ghosts}
+use Rattle.swc_input.specs.{Kept.kept_of, Kept.one_by_one, Listed.listed_model, Source.Model, Source.Source, declared.capturing.Capturing.Capturing, declared.listed.TokensInput.TokensInput, declared.token.TokenAndSpan.TokenAndSpan}
+use Rattle.swc_ast.specs.{Tree.Tree, declared.expr.Expr.Expr as ExprOf, declared.spanned.Spanned.Ghosts}
 use Rattle.swc_bodies.specs.Readings.{Hook}
 use Rattle.swc_bodies.specs.Slashes.{EndsBodies, are_wanted, in_order}
-use Rattle.swc_grammar.specs.Reads.{Reads, ReadsUnmarked}
-use Rattle.swc_grammar.specs.Scope.{Scope}
-use Rattle.swc_grammar.specs.Symbols.{Expr}
+use Rattle.swc_grammar.specs.{Reads.Reads, Reads.ReadsUnmarked, Scope.Scope, Symbols.Expr}
 use Rattle.swc_laws.specs.Replay.{Joined}
 use Rattle.swc_steps.specs.Parsing.{scope_of}
 use Rattle.swc_ecma_parser.specs.BothWays.{Fresh, Left, faults}
 use Rattle.swc_ecma_parser.specs.Calls.{Called, SeesEnd, buffer_of, has_failed, tree_by, with_buffer}
 use Rattle.swc_ecma_parser.specs.Promise.{Finished, Promised, covers_done, in_boxes}
-use Rattle.swc_ecma_parser.specs.WholeList.{IsHeeded, plain_list}
-use Rattle.swc_ecma_parser.specs.declared.parser.Parser.{Parser}
+use Rattle.swc_ecma_parser.specs.{WholeList.IsHeeded, WholeList.plain_list, declared.parser.Parser.Parser}
 
 -- the scope in which what a source gives is read
 abbrev pub scope_at : Source → Scope
@@ -116,7 +101,7 @@ module _ {S H F C K : Type 0} {fg : Ghosts F} {cg : Ghosts C} {kg : Ghosts K} (m
     -- a regular expression was found,
     pub joined : sure ≡ true → in_order consumed ≡ true → {m : Tree F C K}
         → (d : Reads hook Expr (scope_at (model.state s)) consumed [] m) → Joined d → ReadAgain t again q
-    -- or the tokens themselves show that: an operand is wanted wherever such a slash stands. What the hook reads has to
+    -- or the tokens themselves show that: an operand is wanted wherever such a slash is. What the hook reads has to
     -- end with a token with which expressions end.
     pub wanted : sure ≡ true → in_order consumed ≡ true → EndsBodies hook → are_wanted consumed ≡ true
         → ReadAgain t again q

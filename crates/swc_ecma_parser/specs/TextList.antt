@@ -2,10 +2,7 @@
 use Rattle.std.specs.Prelude.{◌≡◌, ℕ, false, List}
 use Rattle.swc_context.specs.declared.context.Context.{Context}
 use Rattle.swc_input.specs.declared.token.TokenAndSpan.{TokenAndSpan}
-use Rattle.swc_lexer.specs.Legacy.{any_legacy}
-use Rattle.swc_lexer.specs.Readings.{kind_in, tokens_of}
-use Rattle.swc_lexer.specs.declared.reader.End.TheVariants.{Whole}
-use Rattle.swc_lexer.specs.declared.stack.Start.TheVariants.{Operand}
+use Rattle.swc_lexer.specs.{Legacy.any_legacy, Readings.kind_in, Readings.tokens_of, declared.reader.End.TheVariants.Whole, declared.stack.Start.TheVariants.Operand}
 use Rattle.swc_ecma_parser.specs.WholeList.{plain_list}
 
 -- All tokens of the text, by the lexical grammar, in code of the context: an operand begins it, and its end ends it.

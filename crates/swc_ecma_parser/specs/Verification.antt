@@ -1,25 +1,16 @@
 -- What the call promises that looks for names with values left over in a finished expression (ECMA-262, 13.2.5.1).
 use Rattle.std.specs.Prelude.{◌≡◌, true, false, List, Result, Err, IfOk, OnOk, MatchResult}
-use Rattle.std.specs.declared.alloc.Global.{Global}
-use Rattle.std.specs.declared.boxed.Box.{Box}
+use Rattle.std.specs.{declared.alloc.Global.Global, declared.boxed.Box.Box}
 use Rattle.swc_context.specs.declared.error.Error.{Error}
 use Rattle.swc_input.specs.Buffer.{Known, current, previous, state_of}
-use Rattle.swc_input.specs.Recording.{is_fit, is_silent}
-use Rattle.swc_input.specs.Source.{Model}
-use Rattle.swc_input.specs.declared.buffer.Buffer.{Buffer}
-use Rattle.swc_input.specs.declared.token.TokenAndSpan.{TokenAndSpan}
-use Rattle.swc_ast.specs.Tree.{Tree}
-use Rattle.swc_ast.specs.declared.expr.Expr.{Expr}
-use Rattle.swc_ast.specs.declared.spanned.Spanned.{Ghosts}
-use Rattle.swc_nodes.specs.NodeParts.{expr_part}
+use Rattle.swc_input.specs.{Recording.is_fit, Recording.is_silent, Source.Model, declared.buffer.Buffer.Buffer, declared.token.TokenAndSpan.TokenAndSpan, Recordings.RecordsAll}
+use Rattle.swc_ast.specs.{Tree.Tree, declared.expr.Expr.Expr, declared.spanned.Spanned.Ghosts}
 use Rattle.swc_nodes.specs.GrowingNodes.{count, Made, SameNodes}
-use Rattle.swc_nodes.specs.declared.node.ExprId.{ExprId}
+use Rattle.swc_nodes.specs.{NodeParts.expr_part, declared.node.ExprId.ExprId}
 use Rattle.swc_verifier.specs.CoverNames.{cover_names}
-use Rattle.swc_input.specs.Recordings.{RecordsAll}
 use Rattle.swc_verifier.specs.Faults.{cover_faults, begins_fit, Appends}
 use Rattle.swc_steps.specs.Parsing.{Forgoes, Leads, Loud, Tries}
-use Rattle.swc_ecma_parser.specs.Calls.{buffer_of, nodes_of, commas_of, has_failed, parser_failed, tree_by}
-use Rattle.swc_ecma_parser.specs.Calls.{wants_memory}
+use Rattle.swc_ecma_parser.specs.Calls.{buffer_of, nodes_of, commas_of, has_failed, parser_failed, tree_by, wants_memory}
 use Rattle.swc_ecma_parser.specs.declared.parser.Parser.{Parser}
 
 -- What is promised of a call that is given the tree of an expression, from the parser p to q, where it answers r.

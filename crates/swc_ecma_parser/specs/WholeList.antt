@@ -1,24 +1,14 @@
 -- All that a listed source gives, read as one expression or as one binding pattern: the headline, in its own words.
 use Rattle.std.specs.Prelude.{◌≡◌, Bool, true, false, not, List, [], map, Option, Some, Result, Ok, Err, IfOk, MatchResult}
-use Rattle.swc_context.specs.Contexts.{view}
-use Rattle.swc_context.specs.declared.context.Context.{Context}
-use Rattle.swc_context.specs.declared.context.Syntax.{Syntax}
-use Rattle.swc_context.specs.declared.error.Error.{Error}
-use Rattle.swc_context.specs.declared.error.SyntaxError.TheVariants.{OutOfMemory}
-use Rattle.swc_input.specs.declared.token.TokenAndSpan.{TokenAndSpan}
-use Rattle.swc_input.specs.Plain.{plain}
-use Rattle.swc_input.specs.Source.{Model, Source}
-use Rattle.swc_ast.specs.declared.spanned.Spanned.{Ghosts}
-use Rattle.swc_ast.specs.Tree.{Tree}
+use Rattle.swc_context.specs.{Contexts.view, declared.context.Context.Context, declared.context.Syntax.Syntax, declared.error.Error.Error, declared.error.SyntaxError.TheVariants.OutOfMemory}
+use Rattle.swc_input.specs.{declared.token.TokenAndSpan.TokenAndSpan, Plain.plain, Source.Model, Source.Source}
+use Rattle.swc_ast.specs.{declared.spanned.Spanned.Ghosts, Tree.Tree}
 use Rattle.swc_bodies.specs.Readings.{Hook}
-use Rattle.swc_grammar.specs.Symbols.{Symbol}
-use Rattle.swc_grammar.specs.Reads.{Reads}
-use Rattle.swc_nodes.specs.NodeParts.{Part}
-use Rattle.swc_nodes.specs.declared.nodes.Nodes.{Nodes}
+use Rattle.swc_grammar.specs.{Symbols.Symbol, Reads.Reads}
+use Rattle.swc_nodes.specs.{NodeParts.Part, declared.nodes.Nodes.Nodes}
 use Rattle.swc_steps.specs.Parsing.{scope_of}
-use Rattle.swc_ecma_parser.specs.Calls.{Called, SeesEnd}
 use Rattle.swc_ecma_parser.specs.Promise.{Finished, Promised, covers_done, numbered}
-use Rattle.swc_ecma_parser.specs.declared.parser.Parser.{Parser}
+use Rattle.swc_ecma_parser.specs.{Calls.Called, Calls.SeesEnd, declared.parser.Parser.Parser}
 
 -- how contracts compare the tokens of a list
 abbrev pub plain_list : List TokenAndSpan → List TokenAndSpan

@@ -41,7 +41,7 @@ pub struct BothWays<B: Bodies<TokensInput>> {
 ///
 /// The law of the cover grammar (`cover`): in a script, or in a module whose code is strict, and where early errors are
 /// on and not ignored, a list that is read as an arrow's parameters with no fault recorded is read as formal parameters
-/// with none, and both are the same patterns, places apart; then the second parser stands before the `)`, and what is
+/// with none, and both are the same patterns, places apart; then the second parser is before the `)`, and what is
 /// left after that is what the first one left; or memory ran out. The hook has to be faithful, no identifier of
 /// the list may spell a keyword (in a generator `yield` as such a token is a reference, but isn't bound), and in a
 /// static block no pattern may bind `await`.

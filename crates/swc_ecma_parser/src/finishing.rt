@@ -34,7 +34,7 @@ pub(crate) fn check_answer<
     }
 }
 
-/// Where the syntax is pedantic, records the cover names that are left in an item. It is refused only for want of
+/// Where the syntax is pedantic, records the cover names that are left in an item. It is refused only when out of
 /// memory.
 fn check_covers<
     I: Tokens,

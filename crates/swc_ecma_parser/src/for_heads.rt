@@ -1,13 +1,10 @@
 // What the head of a `for` begins with, where that is no declaration.
 ghost use Rattle.std.specs.Prelude.{◌≡◌, IfOk};
-ghost use Rattle.swc_input.specs.Buffer.{context};
-ghost use Rattle.swc_input.specs.Kinds.{at_token};
+ghost use Rattle.swc_input.specs.{Buffer.context, Kinds.at_token};
 ghost use Rattle.swc_nodes.specs.GrowingNodes.{count};
 ghost use Rattle.swc_steps.specs.Parsing.{itself, seen, tree_of, Produces};
-ghost use Rattle.swc_grammar.specs.ForHead.{for_context};
-ghost use Rattle.swc_grammar.specs.ForHeadClean.{for_head};
-ghost use Rattle.swc_ecma_parser.specs.ForHeads.{for_head_at, for_head_of, head_expr, own_head_expr};
-ghost use Rattle.swc_ecma_parser.specs.ForHeads.{is_each_word, is_target_id};
+ghost use Rattle.swc_grammar.specs.{ForHead.for_context, ForHeadClean.for_head};
+ghost use Rattle.swc_ecma_parser.specs.ForHeads.{for_head_at, for_head_of, head_expr, own_head_expr, is_each_word, is_target_id};
 
 use swc_bodies::bodies::Bodies;
 use swc_context::context::{Context, ExpressionContext};

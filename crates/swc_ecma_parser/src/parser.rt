@@ -1,19 +1,15 @@
 // The parser that is called from outside.
 ghost use Rattle.std.specs.Prelude.{◌≡◌, ◌≢◌, ◌||◌, ℕ, true, false, [], None, IfErr, IfOk, OnOk, MatchResult};
+ghost use Rattle.std.specs.Borrow.{sem, follows};
 ghost use Rattle.swc_input.specs.Buffer.{last_position, previous, source, state_of, with_source, fresh};
+ghost use Rattle.swc_input.specs.contracts.buffer.Buffer.{the_row as buffer_row};
 ghost use Rattle.swc_nodes.specs.Commas.{comma_at, part_commas, Recalls};
 ghost use Rattle.swc_nodes.specs.NumberedTrees.{floor};
 ghost use Rattle.swc_nodes.specs.GrowingNodes.{count, seat_at, tree_at, bare_at, Apart, Left, CutTo};
 ghost use Rattle.swc_grammar.specs.Symbols.{Expr, Assign, Level, Unary};
-ghost use Rattle.swc_ecma_parser.specs.Calls.{buffer_of, hook_of, nodes_of, commas_of, with_buffer, with_hook};
-ghost use Rattle.swc_ecma_parser.specs.Calls.{with_nodes, with_bound, bound_of, met_bound, has_failed};
-ghost use Rattle.swc_ecma_parser.specs.Calls.{wants_memory, found_import};
-ghost use Rattle.swc_ecma_parser.specs.Calls.{parser_failed, Called, SeesEnd, Kept, MovesOut, RemembersParts};
-ghost use Rattle.swc_ecma_parser.specs.Finishing.{KeepsChecked, MovesCheckedOut};
+ghost use Rattle.swc_ecma_parser.specs.Calls.{buffer_of, hook_of, nodes_of, commas_of, with_buffer, with_hook, with_nodes, with_bound, bound_of, met_bound, has_failed, wants_memory, found_import, parser_failed, Called, SeesEnd, Kept, MovesOut, RemembersParts};
 ghost use Rattle.swc_ecma_parser.specs.Promise.{Promised, PromisedLit, in_boxes, by_number};
-ghost use Rattle.std.specs.Borrow.{sem, follows};
-ghost use Rattle.swc_ecma_parser.specs.contracts.parser.Parser.{the_row};
-ghost use Rattle.swc_input.specs.contracts.buffer.Buffer.{the_row as buffer_row};
+ghost use Rattle.swc_ecma_parser.specs.{Finishing.KeepsChecked, Finishing.MovesCheckedOut, contracts.parser.Parser.the_row};
 
 use crate::finishing::check_answer;
 use crate::taking::{Covers, Take};
@@ -75,7 +71,7 @@ pub type PatOf<B> = Pat<<B as BodyForms>::Fun, <B as BodyForms>::Class, <B as Bo
 /// in it (ECMA-262, 13.2.5.1) is recorded as `AssignProperty`, at the property, in the order of the source; so a tree
 /// that is answered with no fault recorded has none. The calls on pieces, whose answers may yet become patterns or
 /// parts of them, are `parse_args_or_pats`, `parse_tpl`, `parse_prop_name` and `parse_object_prop`. And `#` and a name
-/// stand in such a tree on the left of `in` alone (13.10.1), or name a link (`privates`).
+/// are in such a tree on the left of `in` alone (13.10.1), or name a link (`privates`).
 pub struct Parser<I: Tokens, B: Bodies<I>> {
     productions: Productions<I, B>,
     commas: TrailingCommas,
@@ -83,7 +79,7 @@ pub struct Parser<I: Tokens, B: Bodies<I>> {
     room: usize,
 }
 
-// Not derived: so letting go of a parser is a call, and is proved here alone.
+// Not derived: so dropping a parser is a call, and is proved here alone.
 impl<I: Tokens, B: Bodies<I>> Drop for Parser<I, B> {
     fn drop(self) {
         let Parser {
@@ -271,7 +267,7 @@ impl<I: Tokens, B: Bodies<I>> Parser<I, B> {
     /// that begins at `start`, a position in bytes: of the one in the last answer that has one there, or that was made
     /// by `make_object` since. Those in bodies of arrow functions aren't remembered.
     ///
-    /// A tree in boxes has no place for it. Among nodes it stands in the literal's own.
+    /// A tree in boxes has no place for it. Among nodes it is in the literal's own.
     pub fn trailing_comma(&self, start: BytePos) -> Option<Span>
         ensures { result ≡ comma_at (commas_of self.now) start.0 }
     {
@@ -313,7 +309,7 @@ impl<I: Tokens, B: Bodies<I>> Parser<I, B> {
     /// and 15.9); or `yield` (15.5), in a generator. After a conditional, a binary operator, a prefix operator, `++`
     /// and `--` no assignment is read, and after an arrow function nothing is.
     ///
-    /// The end is refused as `Eof`, where the token consumed last ends. What stands left of `=`, is no literal that
+    /// The end is refused as `Eof`, where the token consumed last ends. What is left of `=`, is no literal that
     /// becomes a pattern and can't be written to is recorded as `TS2406`, left of another operator as
     /// `NotSimpleAssign`; and what isn't an identifier, a member, a property of `super`, in parentheses, an optional
     /// chain or such a pattern is refused as `InvalidAssignTarget`, all at its place. A literal left of `=` has the
@@ -329,8 +325,8 @@ impl<I: Tokens, B: Bodies<I>> Parser<I, B> {
     /// `=>`, from `async` through the name (15.9). The items have the faults that `parse_paren_items_as_params`
     /// records; a name in place of a list has those of an identifier, and as `eval` or `arguments` in strict code
     /// `EvalAndArgumentsInStrict`. The body is a block, which the hook reads, or an assignment expression. A binary
-    /// operator after a block whose parameters stand in parentheses is recorded as `TS1005`, at the operator, and
-    /// read; and so is once more what then follows, unless a semicolon may stand there. Before `of` in a head of `for`,
+    /// operator after a block whose parameters are in parentheses is recorded as `TS1005`, at the operator, and
+    /// read; and so is once more what then follows, unless a semicolon may be there. Before `of` in a head of `for`,
     /// `async` is an identifier, if no `=>` is after `of`, and recorded as `TS1106` unless the head is one of
     /// `for await`.
     pub fn parse_assignment_expr(&mut self) -> PResult<Box<ExprOf<B>>>
@@ -344,7 +340,7 @@ impl<I: Tokens, B: Bodies<I>> Parser<I, B> {
     }
 
     /// An assignment expression, as `parse_assignment_expr` reads it: its number among the nodes, which keeps its tree
-    /// until they are let go.
+    /// until they are dropped.
     pub fn parse_assignment_expr_id(&mut self) -> PResult<ExprId>
         ensures promised { Promised I.model B.is_faithful B.forms by_number Assign self.old result self.new }
     {
@@ -478,7 +474,7 @@ impl<I: Tokens, B: Bodies<I>> Parser<I, B> {
         answer
     }
 
-    /// Remembers the commas of an answer's literals. Beside the answer's own refusal it is refused only for want of
+    /// Remembers the commas of an answer's literals. Beside the answer's own refusal it is refused only when out of
     /// memory.
     fn remember<T: Take<B::Fun, B::Class, B::Block> + Drop>(
         &mut self,

@@ -48,7 +48,7 @@ pub struct ReadTwice<I: Tokens, B: Bodies<Capturing<I>> + Bodies<TokensInput>> {
 /// - and where some regular expressions are after the slashes at which they were found. Each of them begins where
 ///   its slash does, has the slash's mark of a line break, and ends no earlier than it begins; no such slash is empty;
 ///   and each was read after its slash (12.9.5), so that none of these slashes is an operator (13.7 and 13.15). That
-///   may be known of a derivation (`joined`). Or the tokens show it (`wanted`): each such slash stands first, or not
+///   may be known of a derivation (`joined`). Or the tokens show it (`wanted`): each such slash comes first, or not
 ///   after a literal, a closing sign, `++`, `--`, a name, or a word but for `delete`, `in`, `instanceof`, `new`,
 ///   `typeof` and `void`. Then what the hook reads has to end with one of those.
 pub fn read_again<I: Tokens, B: Bodies<Capturing<I>> + Bodies<TokensInput> + ReplayBodies>(

@@ -1,8 +1,7 @@
 // What calls move out of the nodes.
 ghost use Rattle.std.specs.Prelude.{◌≡◌, IfOk, OnOk};
-ghost use Rattle.swc_nodes.specs.Commas.{part_commas, Recalls};
-ghost use Rattle.swc_nodes.specs.NumberedTrees.{floor};
 ghost use Rattle.swc_nodes.specs.GrowingNodes.{count, seat_at, tree_at, bare_at, Apart, Left};
+ghost use Rattle.swc_nodes.specs.{Commas.part_commas, Commas.Recalls, NumberedTrees.floor};
 ghost use Rattle.swc_verifier.specs.CoverNames.{parts_covers_left};
 
 use std::alloc::{AllocError, Global};
@@ -47,7 +46,7 @@ pub(crate) trait Take<F: Spanned + Drop, C: Spanned + Drop, K: Spanned + Drop> {
         requires { Apart 0 nodes.now (parts self.now) }
         ensures { OnOk result (Recalls (part_commas (tree_at nodes.now) (parts self.now)) commas.old commas.new) };
 
-    /// Moves it out, and lets go of all nodes after it.
+    /// Moves it out, and drops all nodes after it.
     fn take(self, nodes: &mut Nodes<F, C, K>, alloc: Global) -> Result<Self::Whole, AllocError>
         requires { Apart 0 nodes.old (parts self) }
         ensures left { Left (floor (seat_at nodes.old) (count nodes.old) (parts self)) nodes.old nodes.new }
@@ -64,8 +63,7 @@ pub(crate) trait Covers<F: Spanned + Drop, C: Spanned + Drop, K: Spanned + Drop>
 
 impl<F: Spanned + Drop, C: Spanned + Drop, K: Spanned + Drop> Take<F, C, K> for ExprId {
     ghost use Rattle.swc_ast.specs.TreeOf.{boxed_tree};
-    ghost use Rattle.swc_nodes.specs.NodeTree.{expr_of};
-    ghost use Rattle.swc_nodes.specs.NodeParts.{one_expr};
+    ghost use Rattle.swc_nodes.specs.{NodeTree.expr_of, NodeParts.one_expr};
 
     type Whole = Box<Expr<F, C, K>>;
 
@@ -89,10 +87,8 @@ impl<F: Spanned + Drop, C: Spanned + Drop, K: Spanned + Drop> Take<F, C, K> for 
 }
 
 impl<F: Spanned + Drop, C: Spanned + Drop, K: Spanned + Drop> Take<F, C, K> for PropName<ExprId> {
-    ghost use Rattle.swc_ast.specs.Parts.{prop_name_tree};
-    ghost use Rattle.swc_ast.specs.TreeOf.{boxed_tree};
-    ghost use Rattle.swc_nodes.specs.NodeTree.{expr_of};
-    ghost use Rattle.swc_nodes.specs.NodeParts.{key_parts};
+    ghost use Rattle.swc_ast.specs.{Parts.prop_name_tree, TreeOf.boxed_tree};
+    ghost use Rattle.swc_nodes.specs.{NodeTree.expr_of, NodeParts.key_parts};
 
     type Whole = PropName<Box<Expr<F, C, K>>>;
 
@@ -117,8 +113,7 @@ impl<F: Spanned + Drop, C: Spanned + Drop, K: Spanned + Drop> Take<F, C, K> for 
 
 impl<F: Spanned + Drop, C: Spanned + Drop, K: Spanned + Drop> Take<F, C, K> for PropNode<K> {
     ghost use Rattle.swc_ast.specs.TreeOf.{prop_or_spread_tree};
-    ghost use Rattle.swc_nodes.specs.NodeTree.{prop_of};
-    ghost use Rattle.swc_nodes.specs.NodeParts.{prop_parts};
+    ghost use Rattle.swc_nodes.specs.{NodeTree.prop_of, NodeParts.prop_parts};
 
     type Whole = PropOrSpread<F, C, K>;
 
@@ -143,10 +138,8 @@ impl<F: Spanned + Drop, C: Spanned + Drop, K: Spanned + Drop> Take<F, C, K> for 
 
 impl<F: Spanned + Drop, C: Spanned + Drop, K: Spanned + Drop> Take<F, C, K>
     for Listed<ExprOrSpread<ExprId>> {
-    ghost use Rattle.swc_ast.specs.Parts.{args_tree};
-    ghost use Rattle.swc_ast.specs.TreeOf.{boxed_tree};
-    ghost use Rattle.swc_nodes.specs.NodeTree.{expr_of};
-    ghost use Rattle.swc_nodes.specs.NodeParts.{args_parts};
+    ghost use Rattle.swc_ast.specs.{Parts.args_tree, TreeOf.boxed_tree};
+    ghost use Rattle.swc_nodes.specs.{NodeTree.expr_of, NodeParts.args_parts};
 
     type Whole = Vec<ExprOrSpread<Box<Expr<F, C, K>>>>;
 
@@ -170,10 +163,8 @@ impl<F: Spanned + Drop, C: Spanned + Drop, K: Spanned + Drop> Take<F, C, K>
 }
 
 impl<F: Spanned + Drop, C: Spanned + Drop, K: Spanned + Drop> Take<F, C, K> for Tpl<ExprId> {
-    ghost use Rattle.swc_ast.specs.Parts.{tpl_tree};
-    ghost use Rattle.swc_ast.specs.TreeOf.{boxed_tree};
-    ghost use Rattle.swc_nodes.specs.Lists.{exprs_parts};
-    ghost use Rattle.swc_nodes.specs.NodeTree.{expr_of};
+    ghost use Rattle.swc_ast.specs.{Parts.tpl_tree, TreeOf.boxed_tree};
+    ghost use Rattle.swc_nodes.specs.{Lists.exprs_parts, NodeTree.expr_of};
 
     type Whole = Tpl<Box<Expr<F, C, K>>>;
 
@@ -198,8 +189,7 @@ impl<F: Spanned + Drop, C: Spanned + Drop, K: Spanned + Drop> Take<F, C, K> for 
 
 impl<F: Spanned + Drop, C: Spanned + Drop, K: Spanned + Drop> Take<F, C, K> for PatId {
     ghost use Rattle.swc_ast.specs.TreeOf.{pat_tree};
-    ghost use Rattle.swc_nodes.specs.NodeTree.{pat_of};
-    ghost use Rattle.swc_nodes.specs.NodeParts.{one_pat};
+    ghost use Rattle.swc_nodes.specs.{NodeTree.pat_of, NodeParts.one_pat};
 
     type Whole = Pat<F, C, K>;
 
@@ -224,8 +214,7 @@ impl<F: Spanned + Drop, C: Spanned + Drop, K: Spanned + Drop> Take<F, C, K> for 
 
 impl<F: Spanned + Drop, C: Spanned + Drop, K: Spanned + Drop> Take<F, C, K> for PatPropNode {
     ghost use Rattle.swc_ast.specs.TreeOf.{pat_prop_tree};
-    ghost use Rattle.swc_nodes.specs.NodeTree.{pat_prop_of};
-    ghost use Rattle.swc_nodes.specs.NodeParts.{pat_prop_parts};
+    ghost use Rattle.swc_nodes.specs.{NodeTree.pat_prop_of, NodeParts.pat_prop_parts};
 
     type Whole = ObjectPatProp<F, C, K>;
 
@@ -250,8 +239,7 @@ impl<F: Spanned + Drop, C: Spanned + Drop, K: Spanned + Drop> Take<F, C, K> for 
 
 impl<F: Spanned + Drop, C: Spanned + Drop, K: Spanned + Drop> Take<F, C, K> for Vec<Param<PatId>> {
     ghost use Rattle.swc_ast.specs.TreeOf.{pat_tree};
-    ghost use Rattle.swc_nodes.specs.NodeTree.{pat_of};
-    ghost use Rattle.swc_nodes.specs.NodeParts.{flat, param_parts};
+    ghost use Rattle.swc_nodes.specs.{NodeTree.pat_of, NodeParts.flat, NodeParts.param_parts};
     ghost use Rattle.swc_ecma_parser.specs.Calls.{params_tree};
 
     type Whole = Vec<Param<Pat<F, C, K>>>;
@@ -277,8 +265,7 @@ impl<F: Spanned + Drop, C: Spanned + Drop, K: Spanned + Drop> Take<F, C, K> for 
 
 impl<F: Spanned + Drop, C: Spanned + Drop, K: Spanned + Drop> Take<F, C, K> for Vec<PatId> {
     ghost use Rattle.swc_ast.specs.TreeOf.{pat_tree};
-    ghost use Rattle.swc_nodes.specs.Lists.{pats_parts};
-    ghost use Rattle.swc_nodes.specs.NodeTree.{pat_of};
+    ghost use Rattle.swc_nodes.specs.{Lists.pats_parts, NodeTree.pat_of};
     ghost use Rattle.swc_ecma_parser.specs.Calls.{pats_tree};
 
     type Whole = Vec<Pat<F, C, K>>;

@@ -2,12 +2,10 @@
 ghost use Rattle.std.specs.Prelude.{◌≡◌, string_bytes, IfOk};
 ghost use Rattle.swc_lexer.specs.Inputs.{new_state, text_state};
 ghost use Rattle.swc_grammar.specs.Symbols.{Expr, Pat};
-ghost use Rattle.swc_nodes.specs.NodeParts.{expr_part, pat_part};
-ghost use Rattle.swc_nodes.specs.GrowingNodes.{From};
+ghost use Rattle.swc_nodes.specs.{NodeParts.expr_part, NodeParts.pat_part, GrowingNodes.From};
 ghost use Rattle.swc_patterns.specs.Answers.{pat_at};
 ghost use Rattle.swc_steps.specs.Parsing.{tree_of};
-ghost use Rattle.swc_ecma_parser.specs.TextList.{text_tokens, IsModern};
-ghost use Rattle.swc_ecma_parser.specs.WholeList.{IsHeeded, Headline};
+ghost use Rattle.swc_ecma_parser.specs.{TextList.text_tokens, TextList.IsModern, WholeList.IsHeeded, WholeList.Headline};
 
 use crate::whole::{Whole, read_whole_expr, read_whole_pat};
 use std::alloc::{AllocError, Global};

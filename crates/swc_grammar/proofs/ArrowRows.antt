@@ -1,25 +1,15 @@
 -- Arrow functions and assignments to patterns, computed from their tokens: read whole, or not at all.
 use Rattle.std.specs.Prelude.{◌≡◌, ℕ, ◌∷◌, Some, None, false, codes, [], true}
 use Rattle.std.proofs.Common.{refl}
-use Rattle.swc_context.specs.declared.operator.AssignOp.TheVariants as assign
-use Rattle.swc_context.specs.declared.word.Keyword.TheVariants as keyword
-use Rattle.swc_context.specs.declared.word.Word.TheVariants as word
-use Rattle.swc_input.specs.declared.token.Token.TheVariants as token
-use Rattle.swc_input.specs.declared.token.TokenAndSpan.{TokenAndSpan}
+use Rattle.swc_context.specs.{declared.operator.AssignOp.AssignOp as assign, declared.word.Keyword.Keyword as keyword, declared.word.Word.Word as word, declared.operator.BinOpToken.BinOpToken as sign, declared.span.Span.Span}
+use Rattle.swc_input.specs.{declared.token.Token.Token as token, declared.token.TokenAndSpan.TokenAndSpan}
 use Rattle.swc_ast.specs.Tree.{Tree, nil, cons}
-use Rattle.swc_bodies.specs.Readings.{Hook}
-use Rattle.swc_ast.specs.Trees.{arrow_e}
+use Rattle.swc_ast.specs.Trees.{arrow_e, assign_e}
 use Rattle.swc_ast.specs.Patterns.{array_p, object_p, name_p}
-use Rattle.swc_ast.specs.Trees.{assign_e}
-use Rattle.swc_context.specs.declared.operator.BinOpToken.TheVariants as sign
-use Rattle.swc_context.specs.declared.span.Span.{Span}
-use Rattle.swc_grammar.proofs.Blocks.{braces}
-use Rattle.swc_grammar.proofs.Computed.{answer}
-use Rattle.swc_grammar.proofs.Texts.{script, module_code, tok, word_at, name_at, num_at, open_at, close_at, brace_at}
-use Rattle.swc_grammar.proofs.Texts.{unbrace_at, sign_at, bracket_at, unbracket_at, dot_at, comma_at, equals_at}
-use Rattle.swc_grammar.proofs.Texts.{dots_at, ident, num, place}
-use Rattle.swc_grammar.specs.Tokens.{tk}
-use Rattle.swc_grammar.specs.Scope.{Scope, in_context}
+use Rattle.swc_bodies.specs.Readings.{Hook}
+use Rattle.swc_grammar.proofs.Texts.{script, module_code, tok, word_at, name_at, num_at, open_at, close_at, brace_at, unbrace_at, sign_at, bracket_at, unbracket_at, dot_at, comma_at, equals_at, dots_at, ident, num, place}
+use Rattle.swc_grammar.proofs.{Blocks.braces, Computed.answer}
+use Rattle.swc_grammar.specs.{Tokens.tk, Scope.Scope, Scope.in_context}
 
 -- code of a class's field
 abbrev field_code : Scope

@@ -1,30 +1,15 @@
 -- `async`, as a name, before arrow functions and as what is called, computed from its tokens.
 use Rattle.std.specs.Prelude.{◌≡◌, ℕ, Bool, List, ◌∷◌, Some, None, true, false, codes, []}
 use Rattle.std.proofs.Common.{refl}
-use Rattle.swc_context.specs.declared.operator.BinOpToken.TheVariants as sign
-use Rattle.swc_context.specs.declared.span.Span.{Span}
-use Rattle.swc_context.specs.declared.word.Keyword.TheVariants as keyword
-use Rattle.swc_context.specs.declared.word.Word.TheVariants as word
-use Rattle.swc_input.specs.declared.token.Token.TheVariants as token
-use Rattle.swc_input.specs.declared.token.TokenAndSpan.{TokenAndSpan}
+use Rattle.swc_context.specs.{declared.operator.BinOpToken.BinOpToken as sign, declared.span.Span.Span, declared.word.Keyword.Keyword as keyword, declared.word.Word.Word as word}
+use Rattle.swc_input.specs.{declared.token.Token.Token as token, declared.token.TokenAndSpan.TokenAndSpan}
 use Rattle.swc_ast.specs.Tree.{Tree, nil, cons}
-use Rattle.swc_bodies.specs.Readings.{Hook}
-use Rattle.swc_ast.specs.Trees.{arrow_e}
+use Rattle.swc_ast.specs.Trees.{arrow_e, await_e, call_e, item_e, member_e, name_e}
 use Rattle.swc_ast.specs.Patterns.{array_p}
-use Rattle.swc_grammar.specs.Scope.{Scope, in_context}
-use Rattle.swc_grammar.specs.Tokens.{tk}
-use Rattle.swc_ast.specs.Trees.{await_e, call_e, item_e, member_e, name_e}
-use Rattle.swc_grammar.proofs.Blocks.{braces}
-use Rattle.swc_grammar.proofs.Computed.{answer}
-use Rattle.swc_grammar.proofs.Refused.{refused}
-use Rattle.swc_grammar.specs.Clean.{run, sym}
-use Rattle.swc_grammar.specs.Reads.{Reads}
-use Rattle.swc_grammar.specs.Symbols.{Expr, Unary}
-use Rattle.swc_grammar.proofs.Texts.{script, module_code, generator, tok, word_at, name_at, num_at, open_at, close_at}
-use Rattle.swc_grammar.proofs.Texts.{brace_at}
-use Rattle.swc_grammar.proofs.Texts.{unbrace_at, sign_at, bracket_at, unbracket_at, dot_at, comma_at, equals_at}
-use Rattle.swc_grammar.proofs.Texts.{dots_at}
-use Rattle.swc_grammar.proofs.Texts.{ident, num, place}
+use Rattle.swc_bodies.specs.Readings.{Hook}
+use Rattle.swc_grammar.specs.{Scope.Scope, Scope.in_context, Tokens.tk, Clean.run, Clean.sym, Reads.Reads, Symbols.Expr, Symbols.Unary}
+use Rattle.swc_grammar.proofs.Texts.{script, module_code, generator, tok, word_at, name_at, num_at, open_at, close_at, brace_at, unbrace_at, sign_at, bracket_at, unbracket_at, dot_at, comma_at, equals_at, dots_at, ident, num, place}
+use Rattle.swc_grammar.proofs.{Blocks.braces, Computed.answer, Refused.refused}
 
 -- code of an async function
 abbrev async_code : Scope

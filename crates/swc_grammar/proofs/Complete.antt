@@ -14,79 +14,38 @@ mod Patterns
 use Rattle.std.specs.Prelude.{◌≡◌, zero, suc, min, true, false, List, ◌∷◌, Some, None, ◌&&◌}
 use Rattle.std.proofs.Common.{refl, ap, ◌∙◌, arith, sym as sym_path, subst}
 use Rattle.std.proofs.lemmas.Bool.{eqb-true, ltb-true}
-use Rattle.swc_context.specs.Operators.{precedence_of}
-use Rattle.swc_input.specs.declared.token.TokenAndSpan.{TokenAndSpan}
-use Rattle.swc_context.specs.declared.operator.AssignOp.TheVariants as assign
-use Rattle.swc_input.specs.Kinds.{is_hash}
+use Rattle.swc_context.specs.{Operators.precedence_of, declared.operator.AssignOp.AssignOp as assign}
+use Rattle.swc_input.specs.{declared.token.TokenAndSpan.TokenAndSpan, Kinds.is_hash}
 use Rattle.swc_ast.specs.Tree.{nil, cons, span_of}
 use Rattle.swc_ast.specs.Trees.{new_e, items_of, trees_append, to}
 use Rattle.swc_bodies.specs.Readings.{Hook, is_async}
 use Rattle.swc_grammar.specs.Scope.{Scope, at_head, inner}
 use Rattle.swc_grammar.specs.Tokens.{with_in, is_lparen, is_lbracket, tk}
-use Rattle.swc_grammar.specs.Symbols.{Symbol, Expr, Exprs, Assign, Level, Unary, Lhs, Left, Arguments, Args, ArgsTail}
-use Rattle.swc_grammar.specs.Symbols.{Primary, Literal, Template, Parts, Base, Elements, ElementsTail, Item, Props}
-use Rattle.swc_grammar.specs.Symbols.{PropsTail, Prop, Key, AfterKey, Shell, Answer, Side, Heads, ArrowBody}
-use Rattle.swc_grammar.specs.Symbols.{Pat, Element, Rest, PatElements, PatElementsTail, PatProps, PatPropsTail, PatProp}
-use Rattle.swc_grammar.specs.Symbols.{Params, ParamsTail}
+use Rattle.swc_grammar.specs.Symbols.{Symbol, Expr, Exprs, Assign, Level, Unary, Lhs, Left, Arguments, Args, ArgsTail, Primary, Literal, Template, Parts, Base, Elements, ElementsTail, Item, Props, PropsTail, Prop, Key, AfterKey, Shell, Answer, Side, Heads, ArrowBody, Pat, Element, Rest, PatElements, PatElementsTail, PatProps, PatPropsTail, PatProp, Params, ParamsTail}
 use Rattle.swc_grammar.specs.Parts.{any_name, lit_of, update_here, assign_here, operator_here}
-use Rattle.swc_grammar.specs.Grammar.{Production, lit, unary-left, unary-op, exp-unary, left-base, member-name, heads}
-use Rattle.swc_grammar.specs.Grammar.{member-private, member-computed, call, lhs-left, new-bare, left-new, chain-name}
-use Rattle.swc_grammar.specs.Grammar.{chain-private, chain-computed, chain-call, tagged-tpl, arguments, template}
-use Rattle.swc_grammar.specs.Grammar.{exp-op, shell-block, level-up, bin-op, assign-level, update-postfix, arrow-name}
-use Rattle.swc_grammar.specs.Grammar.{update-prefix, await-expr, await-ident, cond-expr, assign-expr, yield-alone}
-use Rattle.swc_grammar.specs.Grammar.{yield-expr, yield-star, exprs-one, exprs-more, seq-expr, assign-pattern}
-use Rattle.swc_grammar.specs.Grammar.{element-pat, element-default, pat-rest, arrow-heads, arrow-async-name}
+use Rattle.swc_grammar.specs.Grammar.{Production, lit, unary-left, unary-op, exp-unary, left-base, member-name, heads, member-private, member-computed, call, lhs-left, new-bare, left-new, chain-name, chain-private, chain-computed, chain-call, tagged-tpl, arguments, template, exp-op, shell-block, level-up, bin-op, assign-level, update-postfix, arrow-name, update-prefix, await-expr, await-ident, cond-expr, assign-expr, yield-alone, yield-expr, yield-star, exprs-one, exprs-more, seq-expr, assign-pattern, element-pat, element-default, pat-rest, arrow-heads, arrow-async-name, private-in, arrow-async-heads}
 use Rattle.swc_grammar.specs.Reads.{Reads}
-use Rattle.swc_grammar.specs.Clean.{first, sym, links, exec, constructs, no_link, call_args, args, args_tail, tpl}
-use Rattle.swc_grammar.specs.Clean.{parts, base, updates, assigns, seqs, no_update_at, ends_unary, no_assign_at, plan}
-use Rattle.swc_grammar.specs.Clean.{update_tail, cond_tail, assign_tail, Stop, primary, literal, elements, arrow_tail}
-use Rattle.swc_grammar.specs.Clean.{elements_tail, item, props, props_tail, prop, key, after_key, shell, run, no_arrow}
-use Rattle.swc_grammar.specs.Clean.{defaults, default_tail, pick, pat, pat_elements, pat_tail, pat_props, pattern_tail}
-use Rattle.swc_grammar.specs.Clean.{pat_props_tail, pat_prop, params, params_tail, arrow_block, async_arrow_tail}
-use Rattle.swc_grammar.proofs.Good.{good}
-use Rattle.swc_grammar.proofs.Answers.{both, only}
+use Rattle.swc_grammar.specs.Clean.{first, sym, links, exec, constructs, no_link, call_args, args, args_tail, tpl, parts, base, updates, assigns, seqs, no_update_at, ends_unary, no_assign_at, plan, update_tail, cond_tail, assign_tail, Stop, primary, literal, elements, arrow_tail, elements_tail, item, props, props_tail, prop, key, after_key, shell, run, no_arrow, defaults, default_tail, pick, pat, pat_elements, pat_tail, pat_props, pattern_tail, pat_props_tail, pat_prop, params, params_tail, arrow_block, async_arrow_tail}
+use Rattle.swc_grammar.specs.Cover.{as_literal, as_params, is_pattern}
 use Rattle.swc_grammar.proofs.Only.{backquote-is, lbracket-is, lparen-is, dot-is, question-is, equals-is}
-use Rattle.swc_grammar.proofs.Firsts.{begins, update-first}
 use Rattle.swc_grammar.proofs.Induct.{ran-took, ran-held, ran-calm, ran-part, every}
-use Rattle.swc_grammar.proofs.Knot.{knot}
-use Rattle.swc_grammar.proofs.Levels.{bound-above}
 use Rattle.swc_grammar.proofs.Complete.Bools.{if-off, is-false, if-on}
 use Rattle.swc_grammar.proofs.Complete.Stops.{expr-stop, quiet-rbracket, quiet-colon, quiet-comma}
-pub use Rattle.swc_grammar.proofs.Complete.Stops.{stops-assign, stops-expr, stops-unary, stops-level, stops-element}
-pub use Rattle.swc_grammar.proofs.Complete.Stops.{stops-pat-prop}
-use Rattle.swc_grammar.proofs.Complete.Sides.{Claim, ready-given, climb-ends, settle, next-passes, Ran, forget}
-use Rattle.swc_grammar.proofs.Complete.Sides.{given-ran, before-given, starting}
-use Rattle.swc_grammar.proofs.Complete.Sides.{must-ran, part-ran, gave-ran, side-reads}
-pub use Rattle.swc_grammar.proofs.Complete.Sides.{last, picks, picks-as}
-use Rattle.swc_grammar.proofs.Complete.Lists.{picked-args, picked-args-tail, picked-elements, picked-tail, picked-item}
-use Rattle.swc_grammar.proofs.Complete.Lists.{ready-args, ready-args-tail, ready-elements, ready-tail, ready-item}
-use Rattle.swc_grammar.proofs.Complete.Properties.{picked-props, picked-props-tail, picked-key, picked-after}
-use Rattle.swc_grammar.proofs.Complete.Properties.{picked-prop, ready-props, ready-props-tail, ready-prop, ready-key}
-use Rattle.swc_grammar.proofs.Complete.Properties.{ready-after}
-use Rattle.swc_grammar.proofs.Complete.Primaries.{picked-primary, ready-primary, ready-parts, picked-parts}
-pub use Rattle.swc_grammar.proofs.Complete.Primaries.{lit-picks, fn-picks, class-picks, picking}
-pub use Rattle.swc_grammar.proofs.Complete.Operators.{private-refused}
-use Rattle.swc_grammar.proofs.Complete.LeftSides.{any-link, no-paren, links-take, new-begins, no-dot-first, picked-base}
-use Rattle.swc_grammar.proofs.Complete.LeftSides.{base-no-new, ready-base, name-next, hash-alone, lparen-alone, chained}
-pub use Rattle.swc_grammar.proofs.Complete.LeftSides.{links-end}
-use Rattle.swc_grammar.proofs.Complete.Operators.{private-reads}
-use Rattle.swc_grammar.specs.Grammar.{private-in}
-use Rattle.swc_grammar.proofs.Complete.Operators.{operand-climbs, op-reads, exp-reads, signed, operand-reads}
-use Rattle.swc_grammar.proofs.Complete.Operators.{updates-end, update-link}
-use Rattle.swc_grammar.proofs.Complete.Assignments.{no-dot-expr, yielded, level-reads, assigns-end, question-ends}
-use Rattle.swc_grammar.proofs.Complete.Assignments.{question-bound, assign-token, target-apart, assign-no-arrow}
-use Rattle.swc_grammar.proofs.Complete.Patterns.{picked-pat, picked-pat-elements, picked-pat-tail, picked-pat-props}
-use Rattle.swc_grammar.proofs.Complete.Patterns.{picked-pat-props-tail, picked-pat-prop, picked-params}
-use Rattle.swc_grammar.proofs.Complete.Patterns.{picked-params-tail, ready-pat, ready-pat-elements, ready-pat-tail}
-use Rattle.swc_grammar.proofs.Complete.Patterns.{ready-pat-props, ready-pat-props-tail, ready-pat-prop, ready-params}
-use Rattle.swc_grammar.proofs.Complete.Patterns.{ready-params-tail, element-reads, no-equals}
-use Rattle.swc_grammar.specs.Grammar.{arrow-async-heads}
-use Rattle.swc_grammar.specs.Cover.{as_literal, as_params, is_pattern}
-use Rattle.swc_grammar.proofs.Complete.Primaries.{picked-reads}
-use Rattle.swc_grammar.proofs.Complete.Assignments.{equals-plain, pattern-apart, target-no-pattern}
-use Rattle.swc_grammar.proofs.Complete.Arrows.{here-arrow, line-arrow, body-bound, heads-reads, picked-body}
-use Rattle.swc_grammar.proofs.Complete.Arrows.{ready-body}
+use Rattle.swc_grammar.proofs.Complete.Sides.{Claim, ready-given, climb-ends, settle, next-passes, Ran, forget, given-ran, before-given, starting, must-ran, part-ran, gave-ran, side-reads}
+use Rattle.swc_grammar.proofs.Complete.Lists.{picked-args, picked-args-tail, picked-elements, picked-tail, picked-item, ready-args, ready-args-tail, ready-elements, ready-tail, ready-item}
+use Rattle.swc_grammar.proofs.Complete.Properties.{picked-props, picked-props-tail, picked-key, picked-after, picked-prop, ready-props, ready-props-tail, ready-prop, ready-key, ready-after}
+use Rattle.swc_grammar.proofs.Complete.Primaries.{picked-primary, ready-primary, ready-parts, picked-parts, picked-reads}
+use Rattle.swc_grammar.proofs.Complete.LeftSides.{any-link, no-paren, links-take, new-begins, no-dot-first, picked-base, base-no-new, ready-base, name-next, hash-alone, lparen-alone, chained}
+use Rattle.swc_grammar.proofs.Complete.Operators.{private-reads, operand-climbs, op-reads, exp-reads, signed, operand-reads, updates-end, update-link}
+use Rattle.swc_grammar.proofs.Complete.Assignments.{no-dot-expr, yielded, level-reads, assigns-end, question-ends, question-bound, assign-token, target-apart, assign-no-arrow, equals-plain, pattern-apart, target-no-pattern}
+use Rattle.swc_grammar.proofs.Complete.Patterns.{picked-pat, picked-pat-elements, picked-pat-tail, picked-pat-props, picked-pat-props-tail, picked-pat-prop, picked-params, picked-params-tail, ready-pat, ready-pat-elements, ready-pat-tail, ready-pat-props, ready-pat-props-tail, ready-pat-prop, ready-params, ready-params-tail, element-reads, no-equals}
+use Rattle.swc_grammar.proofs.Complete.Arrows.{here-arrow, line-arrow, body-bound, heads-reads, picked-body, ready-body}
 use Rattle.swc_grammar.proofs.Complete.Asyncs.{async-heads-parts, lparen-next, lparen-here, async-heads-reads}
+use Rattle.swc_grammar.proofs.{Good.good, Answers.both, Answers.only, Firsts.begins, Firsts.update-first, Knot.knot, Levels.bound-above}
+pub use Rattle.swc_grammar.proofs.Complete.Stops.{stops-assign, stops-expr, stops-unary, stops-level, stops-element, stops-pat-prop}
+pub use Rattle.swc_grammar.proofs.Complete.Sides.{last, picks, picks-as}
+pub use Rattle.swc_grammar.proofs.Complete.Primaries.{lit-picks, fn-picks, class-picks, picking}
+pub use Rattle.swc_grammar.proofs.{Complete.Operators.private-refused, Complete.LeftSides.links-end}
 
 module _ {F C K : Type 0} (hook : Hook F C K) where
   -- one clause a production

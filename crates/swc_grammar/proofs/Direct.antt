@@ -2,25 +2,14 @@
 use Rattle.std.specs.Prelude.{◌≡◌, true, List}
 use Rattle.std.proofs.Common.{refl}
 use Rattle.swc_input.specs.declared.token.TokenAndSpan.{TokenAndSpan}
-use Rattle.swc_ast.specs.Patterns.{put_element, holds_ident}
 use Rattle.swc_ast.specs.Tree.{Tree, node, Trees, nil, cons, rest}
-use Rattle.swc_ast.specs.Trees.{items_of, hole_e}
+use Rattle.swc_ast.specs.{Patterns.put_element, Patterns.holds_ident, Trees.items_of, Trees.hole_e}
 use Rattle.swc_bodies.specs.Readings.{Hook}
-use Rattle.swc_grammar.specs.Scope.{Scope}
-use Rattle.swc_grammar.specs.Symbols.{Symbol, Answer, Side, Pat, Element, Rest, PatElements, PatElementsTail, PatProps}
-use Rattle.swc_grammar.specs.Symbols.{PatPropsTail, PatProp, Params, ParamsTail}
-use Rattle.swc_grammar.specs.Parts.{binding, any_name}
+use Rattle.swc_grammar.specs.Symbols.{Symbol, Answer, Side, Pat, Element, Rest, PatElements, PatElementsTail, PatProps, PatPropsTail, PatProp, Params, ParamsTail}
 use Rattle.swc_grammar.specs.Patterns.{binds_names, all_bind_names, props_bind_names, prop_binds_names, any}
-use Rattle.swc_grammar.specs.Grammar.{Production, pat-bind, pat-array, pat-object, element-pat, element-default}
-use Rattle.swc_grammar.specs.Grammar.{pat-rest}
-use Rattle.swc_grammar.specs.Grammar.{pat-elements-end, pat-elements-hole, pat-elements-more, pat-elements-rest}
-use Rattle.swc_grammar.specs.Grammar.{pat-tail-end, pat-tail-more, pat-props-end, pat-props-more, pat-props-rest}
-use Rattle.swc_grammar.specs.Grammar.{pat-props-tail-end, pat-props-tail-more, pat-prop-key, pat-prop-short}
-use Rattle.swc_grammar.specs.Grammar.{pat-prop-default}
-use Rattle.swc_grammar.specs.Grammar.{params-end, params-more, params-rest, params-tail-end, params-tail-more}
-use Rattle.swc_grammar.specs.Reads.{Reads}
-use Rattle.swc_grammar.proofs.Induct.{Ran, ran-gave, ran-took, ran-held, ran-part, forget, every, gives-given}
-use Rattle.swc_grammar.proofs.Induct.{gives-side}
+use Rattle.swc_grammar.specs.Grammar.{Production, pat-bind, pat-array, pat-object, element-pat, element-default, pat-rest, pat-elements-end, pat-elements-hole, pat-elements-more, pat-elements-rest, pat-tail-end, pat-tail-more, pat-props-end, pat-props-more, pat-props-rest, pat-props-tail-end, pat-props-tail-more, pat-prop-key, pat-prop-short, pat-prop-default, params-end, params-more, params-rest, params-tail-end, params-tail-more}
+use Rattle.swc_grammar.specs.{Scope.Scope, Parts.binding, Parts.any_name, Reads.Reads}
+use Rattle.swc_grammar.proofs.Induct.{Ran, ran-gave, ran-took, ran-held, ran-part, forget, every, gives-given, gives-side}
 
 module _ {F C K : Type 0} where
   put-binds : (ps : Trees F C K) → all_bind_names any ps ≡ true → all_bind_names any (put_element true hole_e ps) ≡ true

@@ -1,78 +1,24 @@
 -- What a reading begins with; so it takes a token at least.
-use Rattle.std.specs.Prelude.{◌≡◌, Bool, true, false, ◌&&◌, ◌||◌, not, suc, ◌≤◌, length, List, ◌∷◌, ◌++◌, []}
-use Rattle.std.specs.Prelude.{Option, Some, None, codes, if◌then◌else◌}
+use Rattle.std.specs.Prelude.{◌≡◌, Bool, true, false, ◌&&◌, ◌||◌, not, suc, ◌≤◌, length, List, ◌∷◌, ◌++◌, [], Option, Some, None, codes, if◌then◌else◌}
 use Rattle.std.proofs.Common.{refl, sym, ap, subst, arith}
 use Rattle.std.proofs.lemmas.List.{length-append}
-use Rattle.swc_context.specs.Contexts.{arrow_body}
-use Rattle.swc_context.specs.Texts.{is_text, is_one_of}
-use Rattle.swc_context.specs.declared.operator.AssignOp.TheVariants as assign
-use Rattle.swc_context.specs.declared.operator.BinOpToken.TheVariants as sign
-use Rattle.swc_context.specs.declared.operator.UnaryOp.{UnaryOp}
-use Rattle.swc_context.specs.declared.operator.UpdateOp.{UpdateOp}
-use Rattle.swc_context.specs.declared.span.Span.{Span}
-use Rattle.swc_context.specs.declared.word.Keyword.TheVariants as keyword
-use Rattle.swc_context.specs.declared.word.Word.TheVariants as word
-use Rattle.swc_input.specs.declared.token.Token.{Token}
-use Rattle.swc_input.specs.declared.token.Token.TheVariants as token
-use Rattle.swc_input.specs.declared.token.TokenAndSpan.{TokenAndSpan}
-use Rattle.swc_input.specs.Kinds.{at_token}
+use Rattle.swc_context.specs.{Contexts.arrow_body, Texts.is_text, Texts.is_one_of, declared.operator.AssignOp.AssignOp as assign, declared.operator.BinOpToken.BinOpToken as sign, declared.operator.UnaryOp.UnaryOp, declared.operator.UpdateOp.UpdateOp, declared.span.Span.Span, declared.word.Keyword.Keyword as keyword, declared.word.Word.Word as word, declared.word.Word.Word, Words.word_text, Reserved.strict_binding_words}
+use Rattle.swc_input.specs.{declared.token.Token.Token, declared.token.Token.Token as token, declared.token.TokenAndSpan.TokenAndSpan, Kinds.at_token}
 use Rattle.swc_ast.specs.Tree.{Tree}
-use Rattle.swc_grammar.specs.Scope.{Scope}
-use Rattle.swc_grammar.specs.Rule.{Rule, gives, never, take, check, peek, read, hear, given, ◌>>=◌}
-use Rattle.swc_bodies.specs.Readings.{Hook, is_brace, is_function, is_async, is_class, is_function_here}
-use Rattle.swc_bodies.specs.Readings.{begins as begins_own, begins_function}
-use Rattle.swc_grammar.specs.Symbols.{Symbol, Answer, Body, Value}
-use Rattle.swc_grammar.specs.Symbols.{begins_body, Side}
+use Rattle.swc_grammar.specs.Scope.{Scope, in_context}
+use Rattle.swc_grammar.specs.Rule.{Rule, gives, never, take, check, peek, read, hear, given, ◌>>=◌, peek_two}
+use Rattle.swc_grammar.specs.Symbols.{Symbol, Answer, Body, Value, begins_body, Side, ArrowBody}
 use Rattle.swc_grammar.specs.Names.{Spelling, may_refer, may_bind}
-use Rattle.swc_grammar.specs.Tokens.{prefix_of, is_reference, ref_ok, is_put_off, is_comma, is_rbracket, is_lbracket}
-use Rattle.swc_grammar.specs.Tokens.{is_dots, is_rbrace, is_colon, is_lparen, is_rparen, is_star, is_word, is_get}
-use Rattle.swc_grammar.specs.Tokens.{is_set, is_new, is_super, is_import, is_slash, is_update, is_await, is_yield}
-use Rattle.swc_grammar.specs.Tokens.{yield_ok, opening, is_operand_opening, is_yield_opening}
-use Rattle.swc_grammar.specs.Parts.{reference, binding, any_name, lit_of, regex_of, text_of, key_lit_of, with_place}
-use Rattle.swc_grammar.specs.Parts.{prefix_here, update_here}
-use Rattle.swc_grammar.specs.Grammar.{Production, ident-expr, lit, paren-expr, unary-left, unary-op, exp-unary}
-use Rattle.swc_grammar.specs.Grammar.{base-primary, super-name, super-computed, super-call, import-meta, import-call}
-use Rattle.swc_grammar.specs.Grammar.{import-source, left-base, member-name, member-private, member-computed, call, args-end}
-use Rattle.swc_grammar.specs.Grammar.{args-more, args-tail-end, args-tail-more, lhs-left, new-bare, left-new, new-target}
-use Rattle.swc_grammar.specs.Grammar.{chain-name, chain-private, chain-computed, chain-call, tagged-tpl, arguments}
-use Rattle.swc_grammar.specs.Grammar.{primary-template, template, parts-end, parts-more, regex-alone, regex-slash}
-use Rattle.swc_grammar.specs.Grammar.{exp-op, primary-literal}
-use Rattle.swc_grammar.specs.Grammar.{this-expr, array-lit, elements-end, elements-hole, elements-more, tail-end}
-use Rattle.swc_grammar.specs.Grammar.{tail-more, item-expr, item-spread, fn-expr, class-expr}
-use Rattle.swc_grammar.specs.Grammar.{object-lit, props-end, props-more, props-tail-end, props-tail-more}
-use Rattle.swc_grammar.specs.Grammar.{prop-spread, prop-short, prop-cover, prop-key, prop-generator, prop-async}
-use Rattle.swc_grammar.specs.Grammar.{prop-async-generator, prop-getter, prop-setter, after-value, after-shell}
-use Rattle.swc_grammar.specs.Grammar.{shell-block, key-name, key-literal, key-computed}
-use Rattle.swc_grammar.specs.Grammar.{level-up, bin-op, private-expr, private-in, assign-level}
-use Rattle.swc_grammar.specs.Grammar.{update-postfix, update-prefix, await-expr, await-ident, cond-expr, assign-expr}
-use Rattle.swc_grammar.specs.Grammar.{yield-alone, yield-expr, yield-star, exprs-one, exprs-more, seq-expr}
-use Rattle.swc_grammar.specs.Grammar.{pat-bind, pat-array, pat-object, element-pat, element-default, pat-rest}
-use Rattle.swc_grammar.specs.Grammar.{pat-elements-end, pat-elements-hole, pat-elements-more, pat-elements-rest}
-use Rattle.swc_grammar.specs.Grammar.{pat-tail-end, pat-tail-more, pat-props-end, pat-props-more, pat-props-rest}
-use Rattle.swc_grammar.specs.Grammar.{pat-props-tail-end, pat-props-tail-more, pat-prop-key, pat-prop-short}
-use Rattle.swc_grammar.specs.Grammar.{pat-prop-default, params-end, params-more, params-rest, params-tail-end}
-use Rattle.swc_grammar.specs.Grammar.{params-tail-more}
-use Rattle.swc_grammar.specs.Reads.{Reads, by, Follows, gave, took, held, calm, part, heard}
+use Rattle.swc_grammar.specs.Tokens.{prefix_of, is_reference, ref_ok, is_put_off, is_comma, is_rbracket, is_lbracket, is_dots, is_rbrace, is_colon, is_lparen, is_rparen, is_star, is_word, is_get, is_set, is_new, is_super, is_import, is_slash, is_update, is_await, is_yield, yield_ok, opening, is_operand_opening, is_yield_opening}
+use Rattle.swc_grammar.specs.Parts.{reference, binding, any_name, lit_of, regex_of, text_of, key_lit_of, with_place, prefix_here, update_here}
+use Rattle.swc_grammar.specs.Grammar.{Production, ident-expr, lit, paren-expr, unary-left, unary-op, exp-unary, base-primary, super-name, super-computed, super-call, import-meta, import-call, import-source, left-base, member-name, member-private, member-computed, call, args-end, args-more, args-tail-end, args-tail-more, lhs-left, new-bare, left-new, new-target, chain-name, chain-private, chain-computed, chain-call, tagged-tpl, arguments, primary-template, template, parts-end, parts-more, regex-alone, regex-slash, exp-op, primary-literal, this-expr, array-lit, elements-end, elements-hole, elements-more, tail-end, tail-more, item-expr, item-spread, fn-expr, class-expr, object-lit, props-end, props-more, props-tail-end, props-tail-more, prop-spread, prop-short, prop-cover, prop-key, prop-generator, prop-async, prop-async-generator, prop-getter, prop-setter, after-value, after-shell, shell-block, key-name, key-literal, key-computed, level-up, bin-op, private-expr, private-in, assign-level, update-postfix, update-prefix, await-expr, await-ident, cond-expr, assign-expr, yield-alone, yield-expr, yield-star, exprs-one, exprs-more, seq-expr, pat-bind, pat-array, pat-object, element-pat, element-default, pat-rest, pat-elements-end, pat-elements-hole, pat-elements-more, pat-elements-rest, pat-tail-end, pat-tail-more, pat-props-end, pat-props-more, pat-props-rest, pat-props-tail-end, pat-props-tail-more, pat-prop-key, pat-prop-short, pat-prop-default, params-end, params-more, params-rest, params-tail-end, params-tail-more, assign-pattern, heads, async-ident, async-call, arrow-async-name, arrow-async-heads, arrow-name, arrow-heads, body-block, body-expr}
+use Rattle.swc_grammar.specs.Reads.{Reads, by, Follows, gave, took, held, calm, part, heard, calm-two}
 use Rattle.swc_grammar.specs.Clean.{first, is_lit, is_identifier, is_alone}
-use Rattle.swc_grammar.specs.Firsts.{is_first, starts, begins_primary, begins_left, is_left_word, begins_operand}
-use Rattle.swc_grammar.specs.Firsts.{begins_expression, begins_key, begins_prop, is_text_token, begins_pat}
-use Rattle.swc_grammar.specs.Firsts.{is_name_bound}
-use Rattle.swc_grammar.proofs.Answers.{both}
-use Rattle.swc_grammar.proofs.Bodies.{body-some}
-use Rattle.swc_grammar.proofs.Cut.{follows-length}
-use Rattle.swc_grammar.proofs.Only.{backquote-is, brace-is, class-is, colon-is, comma-is, dots-is, hash-is, import-is}
-use Rattle.swc_grammar.proofs.Only.{lbracket-is, lparen-is, new-is, rbrace-is, rbracket-is, rparen-is, star-is}
-use Rattle.swc_grammar.proofs.Only.{super-is, this-is}
-use Rattle.swc_grammar.specs.Scope.{in_context}
-use Rattle.swc_grammar.specs.Rule.{peek_two}
-use Rattle.swc_grammar.specs.Symbols.{ArrowBody}
-use Rattle.swc_grammar.specs.Grammar.{assign-pattern, heads, async-ident, async-call, arrow-async-name}
-use Rattle.swc_grammar.specs.Grammar.{arrow-async-heads, arrow-name, arrow-heads, body-block, body-expr}
-use Rattle.swc_context.specs.Words.{word_text}
+use Rattle.swc_grammar.specs.Firsts.{is_first, starts, begins_primary, begins_left, is_left_word, begins_operand, begins_expression, begins_key, begins_prop, is_text_token, begins_pat, is_name_bound}
 use Rattle.swc_grammar.specs.Arrows.{arrow_name, binds_alone, async_name, is_arrow_word}
-use Rattle.swc_context.specs.declared.word.Word.{Word}
-use Rattle.swc_grammar.specs.Reads.{calm-two}
-use Rattle.swc_context.specs.Reserved.{strict_binding_words}
+use Rattle.swc_bodies.specs.Readings.{Hook, is_brace, is_function, is_async, is_class, is_function_here, begins as begins_own, begins_function}
+use Rattle.swc_grammar.proofs.Only.{backquote-is, brace-is, class-is, colon-is, comma-is, dots-is, hash-is, import-is, lbracket-is, lparen-is, new-is, rbrace-is, rbracket-is, rparen-is, star-is, super-is, this-is}
+use Rattle.swc_grammar.proofs.{Answers.both, Bodies.body-some, Cut.follows-length}
 
 -- X holds where the rest of a side, after the token that it tests, can be followed
 abbrev pub Under : {F C K A : Type 0} → Type 0 → Rule Symbol (Answer F C K) Body (Value F C K) A → Type 0
@@ -204,7 +150,7 @@ async-first c t s n h = absurd cc
 joined : (a b : Bool) → a ≡ true → b ≡ true → (a && b) ≡ true
 joined a b h k = rw (h, k) refl
 
--- a reference that an arrow may are after, whether it may be bound or not
+-- a reference that an arrow may come after, whether it may be bound or not
 pub alone-first : (c : Scope) (t : Token) → is_alone c.context t ≡ true → begins_primary c t ≡ true
 alone-first c (token.Word w) h = by-word (is_put_off w) refl (both (is_reference c.context w) (is_arrow_word w) h).0
   where

@@ -1,26 +1,16 @@
 -- Heads of `for`, computed from their tokens.
 use Rattle.std.specs.Prelude.{◌≡◌, ℕ, List, [], ◌∷◌, Some, None, true, false, codes}
 use Rattle.std.proofs.Common.{refl}
-use Rattle.swc_context.specs.declared.operator.AssignOp.TheVariants as write
-use Rattle.swc_context.specs.declared.operator.BinOpToken.TheVariants as sign
-use Rattle.swc_context.specs.declared.operator.BinaryOp.TheVariants as binary
-use Rattle.swc_context.specs.declared.word.Keyword.TheVariants as keyword
-use Rattle.swc_context.specs.declared.word.Word.TheVariants as word
-use Rattle.swc_input.specs.declared.token.Token.TheVariants as token
-use Rattle.swc_input.specs.declared.token.TokenAndSpan.{TokenAndSpan}
+use Rattle.swc_context.specs.{declared.operator.AssignOp.AssignOp as write, declared.operator.BinOpToken.BinOpToken as sign, declared.operator.BinaryOp.BinaryOp as binary, declared.word.Keyword.Keyword as keyword, declared.word.Word.Word as word}
+use Rattle.swc_input.specs.{declared.token.Token.Token as token, declared.token.TokenAndSpan.TokenAndSpan}
 use Rattle.swc_ast.specs.Tree.{Tree, node, nil, cons, pat_expr}
 use Rattle.swc_ast.specs.Patterns.{array_p, object_p, default_p, name_p}
 use Rattle.swc_ast.specs.Trees.{arrow_e, assign_e, await_e, block_e, seq_e, yield_e}
 use Rattle.swc_bodies.specs.Readings.{Hook}
-use Rattle.swc_grammar.specs.ForHeadClean.{for_head}
-use Rattle.swc_grammar.specs.Clean.{run}
 use Rattle.swc_grammar.specs.ForHead.{ForHead, for_target, for_expr, ReadsHead, head-stop}
-use Rattle.swc_grammar.specs.Tokens.{tk}
-use Rattle.swc_grammar.proofs.Blocks.{braces}
-use Rattle.swc_grammar.proofs.ForHeads.{head-refused}
-use Rattle.swc_grammar.proofs.Texts.{script, module_code, generator, tok, word_at, name_at, num_at, open_at, close_at, brace_at, unbrace_at}
-use Rattle.swc_grammar.proofs.Texts.{sign_at, bracket_at, unbracket_at, dot_at, comma_at, equals_at, dots_at, question_at}
-use Rattle.swc_grammar.proofs.Texts.{ident, num, place, bin, paren, member, key}
+use Rattle.swc_grammar.specs.{ForHeadClean.for_head, Clean.run, Tokens.tk}
+use Rattle.swc_grammar.proofs.Texts.{script, module_code, generator, tok, word_at, name_at, num_at, open_at, close_at, brace_at, unbrace_at, sign_at, bracket_at, unbracket_at, dot_at, comma_at, equals_at, dots_at, question_at, ident, num, place, bin, paren, member, key}
+use Rattle.swc_grammar.proofs.{Blocks.braces, ForHeads.head-refused}
 
 abbrev a : ℕ → ℕ → TokenAndSpan
 a lo hi = name_at (codes "a") lo hi

@@ -2,32 +2,21 @@
 use Rattle.std.specs.Prelude.{◌≡◌, Bool, true, false, if◌then◌else◌, List, [], ◌∷◌, ◌++◌, Option, Some, None}
 use Rattle.std.proofs.Common.{refl, sym as sym_path, subst}
 use Rattle.std.proofs.lemmas.List.{append_assoc}
-use Rattle.swc_context.specs.declared.span.Span.{Span}
-use Rattle.swc_context.specs.declared.word.Keyword.TheVariants as keyword
-use Rattle.swc_context.specs.declared.word.Word.TheVariants as word
-use Rattle.swc_input.specs.declared.token.Token.{Token}
+use Rattle.swc_context.specs.{declared.span.Span.Span, declared.word.Keyword.Keyword as keyword, declared.word.Word.Word as word}
+use Rattle.swc_input.specs.{declared.token.Token.Token, declared.token.TokenAndSpan.TokenAndSpan}
 use Rattle.swc_input.specs.declared.token.Token.TheVariants as token
-use Rattle.swc_input.specs.declared.token.TokenAndSpan.{TokenAndSpan}
 use Rattle.swc_ast.specs.Tree.{Tree, Trees, nil, cons}
+use Rattle.swc_ast.specs.Trees.{items_of, trees_append, seq_of, is_valid, is_grouped}
 use Rattle.swc_bodies.specs.Readings.{Hook, LawfulHook}
-use Rattle.swc_grammar.specs.Scope.{Scope}
-use Rattle.swc_grammar.specs.Rule.{sees}
 use Rattle.swc_grammar.specs.Symbols.{Expr, Exprs, Assign}
 use Rattle.swc_grammar.specs.Grammar.{exprs-one, exprs-more, seq-expr}
 use Rattle.swc_grammar.specs.Reads.{Reads, by, gave, took, held, part}
 use Rattle.swc_grammar.specs.Cover.{Role, target, as_pat, is_assign}
-use Rattle.swc_ast.specs.Trees.{items_of, trees_append, seq_of, is_valid, is_grouped}
 use Rattle.swc_grammar.specs.Clean.{sym, run, Stop}
-use Rattle.swc_grammar.specs.ForHead.{ForHead, for_target, for_expr, in_for, is_each, ReadsHead, target-head, expr-head}
-use Rattle.swc_grammar.specs.ForHead.{is_head_stop, HeadStops, head-end, head-stop, head_tree, next}
+use Rattle.swc_grammar.specs.ForHead.{ForHead, for_target, for_expr, in_for, is_each, ReadsHead, target-head, expr-head, is_head_stop, HeadStops, head-end, head-stop, head_tree, next}
 use Rattle.swc_grammar.specs.ForHeadClean.{written, for_tail, for_head}
-use Rattle.swc_grammar.proofs.Answers.{then-ok, unless}
-use Rattle.swc_grammar.proofs.Complete.{complete}
-use Rattle.swc_grammar.proofs.Cut.{cut-tail, consumed}
-use Rattle.swc_grammar.proofs.Good.{good}
-use Rattle.swc_grammar.proofs.Kept.{Fine, kept}
-use Rattle.swc_grammar.proofs.One.{one-answer}
-use Rattle.swc_grammar.proofs.Sound.{sound}
+use Rattle.swc_grammar.specs.{Scope.Scope, Rule.sees}
+use Rattle.swc_grammar.proofs.{Answers.then-ok, Answers.unless, Complete.complete, Cut.cut-tail, Cut.consumed, Good.good, Kept.Fine, Kept.kept, One.one-answer, Sound.sound}
 
 -- Two expressions or more, with commas between them, are no target.
 abbrev some : {F C K : Type 0} → Trees F C K → Bool

@@ -1,70 +1,24 @@
 -- What holds of every tree that the grammar derives: it has no `Invalid` in it, its operators group as the levels say,
 -- and no `??` is on the left of `||` or `&&`. One clause a production says that its node keeps this; the induction
 -- is done once.
-use Rattle.std.specs.Prelude.{◌≡◌, ℕ, suc, ◌≤◌, Bool, true, false, not, ◌&&◌, ◌||◌, List, Option, Some, None, IsTrue}
-use Rattle.std.specs.Prelude.{nat_le, nat_lt}
-use Rattle.std.specs.Prelude.{nat_eq, if◌then◌else◌}
+use Rattle.std.specs.Prelude.{◌≡◌, ℕ, suc, ◌≤◌, Bool, true, false, not, ◌&&◌, ◌||◌, List, Option, Some, None, IsTrue, nat_le, nat_lt, nat_eq, if◌then◌else◌}
 use Rattle.std.proofs.Common.{refl, subst, arith}
 use Rattle.std.proofs.lemmas.Bool.{eqb-true, ltb-true, le-leb, lt-ltb}
-use Rattle.swc_context.specs.Operators.{precedence_of}
-use Rattle.swc_context.specs.declared.operator.BinaryOp.{BinaryOp}
-use Rattle.swc_context.specs.declared.operator.BinaryOp.TheVariants as binary
-use Rattle.swc_context.specs.declared.span.Span.{Span}
-use Rattle.swc_context.specs.declared.word.Word.TheVariants as word
-use Rattle.swc_input.specs.declared.token.Token.{Token}
-use Rattle.swc_input.specs.declared.token.Token.TheVariants as token
-use Rattle.swc_input.specs.declared.token.TokenAndSpan.{TokenAndSpan}
+use Rattle.swc_context.specs.{Operators.precedence_of, declared.operator.BinaryOp.BinaryOp, declared.operator.BinaryOp.BinaryOp as binary, declared.span.Span.Span, declared.word.Word.Word as word}
+use Rattle.swc_input.specs.{declared.token.Token.Token, declared.token.Token.Token as token, declared.token.TokenAndSpan.TokenAndSpan}
 use Rattle.swc_ast.specs.Patterns.{put_element}
-use Rattle.swc_ast.specs.Tree.{Kind, Tree, node, Trees, nil, cons, span_of}
-use Rattle.swc_ast.specs.Tree.{unary as unary_kind, bin as bin_kind, update as update_kind, cond as cond_kind}
-use Rattle.swc_ast.specs.Tree.{await as await_kind, assign as assign_kind, item, spread, param}
-use Rattle.swc_ast.specs.Trees.{to, bin_e, tightness, least_left, min_right, exp_ok, is_unary, nullish_ok}
-use Rattle.swc_ast.specs.Trees.{logical_ok}
-use Rattle.swc_ast.specs.Trees.{is_valid, are_valid, is_invalid, is_grouped, are_grouped, grouped_at, items_of}
-use Rattle.swc_ast.specs.Trees.{at_place, method_e, value_e, prop_of, regex_e, text_e, trees_append, texts_of, exprs_of}
-use Rattle.swc_ast.specs.Trees.{held_expr, held_exprs, seq_of, paren_e, params_e, pattern_of, setter_parts}
-use Rattle.swc_ast.specs.Trees.{is_chain, chain_e, link_e, member_e, call_e, name_e, private_e, computed_e}
-use Rattle.swc_ast.specs.Trees.{hole_e, left_ok}
+use Rattle.swc_ast.specs.Tree.{Kind, Tree, node, Trees, nil, cons, span_of, unary as unary_kind, bin as bin_kind, update as update_kind, cond as cond_kind, await as await_kind, assign as assign_kind, item, spread, param}
+use Rattle.swc_ast.specs.Trees.{to, bin_e, tightness, least_left, min_right, exp_ok, is_unary, nullish_ok, logical_ok, is_valid, are_valid, is_invalid, is_grouped, are_grouped, grouped_at, items_of, at_place, method_e, value_e, prop_of, regex_e, text_e, trees_append, texts_of, exprs_of, held_expr, held_exprs, seq_of, paren_e, params_e, pattern_of, setter_parts, is_chain, chain_e, link_e, member_e, call_e, name_e, private_e, computed_e, hole_e, left_ok, comma_of}
 use Rattle.swc_grammar.specs.Scope.{Scope}
 use Rattle.swc_grammar.specs.Rule.{Rule, gives, never, take, check, peek, peek_two, read, hear, given, ◌>>=◌}
-use Rattle.swc_bodies.specs.Readings.{Hook}
-use Rattle.swc_grammar.specs.Symbols.{Symbol, Expr, Level, Unary, Lhs, Left, Base, Primary, Literal, Template, Parts, Prop, Key, AfterKey}
-use Rattle.swc_grammar.specs.Symbols.{Answer, Body}
-use Rattle.swc_grammar.specs.Symbols.{Value, Side}
-use Rattle.swc_grammar.specs.Parts.{reference, any_name, lit_of, regex_of, flags_ok, cooked_of, text_by}
-use Rattle.swc_grammar.specs.Parts.{text_of, key_lit_of}
-use Rattle.swc_grammar.specs.Parts.{prefix_here, update_here, assign_here, operator_here}
-use Rattle.swc_grammar.specs.Grammar.{Production, ident-expr, lit, paren-expr, unary-left, unary-op, exp-unary}
-use Rattle.swc_grammar.specs.Grammar.{base-primary, super-name, super-computed, super-call, import-meta, import-call}
-use Rattle.swc_grammar.specs.Grammar.{import-source, left-base, member-name, member-private, member-computed, call, args-end}
-use Rattle.swc_grammar.specs.Grammar.{args-more, args-tail-end, args-tail-more, lhs-left, new-bare, left-new, new-target}
-use Rattle.swc_grammar.specs.Grammar.{chain-name, chain-private, chain-computed, chain-call, tagged-tpl, arguments}
-use Rattle.swc_grammar.specs.Grammar.{primary-template, template, parts-end, parts-more, regex-alone, regex-slash}
-use Rattle.swc_grammar.specs.Grammar.{exp-op, primary-literal}
-use Rattle.swc_grammar.specs.Grammar.{this-expr, array-lit, elements-end, elements-hole, elements-more, tail-end}
-use Rattle.swc_grammar.specs.Grammar.{tail-more, item-expr, item-spread, fn-expr, class-expr}
-use Rattle.swc_grammar.specs.Grammar.{object-lit, props-end, props-more, props-tail-end, props-tail-more}
-use Rattle.swc_grammar.specs.Grammar.{prop-spread, prop-short, prop-cover, prop-key, prop-generator, prop-async}
-use Rattle.swc_grammar.specs.Grammar.{prop-async-generator, prop-getter, prop-setter, after-value, after-shell}
-use Rattle.swc_grammar.specs.Grammar.{shell-block, key-name, key-literal, key-computed}
-use Rattle.swc_grammar.specs.Grammar.{level-up, bin-op, private-expr, private-in, assign-level}
-use Rattle.swc_grammar.specs.Grammar.{update-postfix, update-prefix, await-expr, await-ident, cond-expr, assign-expr}
-use Rattle.swc_grammar.specs.Grammar.{yield-alone, yield-expr, yield-star, exprs-one, exprs-more, seq-expr}
-use Rattle.swc_grammar.specs.Grammar.{pat-bind, pat-array, pat-object, element-pat, element-default, pat-rest}
-use Rattle.swc_grammar.specs.Grammar.{pat-elements-end, pat-elements-hole, pat-elements-more, pat-elements-rest}
-use Rattle.swc_grammar.specs.Grammar.{pat-tail-end, pat-tail-more, pat-props-end, pat-props-more, pat-props-rest}
-use Rattle.swc_grammar.specs.Grammar.{pat-props-tail-end, pat-props-tail-more, pat-prop-key, pat-prop-short}
-use Rattle.swc_grammar.specs.Grammar.{pat-prop-default, params-end, params-more, params-rest, params-tail-end}
-use Rattle.swc_grammar.specs.Grammar.{params-tail-more}
-use Rattle.swc_grammar.specs.Reads.{Reads, by, Follows, gave, took, held, calm, part, heard}
-use Rattle.swc_grammar.specs.Parts.{binding}
-use Rattle.swc_grammar.proofs.Answers.{inj, both, only}
-use Rattle.swc_grammar.specs.Reads.{calm-two}
+use Rattle.swc_grammar.specs.Symbols.{Symbol, Expr, Level, Unary, Lhs, Left, Base, Primary, Literal, Template, Parts, Prop, Key, AfterKey, Answer, Body, Value, Side}
+use Rattle.swc_grammar.specs.Parts.{reference, any_name, lit_of, regex_of, flags_ok, cooked_of, text_by, text_of, key_lit_of, prefix_here, update_here, assign_here, operator_here, binding}
+use Rattle.swc_grammar.specs.Grammar.{Production, ident-expr, lit, paren-expr, unary-left, unary-op, exp-unary, base-primary, super-name, super-computed, super-call, import-meta, import-call, import-source, left-base, member-name, member-private, member-computed, call, args-end, args-more, args-tail-end, args-tail-more, lhs-left, new-bare, left-new, new-target, chain-name, chain-private, chain-computed, chain-call, tagged-tpl, arguments, primary-template, template, parts-end, parts-more, regex-alone, regex-slash, exp-op, primary-literal, this-expr, array-lit, elements-end, elements-hole, elements-more, tail-end, tail-more, item-expr, item-spread, fn-expr, class-expr, object-lit, props-end, props-more, props-tail-end, props-tail-more, prop-spread, prop-short, prop-cover, prop-key, prop-generator, prop-async, prop-async-generator, prop-getter, prop-setter, after-value, after-shell, shell-block, key-name, key-literal, key-computed, level-up, bin-op, private-expr, private-in, assign-level, update-postfix, update-prefix, await-expr, await-ident, cond-expr, assign-expr, yield-alone, yield-expr, yield-star, exprs-one, exprs-more, seq-expr, pat-bind, pat-array, pat-object, element-pat, element-default, pat-rest, pat-elements-end, pat-elements-hole, pat-elements-more, pat-elements-rest, pat-tail-end, pat-tail-more, pat-props-end, pat-props-more, pat-props-rest, pat-props-tail-end, pat-props-tail-more, pat-prop-key, pat-prop-short, pat-prop-default, params-end, params-more, params-rest, params-tail-end, params-tail-more, async-ident, async-call, arrow-async-name, arrow-async-heads, arrow-name, arrow-heads, body-block, body-expr, assign-pattern, heads}
+use Rattle.swc_grammar.specs.Reads.{Reads, by, Follows, gave, took, held, calm, part, heard, calm-two}
 use Rattle.swc_grammar.specs.Arrows.{arrow_name, async_name, async_param}
-use Rattle.swc_grammar.specs.Grammar.{async-ident, async-call, arrow-async-name, arrow-async-heads, arrow-name}
-use Rattle.swc_grammar.specs.Grammar.{arrow-heads, body-block, body-expr, assign-pattern, heads}
 use Rattle.swc_grammar.specs.Cover.{as_literal, as_params, binding as binding_role}
-use Rattle.swc_ast.specs.Trees.{comma_of}
+use Rattle.swc_bodies.specs.Readings.{Hook}
+use Rattle.swc_grammar.proofs.Answers.{inj, both, only}
 use Rattle.swc_grammar.proofs.Kept.{literal-kept, literal-tight, elements-kept}
 
 -- how loosely a symbol's trees may hold together

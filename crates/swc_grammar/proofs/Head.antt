@@ -1,28 +1,19 @@
 -- Where an assignment expression begins, what it begins with is read like elsewhere, but for `async` and what makes it
 -- more than a name.
-use Rattle.std.specs.Prelude.{◌≡◌, ℕ, Bool, true, false, not, ◌&&◌, ◌||◌, List, ◌∷◌, Option, Some, None, []}
+use Rattle.std.specs.Prelude.{◌≡◌, ℕ, Bool, true, false, not, ◌&&◌, ◌||◌, List, ◌∷◌, Option, Some, None, [], if◌then◌else◌}
 use Rattle.std.proofs.Common.{refl, sym as sym_path, ap, ◌∙◌}
 use Rattle.swc_context.specs.declared.operator.UnaryOp.{UnaryOp}
-use Rattle.swc_input.specs.declared.token.TokenAndSpan.{TokenAndSpan}
-use Rattle.swc_input.specs.Kinds.{at_token, is_hash}
-use Rattle.swc_ast.specs.Tree.{Tree}
+use Rattle.swc_input.specs.{declared.token.TokenAndSpan.TokenAndSpan, Kinds.at_token, Kinds.is_hash}
+use Rattle.swc_ast.specs.{Tree.Tree, Trees.ident_e}
 use Rattle.swc_bodies.specs.Readings.{Hook, begins, begins_function, is_class, is_brace, is_async, is_function}
 use Rattle.swc_grammar.specs.Arrows.{async_name, goes_on_async, of_arrow, is_bindable, before_of, is_arrow}
-use Rattle.swc_grammar.specs.Clean.{Out, and_then, first, second, third, sym, links, updates, climb, chosen, exec, run}
-use Rattle.swc_grammar.specs.Clean.{Choice, Plan, plan, base, primary, async_primary}
-use Rattle.swc_grammar.specs.Clean.{unary_by, is_lit, is_identifier, prefix_at}
-use Rattle.swc_grammar.specs.Clean.{begins_async_name, begins_async_list, begins_new, ends_await_at, is_lparen_here}
-use Rattle.swc_grammar.specs.Clean.{is_bindable_here, before_of_here, begins_private}
+use Rattle.swc_grammar.specs.Clean.{Out, and_then, first, second, third, sym, links, updates, climb, chosen, exec, run, Choice, Plan, plan, base, primary, async_primary, unary_by, is_lit, is_identifier, prefix_at, begins_async_name, begins_async_list, begins_new, ends_await_at, is_lparen_here, is_bindable_here, before_of_here, begins_private}
 use Rattle.swc_grammar.specs.Rule.{read, peek, peek_two, sees, sees_two, gives, given, ◌>>=◌}
 use Rattle.swc_grammar.specs.Names.{Spelling}
-use Rattle.swc_ast.specs.Trees.{ident_e}
 use Rattle.swc_grammar.specs.Scope.{Scope, at_head, inner}
 use Rattle.swc_grammar.specs.Symbols.{Symbol, Answer, Side, Level, Unary, Lhs, Base, Primary}
-use Rattle.swc_grammar.specs.Tokens.{is_lparen, is_this, is_lbracket, is_backquote, is_slash, is_regex, is_update}
-use Rattle.swc_grammar.specs.Tokens.{is_await}
-use Rattle.swc_grammar.specs.Tokens.{is_star, is_new, is_super, is_import, is_dot, is_source}
+use Rattle.swc_grammar.specs.Tokens.{is_lparen, is_this, is_lbracket, is_backquote, is_slash, is_regex, is_update, is_await, is_star, is_new, is_super, is_import, is_dot, is_source}
 use Rattle.swc_grammar.proofs.Knot.{knot}
-use Rattle.std.specs.Prelude.{if◌then◌else◌}
 
 -- two choices by one test
 same-if : {A B D : Type 0} (f : A → D) (g : B → D) (b : Bool) (x y : A) (u v : B) → (b ≡ true → f x ≡ g u)

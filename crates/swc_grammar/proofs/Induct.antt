@@ -6,12 +6,10 @@ use Rattle.swc_context.specs.declared.span.Span.{Span}
 use Rattle.swc_input.specs.declared.token.TokenAndSpan.{TokenAndSpan}
 use Rattle.swc_ast.specs.Tree.{Tree}
 use Rattle.swc_bodies.specs.Readings.{whole_span, Hook}
-use Rattle.swc_grammar.specs.Scope.{Scope}
-use Rattle.swc_grammar.specs.Rule.{Rule, gives, never, take, check, peek, peek_two, read, hear, sees, sees_two, given}
-use Rattle.swc_grammar.specs.Rule.{◌>>=◌}
+use Rattle.swc_grammar.specs.Rule.{Rule, gives, never, take, check, peek, peek_two, read, hear, sees, sees_two, given, ◌>>=◌}
 use Rattle.swc_grammar.specs.Symbols.{Symbol, Answer, Body, Value, Side}
-use Rattle.swc_grammar.specs.Grammar.{Production}
 use Rattle.swc_grammar.specs.Reads.{Hears, Reads, by, Follows, gave, took, held, calm, calm-two, part, heard}
+use Rattle.swc_grammar.specs.{Scope.Scope, Grammar.Production}
 use Rattle.swc_grammar.proofs.Firsts.{given-held}
 
 module _ {F C K : Type 0} {hook : Hook F C K} {s : Symbol} where

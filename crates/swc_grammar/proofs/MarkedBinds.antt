@@ -1,8 +1,7 @@
 -- Without the marks of commas patterns bind what they bind with them.
 use Rattle.std.specs.Prelude.{◌≡◌, ℕ, Bool, List}
 use Rattle.std.proofs.Common.{refl}
-use Rattle.swc_ast.specs.Tree.{Tree, node, Trees, nil, cons}
-use Rattle.swc_ast.specs.Tree.{array_with, object_with, args_with, rest, default, binding_prop, key_value}
+use Rattle.swc_ast.specs.Tree.{Tree, node, Trees, nil, cons, array_with, object_with, args_with, rest, default, binding_prop, key_value}
 use Rattle.swc_ast.specs.Trees.{is_ident, unmarked, all_unmarked}
 use Rattle.swc_grammar.specs.Patterns.{binds_names, all_bind_names, props_bind_names, prop_binds_names}
 

@@ -2,15 +2,11 @@
 use Rattle.std.specs.Prelude.{◌≡◌, Bool, true, false, not, ◌&&◌, Option, Some, None, if◌then◌else◌}
 use Rattle.std.proofs.Common.{refl, sym, ap, subst}
 use Rattle.swc_context.specs.declared.span.Span.{Span}
-use Rattle.swc_ast.specs.Tree.{Tree, node, Trees, nil, cons, span_of}
-use Rattle.swc_ast.specs.Tree.{ident, array_with, object_with, assign, member, super_prop, paren, hole, item, spread}
-use Rattle.swc_ast.specs.Tree.{shorthand, cover, key_value}
+use Rattle.swc_ast.specs.Tree.{Tree, node, Trees, nil, cons, span_of, ident, array_with, object_with, assign, member, super_prop, paren, hole, item, spread, shorthand, cover, key_value}
 use Rattle.swc_ast.specs.Trees.{is_ident, hole_e, key_value_e}
-use Rattle.swc_grammar.specs.Patterns.{binds_names, all_bind_names, any}
 use Rattle.swc_ast.specs.Patterns.{array_p, object_p, default_p, rest_p, name_p, put_element}
-use Rattle.swc_grammar.specs.Patterns.{props_bind_names, prop_binds_names}
-use Rattle.swc_grammar.specs.Cover.{binding, as_pat, as_elements, as_element, as_props, as_prop, is_pattern, is_assign}
-use Rattle.swc_grammar.specs.Cover.{is_plain_assign, is_last, is_hole}
+use Rattle.swc_grammar.specs.Patterns.{binds_names, all_bind_names, any, props_bind_names, prop_binds_names}
+use Rattle.swc_grammar.specs.Cover.{binding, as_pat, as_elements, as_element, as_props, as_prop, is_pattern, is_assign, is_plain_assign, is_last, is_hole}
 use Rattle.swc_grammar.proofs.Answers.{only, inj, both}
 use Rattle.swc_grammar.proofs.Related.{bind-some}
 

@@ -1,11 +1,9 @@
 -- A left-hand side that begins with neither `super` nor `import` is read in two steps: first one that holds no calls, as
 -- a member expression or `new`, and then links that may be calls.
-use Rattle.std.specs.Prelude.{◌≡◌, ℕ, zero, suc, ◌≤◌, ◌<◌, Bool, true, false, not, ◌&&◌, if◌then◌else◌, List, [], ◌∷◌}
-use Rattle.std.specs.Prelude.{Some, None, length}
+use Rattle.std.specs.Prelude.{◌≡◌, ℕ, zero, suc, ◌≤◌, ◌<◌, Bool, true, false, not, ◌&&◌, if◌then◌else◌, List, [], ◌∷◌, Some, None, length}
 use Rattle.std.proofs.Common.{refl, sym as flip, ap, subst, ◌∙◌, arith}
 use Rattle.swc_context.specs.declared.span.Span.{Span}
-use Rattle.swc_input.specs.declared.token.TokenAndSpan.{TokenAndSpan}
-use Rattle.swc_input.specs.Kinds.{at_token, is_hash}
+use Rattle.swc_input.specs.{declared.token.TokenAndSpan.TokenAndSpan, Kinds.at_token, Kinds.is_hash}
 use Rattle.swc_ast.specs.Tree.{Tree, span_of}
 use Rattle.swc_ast.specs.Trees.{to, new_e, bare_new_e, is_chain, items_of}
 use Rattle.swc_bodies.specs.Readings.{Hook}
@@ -14,12 +12,10 @@ use Rattle.swc_grammar.specs.Rule.{take, read, symbol}
 use Rattle.swc_grammar.specs.Symbols.{Lhs, Left, Base, Args, Side}
 use Rattle.swc_grammar.specs.Tokens.{with_in, is_dot, is_lbracket, is_backquote, is_question, is_lparen, is_super, is_import, is_new}
 use Rattle.swc_grammar.specs.Grammar.{Production, new-target, base-primary}
-use Rattle.swc_grammar.specs.Clean.{Out, and_then, first, second, third, sym, links, constructs, plan, exec, run}
-use Rattle.swc_grammar.specs.Clean.{Link, no_more, more, linked, link, dot_link, chain_link, no_link, begins_new, chosen, pick}
+use Rattle.swc_grammar.specs.Clean.{Out, and_then, first, second, third, sym, links, constructs, plan, exec, run, Link, no_more, more, linked, link, dot_link, chain_link, no_link, begins_new, chosen, pick}
 use Rattle.swc_grammar.proofs.Answers.{then-ok, then-same, only, inj}
-use Rattle.swc_grammar.proofs.Complete.{last, links-end}
 use Rattle.swc_grammar.proofs.Knot.{knot, exec-less, run-less}
-use Rattle.swc_grammar.proofs.Rules.{exec-bind}
+use Rattle.swc_grammar.proofs.{Complete.last, Complete.links-end, Rules.exec-bind}
 
 then_then : {A B D : Type 0} (o : Out A) (f : A → List TokenAndSpan → Out B) (g : B → List TokenAndSpan → Out D)
     → and_then (and_then o f) g ≡ and_then o (λ e us. and_then (f e us) g)

@@ -4,21 +4,14 @@ use Rattle.std.proofs.Common.{refl, sym, subst}
 use Rattle.swc_context.specs.declared.span.Span.{Span}
 use Rattle.swc_input.specs.declared.token.TokenAndSpan.{TokenAndSpan}
 use Rattle.swc_ast.specs.Tree.{Tree, node, Trees, nil, cons, span_of, setter}
-use Rattle.swc_ast.specs.Trees.{to, items_of, value_e, prop_of, params_e, is_rest, one_plain, behind_first}
-use Rattle.swc_ast.specs.Trees.{setter_parts}
+use Rattle.swc_ast.specs.Trees.{to, items_of, value_e, prop_of, params_e, is_rest, one_plain, behind_first, setter_parts}
 use Rattle.swc_bodies.specs.Readings.{Hook}
-use Rattle.swc_grammar.specs.Scope.{Scope}
 use Rattle.swc_grammar.specs.Symbols.{Symbol, Answer, Side, Prop, Shell}
-use Rattle.swc_grammar.specs.Parts.{any_name}
 use Rattle.swc_grammar.specs.Patterns.{binds_names, all_bind_names, any}
-use Rattle.swc_grammar.specs.Grammar.{Production, prop-spread, prop-short, prop-cover, prop-key, prop-generator}
-use Rattle.swc_grammar.specs.Grammar.{prop-async}
-use Rattle.swc_grammar.specs.Grammar.{prop-async-generator, prop-getter, prop-setter, shell-block}
-use Rattle.swc_grammar.specs.Reads.{Reads}
-use Rattle.swc_grammar.proofs.Answers.{both}
-use Rattle.swc_grammar.proofs.Direct.{params-bind}
-use Rattle.swc_grammar.proofs.Induct.{Ran, ran-gave, ran-took, ran-held, ran-part, forget, every, gives-given}
-use Rattle.swc_grammar.proofs.Induct.{gives-side}
+use Rattle.swc_grammar.specs.Grammar.{Production, prop-spread, prop-short, prop-cover, prop-key, prop-generator, prop-async, prop-async-generator, prop-getter, prop-setter, shell-block}
+use Rattle.swc_grammar.specs.{Scope.Scope, Parts.any_name, Reads.Reads}
+use Rattle.swc_grammar.proofs.Induct.{Ran, ran-gave, ran-took, ran-held, ran-part, forget, every, gives-given, gives-side}
+use Rattle.swc_grammar.proofs.{Answers.both, Direct.params-bind}
 
 module _ {F C K : Type 0} where
   -- a method's function: its block, and parameters that bind names alone

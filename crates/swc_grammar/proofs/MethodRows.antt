@@ -1,30 +1,16 @@
 -- Methods, getters and setters with their parameters: worked rows.
 use Rattle.std.specs.Prelude.{◌≡◌, ℕ, Bool, true, false, List, [], ◌∷◌, Some, None, codes}
 use Rattle.std.proofs.Common.{refl}
-use Rattle.swc_context.specs.Contexts.{method_block, method_params}
-use Rattle.swc_context.specs.declared.context.Context.{Context}
-use Rattle.swc_context.specs.declared.operator.BinOpToken.TheVariants as sign
-use Rattle.swc_context.specs.declared.span.Span.{Span}
-use Rattle.swc_context.specs.declared.word.Keyword.TheVariants as keyword
-use Rattle.swc_context.specs.declared.word.Word.TheVariants as word
+use Rattle.swc_context.specs.{Contexts.method_block, Contexts.method_params, declared.context.Context.Context, declared.operator.BinOpToken.BinOpToken as sign, declared.span.Span.Span, declared.word.Keyword.Keyword as keyword, declared.word.Word.Word as word}
 use Rattle.swc_input.specs.declared.token.TokenAndSpan.{TokenAndSpan}
 use Rattle.swc_ast.specs.Patterns.{array_p, default_p, rest_p}
 use Rattle.swc_ast.specs.Tree.{Tree, node, Trees, nil, cons, setter, param, dots}
 use Rattle.swc_ast.specs.Trees.{object_e, paren_e, method_e, function_e, block_e, meta_e, super_prop_e, name_e}
-use Rattle.swc_ast.specs.declared.expr.MetaPropKind.TheVariants as kind
+use Rattle.swc_ast.specs.declared.expr.MetaPropKind.{MetaPropKind as kind}
 use Rattle.swc_bodies.specs.Readings.{Hook}
-use Rattle.swc_grammar.specs.Scope.{Scope, in_context}
-use Rattle.swc_grammar.specs.Symbols.{Expr}
-use Rattle.swc_grammar.specs.Reads.{Reads}
-use Rattle.swc_grammar.proofs.Blocks.{braces, braces-lawful}
-use Rattle.swc_grammar.proofs.Complete.{complete}
-use Rattle.swc_grammar.proofs.Computed.{answer}
-use Rattle.swc_grammar.proofs.Sound.{sound}
-use Rattle.swc_grammar.proofs.Texts.{script, generator, class_field, place, name_at, word_at, num_at, sign_at}
-use Rattle.swc_grammar.proofs.Texts.{open_at, close_at}
-use Rattle.swc_grammar.proofs.Texts.{brace_at, unbrace_at, bracket_at, unbracket_at, comma_at, dots_at, dot_at}
-use Rattle.swc_grammar.proofs.Texts.{equals_at}
-use Rattle.swc_grammar.proofs.Texts.{ident, num, key}
+use Rattle.swc_grammar.specs.{Scope.Scope, Scope.in_context, Symbols.Expr, Reads.Reads}
+use Rattle.swc_grammar.proofs.Texts.{script, generator, class_field, place, name_at, word_at, num_at, sign_at, open_at, close_at, brace_at, unbrace_at, bracket_at, unbracket_at, comma_at, dots_at, dot_at, equals_at, ident, num, key}
+use Rattle.swc_grammar.proofs.{Blocks.braces, Blocks.braces-lawful, Complete.complete, Computed.answer, Sound.sound}
 
 -- what the clean parser reads is derived, and what it doesn't isn't
 module _ {F C : Type 0} where

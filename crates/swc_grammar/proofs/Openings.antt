@@ -2,19 +2,11 @@
 -- each of its tokens begins one in every context, but for names, `yield` and `*`.
 use Rattle.std.specs.Prelude.{◌≡◌, Bool, true, false, ◌||◌, ◌&&◌}
 use Rattle.std.proofs.Common.{refl}
-use Rattle.swc_context.specs.declared.operator.AssignOp.TheVariants as assign
-use Rattle.swc_context.specs.declared.operator.BinOpToken.TheVariants as sign
-use Rattle.swc_context.specs.declared.word.Keyword.TheVariants as keyword
-use Rattle.swc_context.specs.declared.word.Word.TheVariants as word
-use Rattle.swc_input.specs.declared.token.Token.{Token}
-use Rattle.swc_input.specs.declared.token.Token.TheVariants as token
+use Rattle.swc_context.specs.{declared.operator.AssignOp.AssignOp as assign, declared.operator.BinOpToken.BinOpToken as sign, declared.word.Keyword.Keyword as keyword, declared.word.Word.Word as word}
+use Rattle.swc_input.specs.declared.token.Token.{Token, Token as token}
 use Rattle.swc_bodies.specs.Readings.{is_async}
-use Rattle.swc_grammar.specs.Scope.{Scope}
-use Rattle.swc_grammar.specs.Clean.{is_identifier}
-use Rattle.swc_grammar.specs.Firsts.{begins_expression}
-use Rattle.swc_grammar.specs.Tokens.{Opening, opens_name, opens_primary, opens_left, opens_operand, opens_yield}
-use Rattle.swc_grammar.specs.Tokens.{opens_yielded, opens_none, opening, opens_at_times, is_primary_opening}
-use Rattle.swc_grammar.specs.Tokens.{is_left_opening, is_operand_opening, is_yield_opening, is_opening}
+use Rattle.swc_grammar.specs.Tokens.{Opening, opens_name, opens_primary, opens_left, opens_operand, opens_yield, opens_yielded, opens_none, opening, opens_at_times, is_primary_opening, is_left_opening, is_operand_opening, is_yield_opening, is_opening}
+use Rattle.swc_grammar.specs.{Scope.Scope, Clean.is_identifier, Firsts.begins_expression}
 use Rattle.swc_grammar.proofs.Firsts.{or-right}
 
 pub begun-opens : (c : Scope) (t : Token) → begins_expression c t ≡ true → is_opening (opening t) ≡ true

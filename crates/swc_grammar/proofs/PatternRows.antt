@@ -1,25 +1,16 @@
 -- Patterns and parameters: worked rows.
 use Rattle.std.specs.Prelude.{◌≡◌, ℕ, ◌+◌, List, [], ◌∷◌, Some, None, codes}
 use Rattle.std.proofs.Common.{refl}
-use Rattle.swc_context.specs.declared.operator.BinaryOp.TheVariants as binary
-use Rattle.swc_context.specs.declared.span.Span.{Span}
-use Rattle.swc_context.specs.declared.word.Keyword.TheVariants as keyword
-use Rattle.swc_context.specs.declared.word.Word.TheVariants as word
+use Rattle.swc_context.specs.{declared.operator.BinaryOp.BinaryOp as binary, declared.span.Span.Span, declared.word.Keyword.Keyword as keyword, declared.word.Word.Word as word}
 use Rattle.swc_input.specs.declared.token.TokenAndSpan.{TokenAndSpan}
 use Rattle.swc_ast.specs.Patterns.{array_p, object_p, default_p, rest_p, name_p}
 use Rattle.swc_ast.specs.Tree.{Tree, node, Trees, nil, cons, dots}
 use Rattle.swc_ast.specs.Trees.{hole_e, listed, key_value_e, computed_e}
 use Rattle.swc_bodies.specs.Readings.{Hook, LawfulHook}
-use Rattle.swc_grammar.specs.Scope.{Scope}
-use Rattle.swc_grammar.specs.Symbols.{Pat, Params}
 use Rattle.swc_grammar.specs.Clean.{Out, sym, run}
-use Rattle.swc_grammar.specs.Reads.{Reads}
-use Rattle.swc_grammar.proofs.Complete.{complete}
-use Rattle.swc_grammar.proofs.Sound.{sound}
-use Rattle.swc_grammar.proofs.Texts.{no_in, script, module_code, place, name_at, word_at, num_at, close_at, brace_at}
-use Rattle.swc_grammar.proofs.Texts.{unbrace_at, bracket_at, unbracket_at, comma_at, colon_at, dots_at, dot_at}
-use Rattle.swc_grammar.proofs.Texts.{equals_at}
-use Rattle.swc_grammar.proofs.Texts.{ident, num, bin, key}
+use Rattle.swc_grammar.specs.{Scope.Scope, Symbols.Pat, Symbols.Params, Reads.Reads}
+use Rattle.swc_grammar.proofs.Texts.{no_in, script, module_code, place, name_at, word_at, num_at, close_at, brace_at, unbrace_at, bracket_at, unbracket_at, comma_at, colon_at, dots_at, dot_at, equals_at, ident, num, bin, key}
+use Rattle.swc_grammar.proofs.{Complete.complete, Sound.sound}
 
 abbrev one : {F C K : Type 0} → Tree F C K → Trees F C K
 one t = cons t nil

@@ -1,76 +1,27 @@
 -- What the clean parser reads, the grammar derives, over a lawful hook. A choice picks a production, and so does a
 -- link, so this is said once for all choices and once for all links; only the operators, which are read by precedence
 -- and not by level, have a proof of their own.
-use Rattle.std.specs.Prelude.{◌≡◌, ℕ, zero, suc, ◌≤◌, Bool, true, false, not, ◌&&◌, if◌then◌else◌, List, [], ◌∷◌, Option, Some}
-use Rattle.std.specs.Prelude.{None, IsTrue, nat_eq, nat_le}
+use Rattle.std.specs.Prelude.{◌≡◌, ℕ, zero, suc, ◌≤◌, Bool, true, false, not, ◌&&◌, if◌then◌else◌, List, [], ◌∷◌, Option, Some, None, IsTrue, nat_eq, nat_le, nat_lt}
 use Rattle.std.proofs.Common.{refl, sym as sym_path, subst, ap, ◌∙◌, arith}
-use Rattle.std.proofs.lemmas.Bool.{leb-true, leb-false, lt-ltb, eq-eqb}
-use Rattle.swc_context.specs.Operators.{precedence_of, operator_of}
-use Rattle.swc_context.specs.declared.operator.BinOpToken.{BinOpToken}
-use Rattle.swc_context.specs.declared.operator.BinOpToken.TheVariants as sign
-use Rattle.swc_context.specs.declared.operator.BinaryOp.{BinaryOp}
-use Rattle.swc_context.specs.declared.operator.BinaryOp.TheVariants as binary
-use Rattle.swc_context.specs.declared.span.Span.{Span}
-use Rattle.swc_context.specs.declared.word.Keyword.TheVariants as keyword
-use Rattle.swc_context.specs.declared.word.Word.TheVariants as word
-use Rattle.swc_input.specs.declared.token.Token.{Token}
-use Rattle.swc_input.specs.declared.token.Token.TheVariants as token
-use Rattle.swc_input.specs.declared.token.TokenAndSpan.{TokenAndSpan}
-use Rattle.swc_input.specs.Kinds.{at_token}
-use Rattle.swc_context.specs.declared.operator.UnaryOp.{UnaryOp}
+use Rattle.std.proofs.lemmas.Bool.{leb-true, leb-false, lt-ltb, eq-eqb, ltb-true}
+use Rattle.swc_context.specs.{Operators.precedence_of, Operators.operator_of, declared.operator.BinOpToken.BinOpToken, declared.operator.BinOpToken.BinOpToken as sign, declared.operator.BinaryOp.BinaryOp, declared.operator.BinaryOp.BinaryOp as binary, declared.span.Span.Span, declared.word.Keyword.Keyword as keyword, declared.word.Word.Word as word, declared.operator.UnaryOp.UnaryOp, declared.context.Context.Context}
+use Rattle.swc_input.specs.{declared.token.Token.Token, declared.token.Token.Token as token, declared.token.TokenAndSpan.TokenAndSpan, Kinds.at_token, Kinds.is_hash}
 use Rattle.swc_ast.specs.Tree.{Tree, Trees, nil, cons, span_of}
-use Rattle.swc_ast.specs.Trees.{new_e, bare_new_e, is_chain, items_of, exprs_e, seq_of, is_operation, covers_ok}
-use Rattle.swc_ast.specs.Trees.{to, bin_e, nullish_ok, logical_ok, exp_ok, min_right, left_ok, paren_ok, listed}
+use Rattle.swc_ast.specs.Trees.{new_e, bare_new_e, is_chain, items_of, exprs_e, seq_of, is_operation, covers_ok, to, bin_e, nullish_ok, logical_ok, exp_ok, min_right, left_ok, paren_ok, listed, private_e}
 use Rattle.swc_bodies.specs.Readings.{whole_span, Hook, LawfulHook, is_async as is_async_word}
 use Rattle.swc_grammar.specs.Scope.{Scope, with_head, at_head, inner}
 use Rattle.swc_grammar.specs.Rule.{gives, never, take, check, peek, read, hear, sees, given, ◌>>=◌, peek_two, sees_two}
-use Rattle.swc_grammar.specs.Tokens.{with_in, binary_of, is_power, is_lparen, is_new, is_update, is_await, is_question}
-use Rattle.swc_grammar.specs.Tokens.{is_assign, is_comma}
-use Rattle.swc_grammar.specs.Parts.{operator_here}
-use Rattle.swc_grammar.specs.Symbols.{Symbol, Expr, Exprs, Assign, Level, Unary, Lhs, Left, Arguments, Args, ArgsTail, Primary}
-use Rattle.swc_grammar.specs.Symbols.{Literal, Template, Parts, Base, Heads, ArrowBody}
-use Rattle.swc_grammar.specs.Symbols.{Elements, ElementsTail}
-use Rattle.swc_grammar.specs.Symbols.{Item, Props, PropsTail, Prop, Key, AfterKey, Shell, Answer, Body, Value}
-use Rattle.swc_grammar.specs.Symbols.{reading_of, Side}
-use Rattle.swc_grammar.specs.Symbols.{Pat, Element, Rest, PatElements, PatElementsTail, PatProps, PatPropsTail}
-use Rattle.swc_grammar.specs.Symbols.{PatProp, Params, ParamsTail}
-use Rattle.swc_grammar.specs.Grammar.{exp-unary, exp-op, level-up, bin-op, lhs-left, left-base, new-bare, left-new}
-use Rattle.swc_grammar.specs.Grammar.{unary-left, update-postfix, update-prefix, unary-op, assign-level, cond-expr}
-use Rattle.swc_grammar.specs.Grammar.{assign-expr, exprs-one, exprs-more, seq-expr, assign-pattern, heads, async-call}
-use Rattle.swc_grammar.specs.Grammar.{element-pat, element-default, pat-rest, arrow-async-name, arrow-async-heads}
+use Rattle.swc_grammar.specs.Tokens.{with_in, binary_of, is_power, is_lparen, is_new, is_update, is_await, is_question, is_assign, is_comma, is_equals, is_in, binary_where}
+use Rattle.swc_grammar.specs.Parts.{operator_here, any_name, private_ok}
+use Rattle.swc_grammar.specs.Symbols.{Symbol, Expr, Exprs, Assign, Level, Unary, Lhs, Left, Arguments, Args, ArgsTail, Primary, Literal, Template, Parts, Base, Heads, ArrowBody, Elements, ElementsTail, Item, Props, PropsTail, Prop, Key, AfterKey, Shell, Answer, Body, Value, reading_of, Side, Pat, Element, Rest, PatElements, PatElementsTail, PatProps, PatPropsTail, PatProp, Params, ParamsTail}
+use Rattle.swc_grammar.specs.Grammar.{exp-unary, exp-op, level-up, bin-op, lhs-left, left-base, new-bare, left-new, unary-left, update-postfix, update-prefix, unary-op, assign-level, cond-expr, assign-expr, exprs-one, exprs-more, seq-expr, assign-pattern, heads, async-call, element-pat, element-default, pat-rest, arrow-async-name, arrow-async-heads, arrow-name, arrow-heads, base-primary, paren-expr, private-in}
 use Rattle.swc_grammar.specs.Reads.{Hears, Reads, by, Follows, gave, took, held, calm, part, heard, calm-two}
-use Rattle.swc_grammar.specs.Clean.{first, Call, sym, links, climb, Ans, Plan, plan, Runs, rank_of, rank, allowed, exec}
-use Rattle.swc_grammar.specs.Clean.{constructs, Link, no_more, more, linked, link, base, constructed, constructed_with}
-use Rattle.swc_grammar.specs.Tokens.{is_equals}
-use Rattle.swc_grammar.specs.Clean.{defaults, default_tail, pat, pat_elements, pat_tail, pat_props, asyncs, async_head}
-use Rattle.swc_grammar.specs.Clean.{pat_props_tail, pat_prop, params, params_tail, async_heads_tail, async_arrow_tail}
-use Rattle.swc_grammar.specs.Clean.{begins_new, lhs, call_args, args, args_tail, tpl, parts, behind_base, parens}
-use Rattle.swc_grammar.specs.Clean.{updates, assigns, seqs, second, begins_yield, no_update_at, no_error, prefix_at}
-use Rattle.swc_grammar.specs.Clean.{update_tail, cond_tail, assign_tail, exprs_next, exprs_tail, yield_by, await_by, unary_by}
-use Rattle.swc_grammar.specs.Clean.{operator_at, Bound, Choice, none, pick, chosen, expr, assign, unary, heads_tail}
-use Rattle.swc_grammar.specs.Clean.{primary, literal, elements, elements_tail, item, props, props_tail, prop, key}
-use Rattle.swc_grammar.specs.Clean.{after_key, shell, begins_async_name, begins_async_list, arrow_tail, paren_tail}
-use Rattle.swc_grammar.specs.Clean.{turn, turned, step, run_at, measure, run, listed_head, begins_arrow, arrow_block}
-use Rattle.swc_grammar.proofs.Answers.{then-ok, only, unless, hear-ok, choose, inj, both}
-use Rattle.swc_grammar.proofs.Binds.{bind, apart-read}
-use Rattle.swc_grammar.proofs.Bodies.{before-is, hears}
-use Rattle.swc_grammar.proofs.Firsts.{given-held, async-token}
-use Rattle.swc_grammar.proofs.Levels.{lift, min-right-same, below-exp, right-low, bound-none, bound-some, bound-above}
-use Rattle.swc_grammar.specs.Grammar.{arrow-name, arrow-heads, base-primary, paren-expr}
+use Rattle.swc_grammar.specs.Clean.{first, Call, sym, links, climb, Ans, Plan, plan, Runs, rank_of, rank, allowed, exec, constructs, Link, no_more, more, linked, link, base, constructed, constructed_with, defaults, default_tail, pat, pat_elements, pat_tail, pat_props, asyncs, async_head, pat_props_tail, pat_prop, params, params_tail, async_heads_tail, async_arrow_tail, begins_new, lhs, call_args, args, args_tail, tpl, parts, behind_base, parens, updates, assigns, seqs, second, begins_yield, no_update_at, no_error, prefix_at, update_tail, cond_tail, assign_tail, exprs_next, exprs_tail, yield_by, await_by, unary_by, operator_at, Bound, Choice, none, pick, chosen, expr, assign, unary, heads_tail, primary, literal, elements, elements_tail, item, props, props_tail, prop, key, after_key, shell, begins_async_name, begins_async_list, arrow_tail, paren_tail, turn, turned, step, run_at, measure, run, listed_head, begins_arrow, arrow_block, assigned, pattern_tail, writes_tail, pick_apart, begins_private, private_operand}
 use Rattle.swc_grammar.specs.Cover.{is_pattern, as_params, heads_ok}
-use Rattle.swc_grammar.specs.Arrows.{is_arrow, async_name}
-use Rattle.swc_grammar.specs.Names.{Spelling}
-use Rattle.swc_grammar.specs.Clean.{assigned, pattern_tail, writes_tail, pick_apart, begins_private, private_operand}
-use Rattle.swc_grammar.specs.Grammar.{private-in}
-use Rattle.swc_grammar.specs.Parts.{any_name, private_ok}
-use Rattle.swc_grammar.specs.Tokens.{is_in, binary_where}
-use Rattle.swc_context.specs.declared.context.Context.{Context}
-use Rattle.swc_ast.specs.Trees.{private_e}
-use Rattle.std.specs.Prelude.{nat_lt}
-use Rattle.std.proofs.lemmas.Bool.{ltb-true}
-use Rattle.swc_input.specs.Kinds.{is_hash}
-use Rattle.swc_grammar.proofs.Induct.{follows-given}
-use Rattle.swc_grammar.proofs.Only.{lparen-is}
+use Rattle.swc_grammar.specs.{Arrows.is_arrow, Arrows.async_name, Names.Spelling}
+use Rattle.swc_grammar.proofs.Answers.{then-ok, only, unless, hear-ok, choose, inj, both}
+use Rattle.swc_grammar.proofs.Levels.{lift, min-right-same, below-exp, right-low, bound-none, bound-some, bound-above}
+use Rattle.swc_grammar.proofs.{Binds.bind, Binds.apart-read, Bodies.before-is, Bodies.hears, Firsts.given-held, Firsts.async-token, Induct.follows-given, Only.lparen-is}
 
 -- What is on the left of the operators above the precedence m: an operand by itself; a node, after which no
 -- operator is read that its own level has to take, and no `**`; or `#` and a name before an `in` that takes them.

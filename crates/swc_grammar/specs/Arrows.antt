@@ -1,21 +1,11 @@
 -- Arrow functions (15.3): their tokens and contexts.
 use Rattle.std.specs.Prelude.{Bool, true, false, not, ◌&&◌, ◌||◌, Option, codes}
-use Rattle.swc_context.specs.Reserved.{is_reserved, strict_binding_words}
-use Rattle.swc_context.specs.Texts.{is_text, is_one_of}
-use Rattle.swc_context.specs.Words.{word_text}
-use Rattle.swc_context.specs.declared.context.Context.{Context}
-use Rattle.swc_context.specs.declared.span.Span.{Span}
-use Rattle.swc_context.specs.declared.word.Keyword.TheVariants as keyword
-use Rattle.swc_context.specs.declared.word.Word.{Word}
-use Rattle.swc_context.specs.declared.word.Word.TheVariants as word
-use Rattle.swc_input.specs.declared.token.Token.{Token}
-use Rattle.swc_input.specs.declared.token.Token.TheVariants as token
+use Rattle.swc_context.specs.{Reserved.is_reserved, Reserved.strict_binding_words, Texts.is_text, Texts.is_one_of, Words.word_text, declared.context.Context.Context, declared.span.Span.Span, declared.word.Keyword.Keyword as keyword, declared.word.Word.Word, declared.word.Word.Word as word}
+use Rattle.swc_input.specs.{declared.token.Token.Token, declared.token.Token.Token as token, declared.token.TokenAndSpan.TokenAndSpan}
 use Rattle.swc_ast.specs.Tree.{Tree, node, block}
-use Rattle.swc_grammar.specs.Scope.{Scope}
 use Rattle.swc_grammar.specs.Names.{Spelling, may_refer, may_bind, spelled}
-use Rattle.swc_input.specs.declared.token.TokenAndSpan.{TokenAndSpan}
+use Rattle.swc_grammar.specs.{Scope.Scope, Tokens.is_put_off, Tokens.is_lparen}
 use Rattle.swc_bodies.specs.Readings.{is_function}
-use Rattle.swc_grammar.specs.Tokens.{is_put_off, is_lparen}
 
 -- `=>`
 abbrev pub is_arrow : Token → Bool

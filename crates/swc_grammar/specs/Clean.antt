@@ -2,69 +2,22 @@
 -- nothing where the code refuses or records a fault. By what comes first it picks one of the grammar's productions,
 -- whose right-hand side is then run as it is, so what is read is derived by construction. It is a private measure
 -- of the code: what is promised to callers speaks of the grammar.
-use Rattle.std.specs.Prelude.{ℕ, zero, suc, ◌+◌, ◌-◌, ◌*◌, ◌≤◌, Bool, true, false, not, ◌&&◌, ◌||◌, if◌then◌else◌}
-use Rattle.std.specs.Prelude.{List, [], ◌∷◌, Option, Some, None, ◌≡◌, length, take as front, nat_le, nat_lt}
-use Rattle.swc_context.specs.Contexts.{arrow_body}
-use Rattle.swc_context.specs.Operators.{precedence_of}
-use Rattle.swc_context.specs.declared.context.Context.{Context}
-use Rattle.swc_context.specs.declared.operator.AssignOp.TheVariants as write
-use Rattle.swc_context.specs.declared.operator.BinaryOp.{BinaryOp}
-use Rattle.swc_context.specs.declared.operator.UnaryOp.{UnaryOp}
-use Rattle.swc_context.specs.declared.span.Span.{Span}
-use Rattle.swc_context.specs.declared.word.Word.TheVariants as written
-use Rattle.swc_input.specs.declared.token.Token.{Token}
-use Rattle.swc_input.specs.declared.token.Token.TheVariants as token
-use Rattle.swc_input.specs.declared.token.TokenAndSpan.{TokenAndSpan}
-use Rattle.swc_input.specs.Kinds.{at_token, is_hash}
-use Rattle.swc_ast.specs.Targets.{is_target as is_simple_target}
-use Rattle.swc_ast.specs.Patterns.{default_p}
+use Rattle.std.specs.Prelude.{ℕ, zero, suc, ◌+◌, ◌-◌, ◌*◌, ◌≤◌, Bool, true, false, not, ◌&&◌, ◌||◌, if◌then◌else◌, List, [], ◌∷◌, Option, Some, None, ◌≡◌, length, take as front, nat_le, nat_lt}
+use Rattle.swc_context.specs.{Contexts.arrow_body, Operators.precedence_of, declared.context.Context.Context, declared.operator.AssignOp.AssignOp as write, declared.operator.BinaryOp.BinaryOp, declared.operator.UnaryOp.UnaryOp, declared.span.Span.Span, declared.word.Word.Word as written}
+use Rattle.swc_input.specs.{declared.token.Token.Token, declared.token.Token.Token as token, declared.token.TokenAndSpan.TokenAndSpan, Kinds.at_token, Kinds.is_hash}
 use Rattle.swc_ast.specs.Tree.{Tree, Trees, nil, cons, span_of}
-use Rattle.swc_ast.specs.Trees.{to, bin_e, new_e, bare_new_e, is_chain, items_of, nullish_ok, left_ok, exp_ok}
-use Rattle.swc_ast.specs.Trees.{min_right, trees_append, update_e, cond_e, assign_e, exprs_e, seq_of, is_operation}
-use Rattle.swc_ast.specs.Trees.{paren_e, paren_ok, held_exprs, listed, ident_e, call_e, covers_ok, arrow_e, private_e}
+use Rattle.swc_ast.specs.Trees.{to, bin_e, new_e, bare_new_e, is_chain, items_of, nullish_ok, left_ok, exp_ok, min_right, trees_append, update_e, cond_e, assign_e, exprs_e, seq_of, is_operation, paren_e, paren_ok, held_exprs, listed, ident_e, call_e, covers_ok, arrow_e, private_e}
+use Rattle.swc_ast.specs.{Targets.is_target as is_simple_target, Patterns.default_p}
 use Rattle.swc_bodies.specs.Readings.{whole_span, Hook, begins, begins_function, is_class, is_brace, is_async}
 use Rattle.swc_grammar.specs.Scope.{Scope, in_context, with_head, at_head, inner}
-use Rattle.swc_grammar.specs.Rule.{Rule, gives, never, take, check, peek, peek_two, read, hear, sees, sees_two}
-use Rattle.swc_grammar.specs.Rule.{◌>>=◌, ◌>>◌, symbol, must, given, token as a_token, one, one_on_line}
-use Rattle.swc_grammar.specs.Rule.{token_on_line, ahead}
-use Rattle.swc_grammar.specs.Symbols.{Symbol, Expr, Exprs, Assign, Level, Unary, Lhs, Left, Arguments, Args, ArgsTail, Primary}
-use Rattle.swc_grammar.specs.Symbols.{Literal, Template, Parts, Base}
-use Rattle.swc_grammar.specs.Symbols.{Elements, ElementsTail}
-use Rattle.swc_grammar.specs.Symbols.{Item, Props, PropsTail, Prop, Key, AfterKey, Shell, Answer, Body, Value}
-use Rattle.swc_grammar.specs.Symbols.{Pat, Element, Rest, PatElements, PatElementsTail, PatProps, PatPropsTail, PatProp}
-use Rattle.swc_grammar.specs.Symbols.{Params, ParamsTail, Heads, ArrowBody}
-use Rattle.swc_grammar.specs.Symbols.{reading_of, Side}
-use Rattle.swc_grammar.specs.Arrows.{is_arrow, is_arrow_word, is_block, is_sign}
-use Rattle.swc_grammar.specs.Arrows.{async_name, is_bindable, before_of}
-use Rattle.swc_grammar.specs.Grammar.{heads, arrow-name, body-block, body-expr, arrow-async-name, async-ident}
-use Rattle.swc_grammar.specs.Grammar.{async-call}
+use Rattle.swc_grammar.specs.Rule.{Rule, gives, never, take, check, peek, peek_two, read, hear, sees, sees_two, ◌>>=◌, ◌>>◌, symbol, must, given, token as a_token, one, one_on_line, token_on_line, ahead}
+use Rattle.swc_grammar.specs.Symbols.{Symbol, Expr, Exprs, Assign, Level, Unary, Lhs, Left, Arguments, Args, ArgsTail, Primary, Literal, Template, Parts, Base, Elements, ElementsTail, Item, Props, PropsTail, Prop, Key, AfterKey, Shell, Answer, Body, Value, Pat, Element, Rest, PatElements, PatElementsTail, PatProps, PatPropsTail, PatProp, Params, ParamsTail, Heads, ArrowBody, reading_of, Side}
+use Rattle.swc_grammar.specs.Arrows.{is_arrow, is_arrow_word, is_block, is_sign, async_name, is_bindable, before_of}
+use Rattle.swc_grammar.specs.Grammar.{heads, arrow-name, body-block, body-expr, arrow-async-name, async-ident, async-call, Production, ident-expr, lit, paren-expr, unary-op, private-expr, update-prefix, await-expr, await-ident, yield-alone, yield-expr, yield-star, member-name, member-private, member-computed, call, args-end, args-more, args-tail-end, args-tail-more, new-target, chain-name, chain-private, chain-computed, chain-call, tagged-tpl, arguments, primary-template, template, parts-end, parts-more, regex-alone, regex-slash, base-primary, super-name, super-computed, super-call, import-meta, import-call, import-source, primary-literal, this-expr, array-lit, fn-expr, class-expr, elements-end, elements-hole, elements-more, tail-end, tail-more, item-expr, item-spread, object-lit, props-end, props-more, props-tail-end, props-tail-more, prop-spread, prop-short, prop-cover, prop-key, prop-generator, prop-async, prop-async-generator, prop-getter, prop-setter, after-value, after-shell, shell-block, key-name, key-literal, key-computed, pat-bind, pat-array, pat-object, pat-rest, pat-elements-end, pat-elements-hole, pat-elements-more, pat-elements-rest, pat-tail-end, pat-tail-more, pat-props-end, pat-props-more, pat-props-rest, pat-props-tail-end, pat-props-tail-more, pat-prop-key, pat-prop-short, pat-prop-default, params-end, params-more, params-rest, params-tail-end, params-tail-more}
 use Rattle.swc_grammar.specs.Names.{Spelling}
 use Rattle.swc_grammar.specs.Cover.{as_literal, is_pattern, as_params, heads_ok}
-use Rattle.swc_grammar.specs.Grammar.{Production, ident-expr, lit, paren-expr, unary-op, private-expr}
-use Rattle.swc_grammar.specs.Grammar.{update-prefix, await-expr, await-ident, yield-alone, yield-expr, yield-star}
-use Rattle.swc_grammar.specs.Grammar.{member-name, member-private, member-computed, call, args-end, args-more}
-use Rattle.swc_grammar.specs.Grammar.{args-tail-end, args-tail-more, new-target, chain-name, chain-private}
-use Rattle.swc_grammar.specs.Grammar.{chain-computed, chain-call, tagged-tpl, arguments, primary-template, template, parts-end}
-use Rattle.swc_grammar.specs.Grammar.{parts-more, regex-alone, regex-slash, base-primary, super-name, super-computed}
-use Rattle.swc_grammar.specs.Grammar.{super-call, import-meta, import-call, import-source}
-use Rattle.swc_grammar.specs.Grammar.{primary-literal, this-expr, array-lit, fn-expr, class-expr}
-use Rattle.swc_grammar.specs.Grammar.{elements-end, elements-hole, elements-more, tail-end, tail-more, item-expr}
-use Rattle.swc_grammar.specs.Grammar.{item-spread, object-lit, props-end, props-more, props-tail-end, props-tail-more}
-use Rattle.swc_grammar.specs.Grammar.{prop-spread, prop-short, prop-cover, prop-key, prop-generator, prop-async}
-use Rattle.swc_grammar.specs.Grammar.{prop-async-generator, prop-getter, prop-setter, after-value, after-shell}
-use Rattle.swc_grammar.specs.Grammar.{shell-block, key-name, key-literal, key-computed}
-use Rattle.swc_grammar.specs.Grammar.{pat-bind, pat-array, pat-object, pat-rest, pat-elements-end, pat-elements-hole}
-use Rattle.swc_grammar.specs.Grammar.{pat-elements-more, pat-elements-rest, pat-tail-end, pat-tail-more}
-use Rattle.swc_grammar.specs.Grammar.{pat-props-end, pat-props-more, pat-props-rest, pat-props-tail-end}
-use Rattle.swc_grammar.specs.Grammar.{pat-props-tail-more, pat-prop-key, pat-prop-short, pat-prop-default, params-end}
-use Rattle.swc_grammar.specs.Grammar.{params-more, params-rest, params-tail-end, params-tail-more}
-use Rattle.swc_grammar.specs.Tokens.{is_ref, at_word, binary_where, prefix_of, is_lparen, is_this, is_lbracket}
-use Rattle.swc_grammar.specs.Tokens.{is_rbracket, is_comma, is_reference}
-use Rattle.swc_grammar.specs.Tokens.{is_dots, is_rbrace, is_colon, is_star, is_equals, is_word, is_get, is_set, with_in}
-use Rattle.swc_grammar.specs.Tokens.{is_super, is_import, is_source, is_update, is_assign, is_await, is_yield}
-use Rattle.swc_grammar.specs.Tokens.{ends_await, yield_ok, goes_on_yield, is_in}
+use Rattle.swc_grammar.specs.Tokens.{is_ref, at_word, binary_where, prefix_of, is_lparen, is_this, is_lbracket, is_rbracket, is_comma, is_reference, is_dots, is_rbrace, is_colon, is_star, is_equals, is_word, is_get, is_set, with_in, is_super, is_import, is_source, is_update, is_assign, is_await, is_yield, ends_await, yield_ok, goes_on_yield, is_in, is_question, is_dot, is_rparen, is_new, is_backquote, is_slash, is_regex, ends_prop, follows_key}
 use Rattle.swc_grammar.specs.Parts.{update_here, assign_here, any_name, private_ok}
-use Rattle.swc_grammar.specs.Tokens.{is_question, is_dot, is_rparen, is_new, is_backquote, is_slash, is_regex, ends_prop, follows_key}
 
 -- what was read, and the tokens left
 abbrev pub Out : Type 0 → Type 0

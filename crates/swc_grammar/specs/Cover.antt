@@ -1,17 +1,10 @@
 -- Finished trees of expressions as patterns: as what is written to (DestructuringAssignmentTarget, 13.15.5), or as what
 -- is bound (13.2.9, 15.3). The places of the nodes stay; a rest in an array or in a list has that of its argument.
 use Rattle.std.specs.Prelude.{ℕ, Bool, true, false, not, ◌&&◌, if◌then◌else◌, List, Option, Some, None}
-use Rattle.swc_context.specs.Reserved.{strict_binding_words}
-use Rattle.swc_context.specs.Texts.{is_one_of}
-use Rattle.swc_context.specs.declared.context.Context.{Context}
-use Rattle.swc_context.specs.declared.operator.AssignOp.{AssignOp}
-use Rattle.swc_context.specs.declared.operator.AssignOp.TheVariants as write
-use Rattle.swc_context.specs.declared.span.Span.{Span}
+use Rattle.swc_context.specs.{Reserved.strict_binding_words, Texts.is_one_of, declared.context.Context.Context, declared.operator.AssignOp.AssignOp, declared.operator.AssignOp.AssignOp as write, declared.span.Span.Span}
 use Rattle.swc_ast.specs.Targets.{is_target as is_simple_target}
 use Rattle.swc_ast.specs.Patterns.{array_p, object_p, default_p, rest_p, name_p, put_element}
-use Rattle.swc_ast.specs.Tree.{Tree, node, Trees, nil, cons, span_of}
-use Rattle.swc_ast.specs.Tree.{ident, array_with, object_with, assign, member, super_prop, paren, hole, item, spread}
-use Rattle.swc_ast.specs.Tree.{shorthand, cover, key_value, pat_expr}
+use Rattle.swc_ast.specs.Tree.{Tree, node, Trees, nil, cons, span_of, ident, array_with, object_with, assign, member, super_prop, paren, hole, item, spread, shorthand, cover, key_value, pat_expr}
 use Rattle.swc_ast.specs.Trees.{is_ident, comma_of, items_of, key_value_e, hole_e}
 use Rattle.swc_grammar.specs.Patterns.{binds_names, all_bind_names, any}
 
@@ -52,7 +45,7 @@ abbrev pub is_assign : {F C K : Type 0} → Tree F C K → Bool
 is_assign (node (assign op) s ts) = true
 is_assign t = false
 
--- what may are after the dots of an object
+-- what may come after the dots of an object
 abbrev pub is_rest_of : {F C K : Type 0} → Role → Tree F C K → Bool
 is_rest_of (target strict) e = not (is_assign e)
 is_rest_of binding e = is_ident e
@@ -114,7 +107,7 @@ as_literal strict t = if is_pattern t then as_pat (target strict) t else None
 abbrev pub as_params : {F C K : Type 0} → Tree F C K → Option (Trees F C K)
 as_params es = as_elements binding (comma_of es) (items_of es)
 
--- The early error of arrow heads (15.3.1), as far as it is looked at: in a strict module they bind neither `eval` nor
+-- The early error of arrow parameters (15.3.1), as far as it is looked at: in a strict module they bind neither `eval` nor
 -- `arguments`.
 abbrev pub heads_ok : {F C K : Type 0} → Context → Trees F C K → Bool
 heads_ok c ps = all_bind_names (λ name. not ((c.module && c.strict) && is_one_of name strict_binding_words)) ps

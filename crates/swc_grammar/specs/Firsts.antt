@@ -1,20 +1,11 @@
 -- What a reading begins with, symbol by symbol.
 use Rattle.std.specs.Prelude.{Bool, true, false, ◌||◌, ◌&&◌}
 use Rattle.swc_context.specs.Contexts.{arrow_body}
-use Rattle.swc_input.specs.declared.token.Token.{Token}
-use Rattle.swc_input.specs.declared.token.Token.TheVariants as token
+use Rattle.swc_input.specs.declared.token.Token.{Token, Token as token}
 use Rattle.swc_bodies.specs.Readings.{is_async, is_brace}
-use Rattle.swc_grammar.specs.Scope.{Scope, in_context}
-use Rattle.swc_grammar.specs.Clean.{is_lit, is_identifier}
-use Rattle.swc_grammar.specs.Symbols.{Symbol, Level, Unary, Lhs, Left, Base, Arguments, Template, Parts}
-use Rattle.swc_grammar.specs.Symbols.{Args, ArgsTail, Primary, Literal, Elements, ElementsTail, Item}
-use Rattle.swc_grammar.specs.Symbols.{Pat, Element, Rest, PatElements, PatElementsTail, PatProps, PatPropsTail, PatProp}
-use Rattle.swc_grammar.specs.Symbols.{Params, ParamsTail, Heads, ArrowBody}
-use Rattle.swc_grammar.specs.Names.{may_bind}
-use Rattle.swc_grammar.specs.Symbols.{Props, PropsTail, Prop, Key, AfterKey, Shell}
-use Rattle.swc_grammar.specs.Tokens.{is_comma, is_rbracket, is_rbrace, is_dots, is_star, is_lparen, is_lbracket}
-use Rattle.swc_grammar.specs.Tokens.{is_backquote, is_rparen, ends_prop, follows_key}
-use Rattle.swc_grammar.specs.Tokens.{opening, is_primary_opening, is_left_opening, is_operand_opening, is_yield_opening}
+use Rattle.swc_grammar.specs.Symbols.{Symbol, Level, Unary, Lhs, Left, Base, Arguments, Template, Parts, Args, ArgsTail, Primary, Literal, Elements, ElementsTail, Item, Pat, Element, Rest, PatElements, PatElementsTail, PatProps, PatPropsTail, PatProp, Params, ParamsTail, Heads, ArrowBody, Props, PropsTail, Prop, Key, AfterKey, Shell}
+use Rattle.swc_grammar.specs.Tokens.{is_comma, is_rbracket, is_rbrace, is_dots, is_star, is_lparen, is_lbracket, is_backquote, is_rparen, ends_prop, follows_key, opening, is_primary_opening, is_left_opening, is_operand_opening, is_yield_opening}
+use Rattle.swc_grammar.specs.{Scope.Scope, Scope.in_context, Clean.is_lit, Clean.is_identifier, Names.may_bind}
 
 -- a primary expression: with an identifier reference, or with one of these tokens
 abbrev pub is_first : Token → Bool

@@ -1,22 +1,13 @@
 -- Heads of `for` (14.7.4, 14.7.5) that begin with no declaration: what is in them before `of`, before `in`, or before
 -- the first `;`. Nothing of the grammar is made of heads, so they have no symbol.
 use Rattle.std.specs.Prelude.{◌≡◌, Bool, true, false, ◌||◌, List, [], ◌∷◌, Some, IsTrue}
-use Rattle.swc_context.specs.declared.context.Context.{Context}
-use Rattle.swc_context.specs.declared.word.Keyword.TheVariants as keyword
-use Rattle.swc_context.specs.declared.word.Word.TheVariants as word
-use Rattle.swc_input.specs.declared.token.Token.{Token}
-use Rattle.swc_input.specs.declared.token.Token.TheVariants as token
-use Rattle.swc_input.specs.declared.token.TokenAndSpan.{TokenAndSpan}
-use Rattle.swc_ast.specs.Tree.{Tree}
+use Rattle.swc_context.specs.{declared.context.Context.Context, declared.word.Keyword.Keyword as keyword, declared.word.Word.Word as word}
+use Rattle.swc_input.specs.{declared.token.Token.Token, declared.token.Token.Token as token, declared.token.TokenAndSpan.TokenAndSpan}
+use Rattle.swc_ast.specs.{Tree.Tree, Trees.unmarked}
 use Rattle.swc_bodies.specs.Readings.{Hook}
 use Rattle.swc_grammar.specs.Scope.{Scope, in_context, inner}
-use Rattle.swc_grammar.specs.Rule.{sees}
-use Rattle.swc_grammar.specs.Symbols.{Expr, Assign}
-use Rattle.swc_grammar.specs.Reads.{Reads}
-use Rattle.swc_grammar.specs.Arrows.{is_of}
 use Rattle.swc_grammar.specs.Cover.{target, as_pat, is_assign}
-use Rattle.swc_grammar.specs.Tokens.{is_rparen}
-use Rattle.swc_ast.specs.Trees.{unmarked}
+use Rattle.swc_grammar.specs.{Rule.sees, Symbols.Expr, Symbols.Assign, Reads.Reads, Arrows.is_of, Tokens.is_rparen}
 
 -- In the head of a `for await`, or of another `for`, `in` is no operator.
 abbrev pub for_context : Bool → Context → Context

@@ -3,45 +3,20 @@
 -- Reads.
 use Rattle.std.specs.Prelude.{ℕ, suc, Bool, true, false, not, ◌||◌, ◌&&◌, None, IsTrue, codes, nat_eq, nat_lt}
 use Rattle.swc_context.specs.Contexts.{arrow_body, method_block, method_params}
-use Rattle.swc_context.specs.Operators.{precedence_of}
-use Rattle.swc_context.specs.Reserved.{is_reserved_word}
-use Rattle.swc_context.specs.declared.operator.AssignOp.TheVariants as write
-use Rattle.swc_context.specs.declared.operator.BinaryOp.TheVariants as binary
+use Rattle.swc_context.specs.{Operators.precedence_of, Reserved.is_reserved_word, declared.operator.AssignOp.AssignOp as write, declared.operator.BinaryOp.BinaryOp as binary}
 use Rattle.swc_input.specs.Kinds.{is_hash}
-use Rattle.swc_ast.specs.Targets.{is_target as is_simple_target}
 use Rattle.swc_ast.specs.Patterns.{array_p, object_p, default_p, rest_p, name_p, put_element, holds_ident}
 use Rattle.swc_ast.specs.Tree.{node, nil, cons, span_of, dots}
-use Rattle.swc_ast.specs.Trees.{key_value_e, params_e, setter_e, getter_ok, setter_ok}
-use Rattle.swc_ast.specs.Trees.{to, ident_e, this_e, array_e, listed, items_of, comma_of, put_first, behind_comma}
-use Rattle.swc_ast.specs.Trees.{hole_e, item_e, spread_e, fn_e}
-use Rattle.swc_ast.specs.Trees.{class_e, private_e, unary_e, paren_e, bin_e, object_e, name_e, computed_e}
-use Rattle.swc_ast.specs.Trees.{spread_prop_e, short_e, cover_e, value_e, block_e, function_e, method_e, getter_e}
-use Rattle.swc_ast.specs.Trees.{at_place, parts_e, put_part, tpl_e, tagged_e, new_e, bare_new_e, meta_e, link_e, is_chain}
-use Rattle.swc_ast.specs.Trees.{super_e, import_e, super_prop_e, comma_ok, covers_ok, arrow_e}
-use Rattle.swc_ast.specs.Trees.{prop_of, member_e, call_e, nullish_ok, logical_ok, delete_ok, is_unary, paren_ok}
-use Rattle.swc_ast.specs.Trees.{trees_append, held_exprs, update_e, await_e, yield_e, cond_e, assign_e, exprs_e, seq_of}
-use Rattle.swc_ast.specs.declared.expr.ImportPhase.TheVariants as phase
-use Rattle.swc_ast.specs.declared.expr.MetaPropKind.TheVariants as kind
+use Rattle.swc_ast.specs.Trees.{key_value_e, params_e, setter_e, getter_ok, setter_ok, to, ident_e, this_e, array_e, listed, items_of, comma_of, put_first, behind_comma, hole_e, item_e, spread_e, fn_e, class_e, private_e, unary_e, paren_e, bin_e, object_e, name_e, computed_e, spread_prop_e, short_e, cover_e, value_e, block_e, function_e, method_e, getter_e, at_place, parts_e, put_part, tpl_e, tagged_e, new_e, bare_new_e, meta_e, link_e, is_chain, super_e, import_e, super_prop_e, comma_ok, covers_ok, arrow_e, prop_of, member_e, call_e, nullish_ok, logical_ok, delete_ok, is_unary, paren_ok, trees_append, held_exprs, update_e, await_e, yield_e, cond_e, assign_e, exprs_e, seq_of}
+use Rattle.swc_ast.specs.{Targets.is_target as is_simple_target, declared.expr.ImportPhase.ImportPhase as phase, declared.expr.MetaPropKind.MetaPropKind as kind}
 use Rattle.swc_bodies.specs.Readings.{is_async, is_brace}
 use Rattle.swc_grammar.specs.Scope.{Scope, in_context, at_head, inner}
-use Rattle.swc_grammar.specs.Rule.{gives, ◌>>=◌, ◌>>◌, symbol, token, one, token_on_line, one_on_line, given}
-use Rattle.swc_grammar.specs.Rule.{must, ahead, ahead_two, body}
-use Rattle.swc_grammar.specs.Symbols.{Symbol, Expr, Exprs, Assign, Level, Unary, Lhs, Left, Arguments, Args, ArgsTail, Primary}
-use Rattle.swc_grammar.specs.Symbols.{Literal, Template, Parts, Base}
-use Rattle.swc_grammar.specs.Symbols.{Elements, ElementsTail}
-use Rattle.swc_grammar.specs.Symbols.{Item, Props, PropsTail, Prop, Key, AfterKey, Shell, Side, function, class, block}
-use Rattle.swc_grammar.specs.Symbols.{Pat, Element, Rest, PatElements, PatElementsTail, PatProps, PatPropsTail, PatProp}
-use Rattle.swc_grammar.specs.Symbols.{Params, ParamsTail, Heads, ArrowBody}
-use Rattle.swc_grammar.specs.Arrows.{is_arrow, arrow_name, is_block, is_sign}
-use Rattle.swc_grammar.specs.Arrows.{async_name, async_param, goes_on_async, of_arrow}
+use Rattle.swc_grammar.specs.Rule.{gives, ◌>>=◌, ◌>>◌, symbol, token, one, token_on_line, one_on_line, given, must, ahead, ahead_two, body}
+use Rattle.swc_grammar.specs.Symbols.{Symbol, Expr, Exprs, Assign, Level, Unary, Lhs, Left, Arguments, Args, ArgsTail, Primary, Literal, Template, Parts, Base, Elements, ElementsTail, Item, Props, PropsTail, Prop, Key, AfterKey, Shell, Side, function, class, block, Pat, Element, Rest, PatElements, PatElementsTail, PatProps, PatPropsTail, PatProp, Params, ParamsTail, Heads, ArrowBody}
+use Rattle.swc_grammar.specs.Arrows.{is_arrow, arrow_name, is_block, is_sign, async_name, async_param, goes_on_async, of_arrow}
 use Rattle.swc_grammar.specs.Names.{is_joined}
-use Rattle.swc_grammar.specs.Tokens.{with_in, is_this, is_lparen, is_rparen, is_lbracket, is_rbracket, is_comma, is_dots}
-use Rattle.swc_grammar.specs.Tokens.{is_dot, is_question, is_backquote, is_dollar_brace, is_slash, is_new, is_target, new_target_ok}
-use Rattle.swc_grammar.specs.Tokens.{is_super, is_import, is_meta, is_source, super_ok, import_comma_ok, is_in}
-use Rattle.swc_grammar.specs.Tokens.{is_await, is_yield, await_ok, await_ident_ok, ends_await, yield_ok, goes_on_yield}
-use Rattle.swc_grammar.specs.Tokens.{is_power, is_rbrace, is_colon, is_star, is_equals, is_get, is_set}
-use Rattle.swc_grammar.specs.Parts.{reference, binding, any_name, lit_of, regex_of, text_of, key_lit_of, prefix_here}
-use Rattle.swc_grammar.specs.Parts.{update_here, assign_here, operator_here, import_args_ok, private_ok}
+use Rattle.swc_grammar.specs.Tokens.{with_in, is_this, is_lparen, is_rparen, is_lbracket, is_rbracket, is_comma, is_dots, is_dot, is_question, is_backquote, is_dollar_brace, is_slash, is_new, is_target, new_target_ok, is_super, is_import, is_meta, is_source, super_ok, import_comma_ok, is_in, is_await, is_yield, await_ok, await_ident_ok, ends_await, yield_ok, goes_on_yield, is_power, is_rbrace, is_colon, is_star, is_equals, is_get, is_set}
+use Rattle.swc_grammar.specs.Parts.{reference, binding, any_name, lit_of, regex_of, text_of, key_lit_of, prefix_here, update_here, assign_here, operator_here, import_args_ok, private_ok}
 use Rattle.swc_grammar.specs.Cover.{as_literal, as_params, heads_ok}
 
 pub data Production {F C K : Type 0} : (s : Symbol) → Scope → Side F C K s → Type 0 where

@@ -1,17 +1,8 @@
 -- What single tokens stand for in a production.
-use Rattle.std.specs.Prelude.{ℕ, Bool, true, false, not, ◌&&◌, ◌||◌, if◌then◌else◌, List, [], ◌∷◌, Option, Some, None}
-use Rattle.std.specs.Prelude.{Result, Ok, Err, nat_eq, codes}
+use Rattle.std.specs.Prelude.{ℕ, Bool, true, false, not, ◌&&◌, ◌||◌, if◌then◌else◌, List, [], ◌∷◌, Option, Some, None, Result, Ok, Err, nat_eq, codes}
 use Rattle.std.specs.List.{list_any}
-use Rattle.swc_context.specs.declared.error.Error.{Error}
-use Rattle.swc_context.specs.declared.operator.BinaryOp.{BinaryOp}
-use Rattle.swc_context.specs.declared.operator.AssignOp.{AssignOp}
-use Rattle.swc_context.specs.declared.operator.UnaryOp.{UnaryOp}
-use Rattle.swc_context.specs.declared.operator.UpdateOp.{UpdateOp}
-use Rattle.swc_context.specs.declared.span.Span.{Span}
-use Rattle.swc_context.specs.declared.word.Word.TheVariants as word
-use Rattle.swc_input.specs.declared.token.Token.{Token}
-use Rattle.swc_input.specs.declared.token.Token.TheVariants as tok
-use Rattle.swc_input.specs.Recording.{is_some}
+use Rattle.swc_context.specs.{declared.error.Error.Error, declared.operator.BinaryOp.BinaryOp, declared.operator.AssignOp.AssignOp, declared.operator.UnaryOp.UnaryOp, declared.operator.UpdateOp.UpdateOp, declared.span.Span.Span, declared.word.Word.Word as word}
+use Rattle.swc_input.specs.{declared.token.Token.Token, declared.token.Token.Token as tok, Recording.is_some}
 use Rattle.swc_ast.specs.Tree.{Tree}
 use Rattle.swc_ast.specs.Trees.{null_e, boolean_e, num_e, big_e, str_e, regex_e, text_e, few_ok}
 use Rattle.swc_grammar.specs.Scope.{Scope}

@@ -1,7 +1,6 @@
 -- What patterns bind.
 use Rattle.std.specs.Prelude.{ℕ, Bool, true, false, ◌&&◌, List}
-use Rattle.swc_ast.specs.Tree.{Tree, node, Trees, nil, cons}
-use Rattle.swc_ast.specs.Tree.{array_with, object_with, hole, ident, rest, default, binding_prop, key_value}
+use Rattle.swc_ast.specs.Tree.{Tree, node, Trees, nil, cons, array_with, object_with, hole, ident, rest, default, binding_prop, key_value}
 use Rattle.swc_ast.specs.Trees.{is_ident}
 
 -- Whether a pattern binds names alone, each of which passes a test: initialisers and keys apart it holds no expression

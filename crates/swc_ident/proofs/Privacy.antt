@@ -1,19 +1,10 @@
 -- What the calls on private names answer, from their steps.
 use Rattle.std.proofs.Common.{◌≡◌, ℕ, List, [], Option, Some, None, MatchOption, sym, ap, ◌∙◌}
-use Rattle.swc_context.specs.Spans.{between}
-use Rattle.swc_context.specs.declared.error.Error.{Error}
-use Rattle.swc_context.specs.declared.error.SyntaxError.TheVariants as kind
-use Rattle.swc_context.specs.declared.span.BytePos.{BytePos}
-use Rattle.swc_context.specs.declared.span.Span.{Span}
+use Rattle.swc_context.specs.{Spans.between, declared.error.Error.Error, declared.error.SyntaxError.SyntaxError as kind, declared.span.BytePos.BytePos, declared.span.Span.Span}
 use Rattle.swc_context.proofs.Spans.{same_position}
-use Rattle.swc_input.specs.declared.buffer.Buffer.{Buffer}
-use Rattle.swc_input.specs.declared.token.TokenAndSpan.{TokenAndSpan}
-use Rattle.swc_input.specs.Source.{Model, Laws}
 use Rattle.swc_input.specs.Buffer.{ReadSome, Looked, current, last_position}
-use Rattle.swc_input.specs.Laws.{Read-same}
+use Rattle.swc_input.specs.{declared.buffer.Buffer.Buffer, declared.token.TokenAndSpan.TokenAndSpan, Source.Model, Source.Laws, Laws.Read-same, Recording.Refused, Kinds.at_token, Kinds.is_hash}
 use Rattle.swc_input.specs.Recording as rec
-use Rattle.swc_input.specs.Recording.{Refused}
-use Rattle.swc_input.specs.Kinds.{at_token, is_hash}
 use Rattle.swc_ident.specs.Naming.{fault_at, Hashed, next_begins, Private, Unprivate, no_memory, no_memory_either, no_hash, apart, no_name, Neither}
 use Rattle.swc_ident.proofs.Reading.{reads_then, looked_reads, refused_reads, met, passed_reads, passed_later}
 use Rattle.swc_ident.proofs.Finding.{unnamed_reads}

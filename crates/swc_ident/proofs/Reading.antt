@@ -1,19 +1,12 @@
 -- What steps read, one after another: looks, words, and the faults that are noted.
 use Rattle.std.proofs.Common.{◌≡◌, Bool, true, false, List, [], ◌∷◌, ◌++◌, Option, Some, None, Result, Ok, Err, MatchOption, OnOk, IsOk, IfErr, refl, sym, ap, subst, ◌∙◌}
-use Rattle.swc_context.specs.declared.error.Error.{Error}
-use Rattle.swc_context.specs.declared.error.SyntaxError.{SyntaxError}
-use Rattle.swc_context.specs.declared.span.BytePos.{BytePos}
-use Rattle.swc_context.specs.declared.span.Span.{Span}
-use Rattle.swc_context.specs.declared.word.Word.{Word}
-use Rattle.swc_input.specs.declared.buffer.Buffer.{Buffer}
-use Rattle.swc_input.specs.declared.token.Token.{Token}
-use Rattle.swc_input.specs.declared.token.TokenAndSpan.{TokenAndSpan}
-use Rattle.swc_input.specs.Plain.{plain}
+use Rattle.swc_context.specs.{declared.error.Error.Error, declared.error.SyntaxError.SyntaxError, declared.span.BytePos.BytePos, declared.span.Span.Span, declared.word.Word.Word}
 use Rattle.swc_input.specs.Source.{Model, Laws, with_module_error}
 use Rattle.swc_input.specs.Buffer.{Read, ReadSome, Lives, Looked, current, last_position, source, with_source}
 use Rattle.swc_input.specs.Laws.{Looked-lives, Read-then, Read-late, Read-same, Recorded-read, Refused-read}
-use Rattle.swc_input.specs.Recording as rec
 use Rattle.swc_input.specs.Recording.{is_silent, error_token, refusal, Recorded, Refused, Seen}
+use Rattle.swc_input.specs.{declared.buffer.Buffer.Buffer, declared.token.Token.Token, declared.token.TokenAndSpan.TokenAndSpan, Plain.plain}
+use Rattle.swc_input.specs.Recording as rec
 use Rattle.swc_input.proofs.Ends.{past_end}
 use Rattle.swc_ident.specs.Naming.{fault_at, Notes, none-noted, now-silent, now-recorded, later-ignored, later-noted, Passed, Spoken}
 use Rattle.swc_ident.specs.Steps.{Forgone, Noting}

@@ -1,33 +1,12 @@
 -- What the calls on names do.
 use Rattle.std.specs.Prelude.{◌≡◌, ℕ, true, false, List, [], ◌∷◌, Option, Some, None, MatchOption, MatchResult, Result}
-use Rattle.either.specs.declared.Either.{Either}
-use Rattle.either.specs.Either.{MatchEither}
-use Rattle.swc_ast.specs.declared.ident.BindingIdent.{BindingIdent}
-use Rattle.swc_ast.specs.declared.ident.Ident.{Ident}
-use Rattle.swc_ast.specs.declared.ident.IdentName.{IdentName}
-use Rattle.swc_ast.specs.declared.ident.PrivateName.{PrivateName}
-use Rattle.swc_ast.specs.declared.ident.ModuleExportName.{ModuleExportName}
-use Rattle.swc_ast.specs.declared.ident.ModuleExportName.TheVariants as export
-use Rattle.swc_ast.specs.declared.lit.Str.{Str}
-use Rattle.swc_context.specs.Spans.{between, from_to}
-use Rattle.swc_context.specs.Words.{word_text}
-use Rattle.swc_context.specs.declared.context.Context.{Context}
-use Rattle.swc_context.specs.declared.error.Error.{Error}
-use Rattle.swc_context.specs.declared.error.SyntaxError.{SyntaxError}
+use Rattle.either.specs.{declared.Either.Either, Either.MatchEither}
+use Rattle.swc_ast.specs.{declared.ident.BindingIdent.BindingIdent, declared.ident.Ident.Ident, declared.ident.IdentName.IdentName, declared.ident.PrivateName.PrivateName, declared.ident.ModuleExportName.ModuleExportName, declared.ident.ModuleExportName.ModuleExportName as export, declared.lit.Str.Str}
+use Rattle.swc_context.specs.{Spans.between, Spans.from_to, Words.word_text, declared.context.Context.Context, declared.error.Error.Error, declared.error.SyntaxError.SyntaxError, declared.error.Wanted.Wanted, declared.error.Wanted.Wanted as wanted, declared.span.BytePos.BytePos, declared.span.Span.Span, declared.word.Word.Word}
 use Rattle.swc_context.specs.declared.error.SyntaxError.TheVariants as kind
-use Rattle.swc_context.specs.declared.error.Wanted.{Wanted}
-use Rattle.swc_context.specs.declared.error.Wanted.TheVariants as wanted
-use Rattle.swc_context.specs.declared.span.BytePos.{BytePos}
-use Rattle.swc_context.specs.declared.span.Span.{Span}
-use Rattle.swc_context.specs.declared.word.Word.{Word}
-use Rattle.swc_input.specs.declared.buffer.Buffer.{Buffer}
-use Rattle.swc_input.specs.declared.token.Token.{Token}
-use Rattle.swc_input.specs.declared.token.Token.TheVariants as token
-use Rattle.swc_input.specs.declared.token.TokenAndSpan.{TokenAndSpan}
-use Rattle.swc_input.specs.Kinds.{at_token, is_hash}
-use Rattle.swc_input.specs.Source.{Model, with_module_error}
 use Rattle.swc_input.specs.Buffer.{Read, Looked, Bumped, context, current, last_position, previous, source, with_source}
 use Rattle.swc_input.specs.Recording.{is_silent, is_fit, unfit, Recorded, Refused}
+use Rattle.swc_input.specs.{declared.buffer.Buffer.Buffer, declared.token.Token.Token, declared.token.Token.Token as token, declared.token.TokenAndSpan.TokenAndSpan, Kinds.at_token, Kinds.is_hash, Source.Model, Source.with_module_error}
 use Rattle.swc_ident.specs.Verdicts.{Fault, now, in_modules, Verdict, is_word, is_str, is_bindable, name_of_any, binding_verdict}
 
 -- how a call judges a word

@@ -1,18 +1,10 @@
 -- What the steps of the calls on names do.
 use Rattle.std.specs.Prelude.{◌≡◌, ℕ, true, List, [], ◌∷◌, Result, MatchResult}
-use Rattle.swc_context.specs.declared.context.Context.{Context}
-use Rattle.swc_context.specs.declared.error.Error.{Error}
+use Rattle.swc_context.specs.{declared.context.Context.Context, declared.error.Error.Error, declared.span.Span.Span, declared.word.Word.Word}
 use Rattle.swc_context.specs.declared.error.SyntaxError.TheVariants as kind
-use Rattle.swc_context.specs.declared.span.Span.{Span}
-use Rattle.swc_context.specs.declared.word.Word.{Word}
-use Rattle.swc_input.specs.declared.buffer.Buffer.{Buffer}
-use Rattle.swc_input.specs.declared.token.TokenAndSpan.{TokenAndSpan}
-use Rattle.swc_input.specs.Source.{Model}
-use Rattle.swc_input.specs.Buffer.{Read}
-use Rattle.swc_ident.specs.declared.words.Mark.{Mark}
-use Rattle.swc_ident.specs.declared.words.Mark.TheVariants as mark
-use Rattle.swc_ident.specs.Naming.{Notes}
+use Rattle.swc_input.specs.{declared.buffer.Buffer.Buffer, declared.token.TokenAndSpan.TokenAndSpan, Source.Model, Buffer.Read}
 use Rattle.swc_ident.specs.Verdicts.{Fault, now, in_modules, ident_verdict}
+use Rattle.swc_ident.specs.{declared.words.Mark.Mark, declared.words.Mark.Mark as mark, Naming.Notes}
 
 -- the faults of a word that is so marked
 abbrev pub faults_of : Mark → List ℕ → List Fault

@@ -1,16 +1,8 @@
 -- What each word is where a name is wanted: with which faults it is taken, or why it is refused (ECMA-262, 12.7 and 13.1.1).
 use Rattle.std.specs.Prelude.{ℕ, Bool, true, false, not, ◌&&◌, ◌||◌, if◌then◌else◌, List, [], ◌∷◌, ◌++◌, Option, Some, None, codes}
 use Rattle.swc_context.specs.Reserved.{is_reserved, strict_names, strict_binding_words}
-use Rattle.swc_context.specs.Texts.{is_text, is_one_of}
-use Rattle.swc_context.specs.Words.{word_text}
-use Rattle.swc_context.specs.declared.context.Context.{Context}
-use Rattle.swc_context.specs.declared.error.SyntaxError.{SyntaxError}
-use Rattle.swc_context.specs.declared.error.SyntaxError.TheVariants as kind
-use Rattle.swc_context.specs.declared.word.Keyword.TheVariants as keyword
-use Rattle.swc_context.specs.declared.word.Word.{Word}
-use Rattle.swc_context.specs.declared.word.Word.TheVariants as word
-use Rattle.swc_input.specs.declared.token.Token.{Token}
-use Rattle.swc_input.specs.declared.token.Token.TheVariants as token
+use Rattle.swc_context.specs.{Texts.is_text, Texts.is_one_of, Words.word_text, declared.context.Context.Context, declared.error.SyntaxError.SyntaxError, declared.error.SyntaxError.SyntaxError as kind, declared.word.Keyword.Keyword as keyword, declared.word.Word.Word, declared.word.Word.Word as word}
+use Rattle.swc_input.specs.declared.token.Token.{Token, Token as token}
 
 -- a fault with which a word is taken: one that is recorded at once, or one of modules, which waits elsewhere
 pub data Fault : Type 0 where

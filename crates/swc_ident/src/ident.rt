@@ -2,8 +2,7 @@
 ghost use Rattle.std.specs.Prelude.{◌≡◌, MatchResult};
 ghost use Rattle.swc_input.specs.Buffer.{current, context, ReadSome};
 ghost use Rattle.swc_input.specs.Kinds.{at_token};
-ghost use Rattle.swc_ident.specs.Naming.{Identifies, Binds, Spells, SpellsPrivate, SpellsEither, Exports};
-ghost use Rattle.swc_ident.specs.Naming.{BindsIfBindable, Hashed, Unprivate};
+ghost use Rattle.swc_ident.specs.Naming.{Identifies, Binds, Spells, SpellsPrivate, SpellsEither, Exports, BindsIfBindable, Hashed, Unprivate};
 ghost use Rattle.swc_ident.specs.Verdicts.{ident_verdict, reference_verdict, binding_verdict, name_of_any, is_bindable};
 
 use crate::words::{

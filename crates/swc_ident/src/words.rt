@@ -1,16 +1,11 @@
 // Words, where a name is wanted: their faults, their refusals, and their texts.
 ghost use Rattle.std.specs.Prelude.{◌≡◌, ◌≢◌, true, ◌&&◌, [], ◌∷◌, MatchResult, codes};
-ghost use Rattle.swc_context.specs.Texts.{is_text};
-ghost use Rattle.swc_context.specs.Words.{word_text};
-ghost use Rattle.swc_context.specs.declared.error.SyntaxError.TheVariants.{InvalidIdentInStrict, OutOfMemory};
-ghost use Rattle.swc_input.specs.declared.token.Token.TheVariants as token;
+ghost use Rattle.swc_context.specs.{Texts.is_text, Words.word_text, declared.error.SyntaxError.TheVariants.InvalidIdentInStrict, declared.error.SyntaxError.TheVariants.OutOfMemory};
 ghost use Rattle.swc_input.specs.Buffer.{current, previous, last_position, Bumped, context};
-ghost use Rattle.swc_input.specs.Recording.{no_memory};
-ghost use Rattle.swc_input.specs.Kinds.{at_token, is_hash};
+ghost use Rattle.swc_input.specs.{declared.token.Token.Token as token, Recording.no_memory, Kinds.at_token, Kinds.is_hash};
 ghost use Rattle.swc_ident.specs.Naming.{Spoken, Unnamed};
 ghost use Rattle.swc_ident.specs.Steps.{faults_of, word_faults, Noting};
-ghost use Rattle.swc_ident.specs.Verdicts.{now, in_modules, name_verdict, await_refusal, ident_verdict, binding_faults};
-ghost use Rattle.swc_ident.specs.Verdicts.{name_of_any, is_word, is_str};
+ghost use Rattle.swc_ident.specs.Verdicts.{now, in_modules, name_verdict, await_refusal, ident_verdict, binding_faults, name_of_any, is_word, is_str};
 
 use std::alloc::Global;
 use swc_ast::lit::Str;

@@ -1,17 +1,10 @@
 -- What is kept of the tokens that a source gave.
 use Rattle.std.proofs.Common.{◌≡◌, ◌-◌, ℕ, suc, false, List, [], ◌∷◌, ◌++◌, length, map, refl, sym, ap, subst, ◌∙◌, arith, append_assoc}
+use Rattle.std.proofs.{lemmas.Bool.le-ltb, lemmas.List.append-nil}
 use Rattle.std.specs.List.{slice_get}
-use Rattle.std.proofs.lemmas.Bool.{le-ltb}
-use Rattle.std.proofs.lemmas.List.{append-nil}
-use Rattle.swc_input.specs.declared.buffer.Buffer.{Buffer}
-use Rattle.swc_input.specs.declared.capturing.Capturing.{Capturing}
-use Rattle.swc_input.specs.declared.token.Token.{Token}
-use Rattle.swc_input.specs.declared.token.TokenAndSpan.{TokenAndSpan}
 use Rattle.swc_input.specs.Buffer.{Took, source, held}
-use Rattle.swc_input.specs.Capturing.{capturing_model, tokens_kept}
 use Rattle.swc_input.specs.Kept.{is_late, kept_on, kept_of, one_by_one}
-use Rattle.swc_input.specs.Plain.{plain}
-use Rattle.swc_input.specs.Source.{Model}
+use Rattle.swc_input.specs.{declared.buffer.Buffer.Buffer, declared.capturing.Capturing.Capturing, declared.token.Token.Token, declared.token.TokenAndSpan.TokenAndSpan, Capturing.capturing_model, Capturing.tokens_kept, Plain.plain, Source.Model}
 use Rattle.swc_input.proofs.Kept.{all_kept}
 
 last-ends : (ts : List TokenAndSpan) (x : TokenAndSpan) (xs : List TokenAndSpan) → one_by_one (ts ++ x ∷ xs) → is_late x.span.lo (slice_get ts (length ts - 1)) ≡ false

@@ -1,19 +1,11 @@
 -- Lists of faults to which a fault is added, or none; and what the calls that record and refuse ensure, from what they call.
 use Rattle.std.proofs.Common.{◌≡◌, ◌≢◌, Bool, true, false, not, List, [], ◌∷◌, ◌++◌, Option, Some, None, Result, Ok, Err, OnOk, IfErr, refl, ap, ◌∙◌}
-use Rattle.std.proofs.lemmas.List.{append-nil}
-use Rattle.std.proofs.lemmas.List.Elements.{All-nil, All-cons}
-use Rattle.swc_context.specs.declared.error.Error.{Error}
-use Rattle.swc_context.specs.declared.error.SyntaxError.{SyntaxError}
-use Rattle.swc_context.specs.declared.error.SyntaxError.TheVariants as kind
-use Rattle.swc_context.specs.declared.span.BytePos.{BytePos}
-use Rattle.swc_input.specs.declared.buffer.Buffer.{Buffer}
-use Rattle.swc_input.specs.declared.token.Token.{Token}
-use Rattle.swc_input.specs.declared.token.Token.TheVariants as token
-use Rattle.swc_input.specs.declared.token.TokenAndSpan.{TokenAndSpan}
+use Rattle.std.proofs.{lemmas.List.append-nil, lemmas.List.Elements.All-nil, lemmas.List.Elements.All-cons}
+use Rattle.swc_context.specs.{declared.error.Error.Error, declared.error.SyntaxError.SyntaxError, declared.error.SyntaxError.SyntaxError as kind, declared.span.BytePos.BytePos}
 use Rattle.swc_input.specs.Source.{Model, Laws, Keeps, IsFault, recorded_in, waiting_in}
 use Rattle.swc_input.specs.Buffer.{Read, Lives, Looked, current, source, last_position}
-use Rattle.swc_input.specs.Laws.{keeps_same, Read-late}
 use Rattle.swc_input.specs.Recording.{Recorded, Refused, no_memory, counted_kind, counted, error_in, is_some, error_here, error_list, error_token, is_fit, refusal}
+use Rattle.swc_input.specs.{declared.buffer.Buffer.Buffer, declared.token.Token.Token, declared.token.Token.Token as token, declared.token.TokenAndSpan.TokenAndSpan, Laws.keeps_same, Laws.Read-late}
 
 pub keeps_one : (es fs : List Error) (e : Error) → fs ≡ es ++ e ∷ [] → IsFault e → Keeps es fs
 keeps_one es fs e h fault = record { more = e ∷ []; added = h; faults = All-cons IsFault e [] fault (All-nil IsFault) }

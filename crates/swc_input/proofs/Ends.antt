@@ -1,10 +1,9 @@
 -- Past the end of a source.
 use Rattle.std.proofs.Common.{◌≡◌, true, [], ◌++◌, Option, Some, None, refl, sym, ap, ◌∙◌}
 use Rattle.std.proofs.lemmas.List.{append-nil}
-use Rattle.swc_input.specs.declared.buffer.Buffer.{Buffer}
-use Rattle.swc_input.specs.declared.token.TokenAndSpan.{TokenAndSpan}
 use Rattle.swc_input.specs.Source.{Model, Laws, given_one}
 use Rattle.swc_input.specs.Buffer.{Looked, current, peeked, source, held}
+use Rattle.swc_input.specs.{declared.buffer.Buffer.Buffer, declared.token.TokenAndSpan.TokenAndSpan}
 
 none_held : (o p : Option TokenAndSpan) → given_one o ++ given_one p ≡ [] → o ≡ None
 none_held None p h = refl

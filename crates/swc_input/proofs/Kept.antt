@@ -1,12 +1,10 @@
 -- Which tokens are kept.
 use Rattle.std.proofs.Common.{◌≡◌, ℕ, ◌-◌, ◌≤◌, suc, Bool, true, false, List, [], ◌∷◌, ◌++◌, Option, Some, None, length, map, refl, sym, ap, ◌∙◌, arith}
-use Rattle.std.specs.List.{slice_get}
-use Rattle.std.specs.Option.{option_to_list}
 use Rattle.std.proofs.lemmas.List.{append-nil, map-append, length-append}
+use Rattle.std.specs.{List.slice_get, Option.option_to_list}
 use Rattle.swc_context.specs.declared.span.BytePos.{BytePos}
-use Rattle.swc_input.specs.declared.token.TokenAndSpan.{TokenAndSpan}
-use Rattle.swc_input.specs.Plain.{plain}
 use Rattle.swc_input.specs.Kept.{ends_behind, is_late, in_front, cleared, kept}
+use Rattle.swc_input.specs.{declared.token.TokenAndSpan.TokenAndSpan, Plain.plain}
 
 in_front-some : (late : Bool) (t u : TokenAndSpan) (us : List TokenAndSpan) → in_front late t (u ∷ us) ≡ t ∷ u ∷ us
 in_front-some true t u us = refl

@@ -1,17 +1,10 @@
 -- What a refusal may be: never the parser's own failure, and out of memory only where the source has failed.
 use Rattle.std.proofs.Common.{◌≡◌, ◌≢◌, Bool, true, false, not, IsTrue, IsSome, Option, Some, None, refl, sym, ◌∙◌, ap, subst}
-use Rattle.swc_context.specs.declared.error.Error.{Error}
-use Rattle.swc_context.specs.declared.error.SyntaxError.{SyntaxError}
-use Rattle.swc_context.specs.declared.error.SyntaxError.TheVariants as kind
-use Rattle.swc_context.specs.declared.span.BytePos.{BytePos}
-use Rattle.swc_input.specs.declared.buffer.Buffer.{Buffer}
-use Rattle.swc_input.specs.declared.token.Token.{Token}
-use Rattle.swc_input.specs.declared.token.Token.TheVariants as token
-use Rattle.swc_input.specs.declared.token.TokenAndSpan.{TokenAndSpan}
+use Rattle.swc_context.specs.{declared.error.Error.Error, declared.error.SyntaxError.SyntaxError, declared.error.SyntaxError.SyntaxError as kind, declared.span.BytePos.BytePos}
 use Rattle.swc_input.specs.Source.{Model, Laws, IsFault}
 use Rattle.swc_input.specs.Buffer.{Looked, current, source, last_position}
-use Rattle.swc_input.specs.Laws.{Looked-served, Looked-some}
 use Rattle.swc_input.specs.Recording.{Refused, no_memory, counted_kind, error_in, error_or, error_here, is_some, is_fit, refusal, unfit}
+use Rattle.swc_input.specs.{declared.buffer.Buffer.Buffer, declared.token.Token.Token, declared.token.Token.Token as token, declared.token.TokenAndSpan.TokenAndSpan, Laws.Looked-served, Laws.Looked-some}
 use Rattle.swc_input.proofs.Emits.{counted_fault}
 
 counted_kind_parser : (k : SyntaxError) → counted_kind k ≢ kind.ParserFailed

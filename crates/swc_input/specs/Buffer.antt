@@ -1,15 +1,8 @@
 -- What a call of a buffer does, and which tokens may still come.
 use Rattle.std.specs.Prelude.{◌≡◌, ◌≢◌, ℕ, ◌+◌, ◌<◌, ◌≤◌, true, false, List, [], ◌∷◌, ◌++◌, Option, Some, None, IsSome, length, min}
-use Rattle.swc_context.specs.declared.context.Context.{Context}
-use Rattle.swc_context.specs.declared.operator.BinOpToken.TheVariants.{Lt}
-use Rattle.swc_context.specs.declared.span.BytePos.{BytePos}
-use Rattle.swc_context.specs.declared.span.Span.{Span}
-use Rattle.swc_input.specs.declared.buffer.Buffer.{Buffer}
-use Rattle.swc_input.specs.declared.token.Token.{Token}
-use Rattle.swc_input.specs.declared.token.Token.TheVariants.{BinOp}
-use Rattle.swc_input.specs.declared.token.TokenAndSpan.{TokenAndSpan}
-use Rattle.swc_input.specs.Plain.{plain}
+use Rattle.swc_context.specs.{declared.context.Context.Context, declared.operator.BinOpToken.TheVariants.Lt, declared.span.BytePos.BytePos, declared.span.Span.Span}
 use Rattle.swc_input.specs.Source.{Source, Model, Keeps, given_one}
+use Rattle.swc_input.specs.{declared.buffer.Buffer.Buffer, declared.token.Token.Token, declared.token.Token.TheVariants.BinOp, declared.token.TokenAndSpan.TokenAndSpan, Plain.plain}
 
 abbrev pub token_of : Option TokenAndSpan → Option Token
 token_of None = None

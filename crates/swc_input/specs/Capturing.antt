@@ -3,11 +3,8 @@ use Rattle.std.specs.Prelude.{◌≡◌, Bool, true, false, List, [], ◌++◌, 
 use Rattle.std.proofs.Common.{refl, ap, sym, ◌∙◌, append_assoc, subst}
 use Rattle.std.proofs.lemmas.List.{append-nil}
 use Rattle.swc_context.specs.declared.context.TokenContexts.{TokenContexts}
-use Rattle.swc_input.specs.declared.capturing.Capturing.{Capturing}
-use Rattle.swc_input.specs.declared.token.TokenAndSpan.{TokenAndSpan}
-use Rattle.swc_input.specs.Kept.{kept, kept_on}
-use Rattle.swc_input.specs.Plain.{plain}
 use Rattle.swc_input.specs.Source.{Source, Model, Hint, Laws, IsLawful, Gave, Unmoved, given_one}
+use Rattle.swc_input.specs.{declared.capturing.Capturing.Capturing, declared.token.TokenAndSpan.TokenAndSpan, Kept.kept, Kept.kept_on, Plain.plain}
 
 -- the source within; the tokens that are kept; whether a token was lost, since there was no memory to keep it
 abbrev pub within : {S : Type 0} → Capturing S → S

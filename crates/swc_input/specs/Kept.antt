@@ -21,7 +21,7 @@ abbrev pub cleared : BytePos → List TokenAndSpan → List TokenAndSpan
 cleared at [] = []
 cleared at (t ∷ ts) = in_front (ends_behind at t) t (cleared at ts)
 
--- the tokens ts, with t kept after them: those at their end that end after its start are let go
+-- the tokens ts, with t kept after them: those at their end that end after its start are dropped
 abbrev pub kept : List TokenAndSpan → TokenAndSpan → List TokenAndSpan
 kept ts t = cleared t.span.lo ts ++ t ∷ []
 

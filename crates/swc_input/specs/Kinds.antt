@@ -1,8 +1,6 @@
 -- Tests on tokens.
 use Rattle.std.specs.Prelude.{Bool, true, false, Option, Some, None}
-use Rattle.swc_input.specs.declared.token.Token.{Token}
-use Rattle.swc_input.specs.declared.token.Token.TheVariants as token
-use Rattle.swc_input.specs.declared.token.TokenAndSpan.{TokenAndSpan}
+use Rattle.swc_input.specs.{declared.token.Token.Token, declared.token.Token.Token as token, declared.token.TokenAndSpan.TokenAndSpan}
 
 -- the test at a current token; none passes it at the end
 abbrev pub at_token : (Token → Bool) → Option TokenAndSpan → Bool

@@ -1,15 +1,12 @@
 -- How calls of a buffer follow one another, and what may come after them.
 use Rattle.std.specs.Prelude.{◌≡◌, ◌≢◌, true, List, [], ◌∷◌, ◌++◌, Option, Some, None, IsSome}
 use Rattle.std.proofs.Common.{refl, ap, sym, ◌∙◌, append_assoc, arith, subst}
-use Rattle.std.proofs.lemmas.List.{append-nil}
-use Rattle.std.proofs.lemmas.List.Elements.{All-append, All-nil}
+use Rattle.std.proofs.{lemmas.List.append-nil, lemmas.List.Elements.All-append, lemmas.List.Elements.All-nil}
 use Rattle.swc_context.specs.declared.error.Error.{Error}
-use Rattle.swc_input.specs.declared.buffer.Buffer.{Buffer}
-use Rattle.swc_input.specs.declared.token.TokenAndSpan.{TokenAndSpan}
-use Rattle.swc_input.specs.Plain.{plain}
 use Rattle.swc_input.specs.Source.{Model, Laws, Keeps, IsFault, given_one}
 use Rattle.swc_input.specs.Buffer.{held, Took, Read, Lives, Served, Looked, Future, Known}
 use Rattle.swc_input.specs.Recording.{Recorded, Refused, error_token}
+use Rattle.swc_input.specs.{declared.buffer.Buffer.Buffer, declared.token.TokenAndSpan.TokenAndSpan, Plain.plain}
 
 pub keeps_same : (es fs : List Error) → fs ≡ es → Keeps es fs
 keeps_same es fs h = record { more = []; added = h ∙ sym (append-nil es); faults = All-nil IsFault }

@@ -2,16 +2,9 @@
 use Rattle.std.specs.Prelude.{◌≡◌, Bool, true, false, List, [], ◌∷◌, ◌++◌, Option, Some, None, length, map, MatchOption}
 use Rattle.std.proofs.Common.{refl, ap, sym, ◌∙◌, append_assoc, arith}
 use Rattle.std.proofs.lemmas.List.{nil_from_length}
-use Rattle.swc_context.specs.declared.context.Context.{Context}
-use Rattle.swc_context.specs.declared.context.EsVersion.{EsVersion}
-use Rattle.swc_context.specs.declared.context.Syntax.{Syntax}
-use Rattle.swc_context.specs.declared.context.TokenContexts.{TokenContexts}
-use Rattle.swc_context.specs.declared.span.BytePos.{BytePos}
-use Rattle.swc_input.specs.declared.token.TokenAndSpan.{TokenAndSpan}
-use Rattle.swc_input.specs.declared.listed.TokensInput.{TokensInput}
-use Rattle.swc_input.specs.Plain.{plain}
+use Rattle.swc_context.specs.{declared.context.Context.Context, declared.context.EsVersion.EsVersion, declared.context.Syntax.Syntax, declared.context.TokenContexts.TokenContexts, declared.span.BytePos.BytePos}
 use Rattle.swc_input.specs.Source.{Source, Model, Laws, IsLawful, Keeping, Gave, Asked, Unmoved}
-use Rattle.swc_input.specs.Laws.{keeps_same}
+use Rattle.swc_input.specs.{declared.token.TokenAndSpan.TokenAndSpan, declared.listed.TokensInput.TokensInput, Plain.plain, Laws.keeps_same}
 
 abbrev pub is_nil : {A : Type 0} → List A → Bool
 is_nil [] = true

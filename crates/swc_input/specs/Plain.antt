@@ -1,10 +1,8 @@
 -- A token as contracts compare it: where the boxes of an error in it lie in memory doesn't count.
 use Rattle.std.specs.Prelude.{Result, Ok, Err}
-use Rattle.swc_context.specs.declared.error.Error.{Error}
-use Rattle.swc_context.specs.Plain.{plain_error}
-use Rattle.swc_input.specs.declared.token.Token.{Token}
+use Rattle.swc_context.specs.{declared.error.Error.Error, Plain.plain_error}
+use Rattle.swc_input.specs.{declared.token.Token.Token, declared.token.TokenAndSpan.TokenAndSpan}
 use Rattle.swc_input.specs.declared.token.Token.TheVariants as token
-use Rattle.swc_input.specs.declared.token.TokenAndSpan.{TokenAndSpan}
 
 abbrev pub plain_cooked : {A : Type 0} → Result A Error → Result A Error
 plain_cooked (Ok a) = Ok a

@@ -1,16 +1,10 @@
 -- How faults are recorded, how refusals are made, and how out of memory and the end are told apart.
 use Rattle.std.specs.Prelude.{◌≡◌, Bool, true, false, not, ◌||◌, List, [], ◌∷◌, ◌++◌, Option, Some, None}
-use Rattle.swc_context.specs.declared.error.Error.{Error}
-use Rattle.swc_context.specs.declared.error.SyntaxError.{SyntaxError}
+use Rattle.swc_context.specs.{declared.error.Error.Error, declared.error.SyntaxError.SyntaxError, declared.span.BytePos.BytePos}
 use Rattle.swc_context.specs.declared.error.SyntaxError.TheVariants as kind
-use Rattle.swc_context.specs.declared.span.BytePos.{BytePos}
-use Rattle.swc_input.specs.declared.buffer.Buffer.{Buffer}
-use Rattle.swc_input.specs.declared.token.Token.{Token}
-use Rattle.swc_input.specs.declared.token.Token.TheVariants as token
-use Rattle.swc_input.specs.declared.token.TokenAndSpan.{TokenAndSpan}
-use Rattle.swc_input.specs.Plain.{plain}
-use Rattle.swc_input.specs.Source.{Source, Model}
 use Rattle.swc_input.specs.Buffer.{Read, Lives, Looked, last_position, current, peeked, source}
+use Rattle.swc_input.specs.{declared.buffer.Buffer.Buffer, declared.token.Token.Token, declared.token.TokenAndSpan.TokenAndSpan, Plain.plain, Source.Source, Source.Model}
+use Rattle.swc_input.specs.declared.token.Token.TheVariants as token
 
 -- no fault is recorded
 abbrev pub is_silent : Source → Bool

@@ -1,11 +1,8 @@
 -- Several faults that are recorded one after another, and a refusal after them.
 use Rattle.std.specs.Prelude.{◌≡◌, ◌≢◌, true, false, List, [], ◌∷◌, Option, Some, None, Result, MatchResult}
-use Rattle.swc_context.specs.declared.error.Error.{Error}
-use Rattle.swc_context.specs.declared.error.SyntaxError.TheVariants as kind
-use Rattle.swc_input.specs.declared.buffer.Buffer.{Buffer}
-use Rattle.swc_input.specs.Source.{Model}
-use Rattle.swc_input.specs.Buffer.{source}
+use Rattle.swc_context.specs.{declared.error.Error.Error, declared.error.SyntaxError.SyntaxError as kind}
 use Rattle.swc_input.specs.Recording.{is_silent, Recorded, Refused}
+use Rattle.swc_input.specs.{declared.buffer.Buffer.Buffer, Source.Model, Buffer.source}
 
 module _ {S : Type 0} (model : Model S) where
   -- The faults were recorded, one after another, and nothing else; each after the error of a current error token, which was consumed.

@@ -1,19 +1,12 @@
 // The parser's buffer: the current token, and the one after it.
-ghost use Rattle.std.specs.Prelude.{◌≡◌, ◌<◌, true, false, [], ◌∷◌, None, Some, MatchOption, IsSome, ⊤, IsTrue, ◌↔◌};
-ghost use Rattle.std.specs.Prelude.{OnOk, OnErr};
+ghost use Rattle.std.specs.Prelude.{◌≡◌, ◌<◌, true, false, [], ◌∷◌, None, Some, MatchOption, IsSome, ⊤, IsTrue, ◌↔◌, OnOk, OnErr};
 ghost use Rattle.std.specs.Option.{option_copied};
 ghost use Rattle.std.specs.Borrow.{sem, follows, follows_so};
 ghost use mathlib.Core.Option.{none};
 ghost use Rattle.swc_context.specs.declared.operator.BinOpToken.TheVariants.{LShift};
-ghost use Rattle.swc_input.specs.declared.token.Token.TheVariants.{BinOp};
-ghost use Rattle.swc_input.specs.declared.token.TokenAndSpan.{TokenAndSpan};
-ghost use Rattle.swc_input.specs.Plain.{plain};
 ghost use Rattle.swc_input.specs.Source.{HeldBack, Hinted, with_context};
-ghost use Rattle.swc_input.specs.Buffer.{current, peeked, previous, last_position, source, held, token_of};
-ghost use Rattle.swc_input.specs.Buffer.{state_of, to_come};
-ghost use Rattle.swc_input.specs.Buffer.{with_current, with_source, cut, stored, fresh};
-ghost use Rattle.swc_input.specs.Buffer.{Took, Read, Looked, Peeked, Bumped};
-ghost use Rattle.swc_input.specs.contracts.buffer.Buffer.{the_row};
+ghost use Rattle.swc_input.specs.Buffer.{current, peeked, previous, last_position, source, held, token_of, state_of, to_come, with_current, with_source, cut, stored, fresh, Took, Read, Looked, Peeked, Bumped};
+ghost use Rattle.swc_input.specs.{declared.token.Token.TheVariants.BinOp, declared.token.TokenAndSpan.TokenAndSpan, Plain.plain, contracts.buffer.Buffer.the_row};
 
 use crate::token::{Token, TokenAndSpan};
 use crate::tokens::{Tokens, ask};
@@ -25,7 +18,7 @@ use swc_context::span::{BytePos, Span};
 /// A source, and the tokens that were taken from it ahead: the current one and, where it was peeked
 /// at, the one after it.
 ///
-/// Looks take tokens from the source and consume none. A `None` of a look is the end, or want of
+/// Looks take tokens from the source and consume none. A `None` of a look means the end, or out of
 /// memory where the source has `failed`; `Buffer::has_cur` tells these apart.
 pub struct Buffer<I> {
     pub(crate) iter: I,
@@ -35,7 +28,7 @@ pub struct Buffer<I> {
     pub(crate) next: Option<TokenAndSpan>,
 }
 
-// Not derived: so letting go of a buffer is a call, and is proved here alone.
+// Not derived: so dropping a buffer is a call, and is proved here alone.
 impl<I: Drop> Drop for Buffer<I> {
     fn drop(self) {
         let Buffer {
@@ -47,7 +40,7 @@ impl<I: Drop> Drop for Buffer<I> {
     }
 }
 
-/// Puts a token in a place. (Letting go of what stood there has a case for each kind of token.)
+/// Puts a token in a place. (Dropping what was there has a case for each kind of token.)
 fn put(place: &mut Option<TokenAndSpan>, token: Option<TokenAndSpan>)
     ensures { place.new ≡ token }
 {
@@ -149,7 +142,7 @@ impl<I: Tokens> Buffer<I> {
         }
     }
 
-    /// Whether a line break stands before the current token; true at the end.
+    /// Whether a line break is before the current token; true at the end.
     pub fn had_line_break_before_cur(&mut self) -> bool
         ensures looked { Looked I.model self.old self.new }
         ensures value { MatchOption (current self.new) (result ≡ true) (λ t. result ≡ t.had_line_break) }
@@ -161,7 +154,7 @@ impl<I: Tokens> Buffer<I> {
         }
     }
 
-    /// Whether a line break stands before the token after the current one; true where none is left.
+    /// Whether a line break is before the token after the current one; true where none is left.
     pub fn has_linebreak_between_cur_and_peeked(&mut self) -> bool
         requires { IsSome (current self.old) }
         ensures peeked { Peeked I.model self.old self.new }

@@ -1,8 +1,7 @@
 // A source that keeps the tokens that it gives.
 ghost use Rattle.std.specs.Prelude.{◌≡◌, [], false, MatchOption, OnOk, OnErr, map};
 ghost use Rattle.swc_input.specs.Capturing.{within, tokens_kept, has_lost};
-ghost use Rattle.swc_input.specs.Kept.{kept};
-ghost use Rattle.swc_input.specs.Plain.{plain};
+ghost use Rattle.swc_input.specs.{Kept.kept, Plain.plain};
 
 use crate::keeping::keep;
 use crate::token::TokenAndSpan;
@@ -14,7 +13,7 @@ use swc_context::span::BytePos;
 
 /// A source that gives what another source gives, and keeps a copy of each token.
 ///
-/// Before a token is kept, those kept at the end that end after its start, in bytes, are let go: so of a slash and the
+/// Before a token is kept, those kept at the end that end after its start, in bytes, are dropped: so of a slash and the
 /// regular expression that begins there, the latter is kept. Where each token begins where the one before it ends, or
 /// after, all are kept, and empty ones too, as the text of a template may be.
 ///
@@ -27,7 +26,7 @@ pub struct Capturing<I> {
     lost: bool,
 }
 
-// Not derived: so letting go of it is a call, and is proved here alone.
+// Not derived: so dropping it is a call, and is proved here alone.
 impl<I: Drop> Drop for Capturing<I> {
     fn drop(self) {
         let Capturing {
@@ -83,7 +82,7 @@ fn keep_copy(tokens: &mut Vec<TokenAndSpan>, token: &TokenAndSpan) -> Result<(),
     keep(tokens, copy)
 }
 
-/// Keeps a copy of the token and hands it on; where there is no memory to keep it, nothing changes, and it is let go.
+/// Keeps a copy of the token and hands it on; where there is no memory to keep it, nothing changes, and it is dropped.
 fn hand_on(tokens: &mut Vec<TokenAndSpan>, token: TokenAndSpan) -> Option<TokenAndSpan>
     ensures { MatchOption result (tokens.new.items ≡ tokens.old.items)
         (λ x. (x ≡ token) × (map plain tokens.new.items ≡ kept (map plain tokens.old.items) (plain token))) }
@@ -96,8 +95,7 @@ fn hand_on(tokens: &mut Vec<TokenAndSpan>, token: TokenAndSpan) -> Option<TokenA
 
 impl<I: Tokens> Iterator for Capturing<I> {
     ghost use Rattle.std.specs.Iterator.{at_most};
-    ghost use Rattle.swc_input.specs.Source.{Asked};
-    ghost use Rattle.swc_input.specs.Capturing.{capturing_model};
+    ghost use Rattle.swc_input.specs.{Source.Asked, Capturing.capturing_model};
 
     type Item = TokenAndSpan;
 

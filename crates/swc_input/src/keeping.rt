@@ -1,6 +1,5 @@
 // The tokens that are kept, beside those that were kept before.
-ghost use Rattle.std.specs.Prelude.{◌≡◌, ◌-◌, ◌≤◌, ◌++◌, ◌∷◌, [], false, OnOk, OnErr, length, slice_get};
-ghost use Rattle.std.specs.Prelude.{vec_len, vec_capacity};
+ghost use Rattle.std.specs.Prelude.{◌≡◌, ◌-◌, ◌≤◌, ◌++◌, ◌∷◌, [], false, OnOk, OnErr, length, slice_get, vec_len, vec_capacity};
 ghost use Rattle.swc_input.specs.Kept.{is_late, cleared, kept};
 
 use crate::token::TokenAndSpan;
@@ -31,7 +30,7 @@ fn clear(tokens: &mut Vec<TokenAndSpan>, at: BytePos)
     }
 }
 
-/// Keeps a token after the others: those at the end that end after its start, in bytes, are let go first, and so none
+/// Keeps a token after the others: those at the end that end after its start, in bytes, are dropped first, and so none
 /// where the last one ends at that start or before. Refused only when out of memory, and then nothing changes.
 #[tactic(auto, using(crate::proofs::Kept::all_kept))]
 pub fn keep(tokens: &mut Vec<TokenAndSpan>, token: TokenAndSpan) -> Result<(), AllocError>

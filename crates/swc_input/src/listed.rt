@@ -22,7 +22,7 @@ pub struct TokensInput {
     ghost none_waits: { context.module ≡ true → vec_len module_errors ≡ 0 },
 }
 
-// Not derived: so letting go of a list's source is a call, and is proved here alone.
+// Not derived: so dropping a list's source is a call, and is proved here alone.
 impl Drop for TokensInput {
     fn drop(self) {
         let TokensInput {
@@ -87,8 +87,7 @@ impl TokensInput {
 }
 
 impl Iterator for TokensInput {
-    ghost use Rattle.std.specs.Iterator.{at_most};
-    ghost use Rattle.std.specs.Prelude.{length};
+    ghost use Rattle.std.specs.{Iterator.at_most, Prelude.length};
     ghost use Rattle.swc_input.specs.Listed.{NextListed};
 
     type Item = TokenAndSpan;

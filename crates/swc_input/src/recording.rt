@@ -1,13 +1,10 @@
 // Faults that are recorded, refusals, and out of memory.
-ghost use Rattle.std.specs.Prelude.{◌≡◌, ◌≢◌, true, false, List, [], ◌∷◌, ◌++◌, None, IsSome};
-ghost use Rattle.std.specs.Prelude.{IsOk, OnOk, IfOk, IfErr};
+ghost use Rattle.std.specs.Prelude.{◌≡◌, ◌≢◌, true, false, List, [], ◌∷◌, ◌++◌, None, IsSome, IsOk, OnOk, IfOk, IfErr};
 ghost use Rattle.swc_context.specs.declared.error.SyntaxError.TheVariants.{OutOfMemory, Eof};
 ghost use Rattle.swc_input.specs.declared.token.TokenAndSpan.{TokenAndSpan};
 ghost use Rattle.swc_input.specs.Source.{with_error, with_module_error, IsFault};
-ghost use Rattle.swc_input.specs.Buffer.{source, last_position, current, state_of, with_source};
-ghost use Rattle.swc_input.specs.Buffer.{Read, ReadSome, Lives, Looked};
-ghost use Rattle.swc_input.specs.Recording.{is_silent, is_some, no_memory, counted, error_in, error_here, error_list};
-ghost use Rattle.swc_input.specs.Recording.{error_token, unfit, is_fit, refusal, Recorded, Refused, Seen};
+ghost use Rattle.swc_input.specs.Buffer.{source, last_position, current, state_of, with_source, Read, ReadSome, Lives, Looked};
+ghost use Rattle.swc_input.specs.Recording.{is_silent, is_some, no_memory, counted, error_in, error_here, error_list, error_token, unfit, is_fit, refusal, Recorded, Refused, Seen};
 
 use crate::buffer::Buffer;
 use crate::token::Token;
@@ -115,8 +112,8 @@ impl<I: Tokens> Buffer<I> {
     }
 
     /// Records a fault, after the error of a current error token, which is consumed; any other
-    /// current token stays. Silent contexts record nothing. Where the source has failed, want of
-    /// memory is refused.
+    /// current token stays. Silent contexts record nothing. Where the source has failed, the answer is out of
+    /// memory.
     pub fn emit_error(&mut self, error: Error) -> PResult<()>
         requires { IsFault error }
         ensures silent { is_silent (state_of I.model self.old) ≡ true → IsOk result × (self.new ≡ self.old) }

@@ -85,7 +85,7 @@ pub enum Token {
     Error(Error),
 }
 
-/// A token, its place, and whether a line break stands before it.
+/// A token, its place, and whether a line break is before it.
 #[derive(PartialEq, Eq, Drop)]
 pub struct TokenAndSpan {
     pub token: Token,

@@ -1,13 +1,9 @@
 // Where the parser's tokens come from.
 ghost use Rattle.std.specs.Prelude.{◌≡◌, [], Option, OnOk, OnErr};
-ghost use Rattle.std.specs.Borrow.{sem, follows};
-ghost use Rattle.std.specs.Iterator.{at_most};
-ghost use Rattle.swc_context.specs.declared.context.TokenContexts.{TokenContexts};
-ghost use Rattle.swc_context.specs.contracts.context.TokenContexts.{the_row as contexts_row};
+ghost use Rattle.std.specs.{Borrow.sem, Borrow.follows, Iterator.at_most};
+ghost use Rattle.swc_context.specs.{declared.context.TokenContexts.TokenContexts, contracts.context.TokenContexts.the_row as contexts_row};
 ghost use Rattle.swc_input.specs.declared.token.TokenAndSpan.{TokenAndSpan};
-ghost use Rattle.swc_input.specs.Source.{Model, Laws, Asked, HeldBack, Hinted, Unmoved};
-ghost use Rattle.swc_input.specs.Source.{expression, regexp};
-ghost use Rattle.swc_input.specs.Source.{with_context, with_error, with_module_error};
+ghost use Rattle.swc_input.specs.Source.{Model, Laws, Asked, HeldBack, Hinted, Unmoved, expression, regexp, with_context, with_error, with_module_error};
 
 use crate::token::TokenAndSpan;
 use std::alloc::AllocError;

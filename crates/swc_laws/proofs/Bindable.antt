@@ -3,20 +3,12 @@ use Rattle.std.specs.Prelude.{◌≡◌, ℕ, Bool, true, false, not, ◌&&◌, 
 use Rattle.std.proofs.Common.{refl, sym, ap, subst, ◌∙◌}
 use Rattle.std.proofs.lemmas.Bool.{eqb-true}
 use Rattle.swc_context.specs.Reserved.{is_reserved_word, strict_binding_words, strict_reserved}
-use Rattle.swc_context.specs.Words.{word_of, word_text}
-use Rattle.swc_context.specs.Texts.{is_text, is_one_of}
-use Rattle.swc_context.specs.declared.context.Context.{Context}
-use Rattle.swc_context.specs.declared.span.Span.{Span}
-use Rattle.swc_context.specs.declared.word.Word.{Word}
-use Rattle.swc_context.specs.declared.word.Keyword.TheVariants as keyword
-use Rattle.swc_context.specs.declared.word.Word.TheVariants as word
-use Rattle.swc_input.specs.declared.token.Token.{Token}
-use Rattle.swc_input.specs.declared.token.Token.TheVariants as token
-use Rattle.swc_grammar.specs.Scope.{Scope}
+use Rattle.swc_context.specs.{Words.word_of, Words.word_text, Texts.is_text, Texts.is_one_of, declared.context.Context.Context, declared.span.Span.Span, declared.word.Word.Word, declared.word.Word.Word as word, declared.word.Keyword.Keyword as keyword}
+use Rattle.swc_input.specs.declared.token.Token.{Token, Token as token}
 use Rattle.swc_grammar.specs.Names.{Spelling, spelling, may_refer, may_bind}
 use Rattle.swc_grammar.specs.Parts.{reference, binding, any_name}
-use Rattle.swc_grammar.specs.Arrows.{async_name}
 use Rattle.swc_grammar.specs.Tokens.{include_in, with_in, is_put_off, is_await, await_ident_ok}
+use Rattle.swc_grammar.specs.{Scope.Scope, Arrows.async_name}
 use Rattle.swc_grammar.proofs.Answers.{only, inj, both}
 use Rattle.swc_laws.specs.Bound.{may_be_bound, is_name, is_spelled}
 

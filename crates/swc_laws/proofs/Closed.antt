@@ -1,13 +1,10 @@
 -- Trees that are no patterns: what the productions of expressions give, but for names, arrays, objects and assignments.
 use Rattle.std.specs.Prelude.{◌≡◌, ℕ, Bool, true, false, List, Some, ◌||◌, if◌then◌else◌}
 use Rattle.std.proofs.Common.{refl, sym, ap, ◌∙◌}
-use Rattle.swc_context.specs.declared.span.Span.{Span}
-use Rattle.swc_context.specs.declared.word.Word.TheVariants as word
-use Rattle.swc_input.specs.declared.token.Token.{Token}
-use Rattle.swc_input.specs.declared.token.Token.TheVariants as token
+use Rattle.swc_context.specs.{declared.span.Span.Span, declared.word.Word.Word as word}
+use Rattle.swc_input.specs.declared.token.Token.{Token, Token as token}
 use Rattle.swc_ast.specs.Targets.{is_target as is_simple_target}
-use Rattle.swc_ast.specs.Tree.{Tree, node, nil, cons, span_of, ident, array_with, object_with, assign, member}
-use Rattle.swc_ast.specs.Tree.{super_prop, paren, pat_expr}
+use Rattle.swc_ast.specs.Tree.{Tree, node, nil, cons, span_of, ident, array_with, object_with, assign, member, super_prop, paren, pat_expr}
 use Rattle.swc_ast.specs.Trees.{is_chain, chain_e, link_e, at_place, regex_e}
 use Rattle.swc_grammar.specs.Parts.{lit_of, regex_of, flags_ok}
 use Rattle.swc_grammar.specs.Patterns.{binds_names}

@@ -3,53 +3,26 @@
 use Rattle.std.specs.Prelude.{◌≡◌, Bool, true, false, not, ◌||◌, if◌then◌else◌, List, [], ◌∷◌, Option, Some, None}
 use Rattle.std.proofs.Common.{refl, sym, ap, subst, ◌∙◌, arith}
 use Rattle.std.proofs.Math.Bool.{and-false}
-use Rattle.swc_context.specs.Reserved.{is_reserved_word}
-use Rattle.swc_context.specs.declared.span.Span.{Span}
-use Rattle.swc_context.specs.declared.operator.AssignOp.TheVariants as write
-use Rattle.swc_input.specs.declared.token.Token.{Token}
-use Rattle.swc_input.specs.declared.token.TokenAndSpan.{TokenAndSpan}
-use Rattle.swc_input.specs.Kinds.{at_token}
-use Rattle.swc_input.specs.declared.token.Token.TheVariants as token
+use Rattle.swc_context.specs.{Reserved.is_reserved_word, declared.span.Span.Span, declared.operator.AssignOp.AssignOp as write}
+use Rattle.swc_input.specs.{declared.token.Token.Token, declared.token.Token.Token as token, declared.token.TokenAndSpan.TokenAndSpan, Kinds.at_token}
 use Rattle.swc_ast.specs.Targets.{is_target as is_simple_target}
-use Rattle.swc_ast.specs.Tree.{Tree, node, Trees, nil, cons, span_of, erase, erase_all, no_span, ident, array, object}
-use Rattle.swc_ast.specs.Tree.{array_with, object_with, default, rest, dots, key_value, assign as assign_kind}
-use Rattle.swc_ast.specs.Trees.{to, items_of, comma_of, hole_e, item_e, spread_e, spread_prop_e, ident_e, array_e}
-use Rattle.swc_ast.specs.Trees.{object_e, is_ident, listed, put_first, behind_comma, assign_e, short_e, cover_e}
-use Rattle.swc_ast.specs.Trees.{key_value_e}
+use Rattle.swc_ast.specs.Tree.{Tree, node, Trees, nil, cons, span_of, erase, erase_all, no_span, ident, array, object, array_with, object_with, default, rest, dots, key_value, assign as assign_kind}
+use Rattle.swc_ast.specs.Trees.{to, items_of, comma_of, hole_e, item_e, spread_e, spread_prop_e, ident_e, array_e, object_e, is_ident, listed, put_first, behind_comma, assign_e, short_e, cover_e, key_value_e}
 use Rattle.swc_ast.specs.Patterns.{array_p, object_p, default_p, rest_p, name_p, put_element, holds_ident}
 use Rattle.swc_bodies.specs.Readings.{Hook, is_brace, is_function}
-use Rattle.swc_grammar.specs.Scope.{Scope, at_head}
 use Rattle.swc_grammar.specs.Rule.{sees, sees_two, gives, take, check, read}
-use Rattle.swc_grammar.specs.Names.{Spelling}
-use Rattle.swc_grammar.specs.Symbols.{Symbol, Answer, Assign, Unary, Primary, Args, ArgsTail, Elements, ElementsTail}
-use Rattle.swc_grammar.specs.Symbols.{Item, Props, PropsTail, Prop, Key, Pat, Element, Rest, PatElements}
-use Rattle.swc_grammar.specs.Symbols.{PatElementsTail, PatProps, PatPropsTail, PatProp, Params, ParamsTail, Side}
-use Rattle.swc_grammar.specs.Tokens.{tk, with_in, assign_of, is_equals, is_dots, is_await, is_rbracket, is_rbrace}
-use Rattle.swc_grammar.specs.Tokens.{is_rparen, is_comma, is_lbracket, is_colon, is_lparen}
+use Rattle.swc_grammar.specs.Symbols.{Symbol, Answer, Assign, Unary, Primary, Args, ArgsTail, Elements, ElementsTail, Item, Props, PropsTail, Prop, Key, Pat, Element, Rest, PatElements, PatElementsTail, PatProps, PatPropsTail, PatProp, Params, ParamsTail, Side}
+use Rattle.swc_grammar.specs.Tokens.{tk, with_in, assign_of, is_equals, is_dots, is_await, is_rbracket, is_rbrace, is_rparen, is_comma, is_lbracket, is_colon, is_lparen}
 use Rattle.swc_grammar.specs.Parts.{reference, binding as binding_name, any_name, assign_here}
 use Rattle.swc_grammar.specs.Patterns.{binds_names, all_bind_names, props_bind_names, prop_binds_names, any}
-use Rattle.swc_grammar.specs.Cover.{Role, target, binding, ◌>>>◌, as_pat, as_elements, as_element, as_props, as_prop}
-use Rattle.swc_grammar.specs.Cover.{as_params, as_literal, is_pattern, is_assign, is_last, is_rest_of, stays}
-use Rattle.swc_grammar.specs.Grammar.{Production, ident-expr, unary-left, lhs-left, left-base, base-primary, exp-unary}
-use Rattle.swc_grammar.specs.Grammar.{array-lit, object-lit, assign-level, assign-expr, assign-pattern, item-expr}
-use Rattle.swc_grammar.specs.Grammar.{item-spread, elements-end, elements-hole, elements-more, tail-end, tail-more}
-use Rattle.swc_grammar.specs.Grammar.{props-end, props-more, props-tail-end, props-tail-more, prop-spread, prop-short}
-use Rattle.swc_grammar.specs.Grammar.{prop-cover, prop-key, after-value, key-name, key-literal, key-computed, args-end}
-use Rattle.swc_grammar.specs.Grammar.{args-more, args-tail-end, args-tail-more, pat-bind, pat-array, pat-object}
-use Rattle.swc_grammar.specs.Grammar.{element-pat, element-default, pat-rest, pat-elements-end, pat-elements-hole}
-use Rattle.swc_grammar.specs.Grammar.{pat-elements-more, pat-elements-rest, pat-tail-end, pat-tail-more, pat-props-end}
-use Rattle.swc_grammar.specs.Grammar.{pat-props-more, pat-props-rest, pat-props-tail-end, pat-props-tail-more}
-use Rattle.swc_grammar.specs.Grammar.{pat-prop-key, pat-prop-short, pat-prop-default, params-end, params-more}
-use Rattle.swc_grammar.specs.Grammar.{params-rest, params-tail-end, params-tail-more, async-ident}
+use Rattle.swc_grammar.specs.Cover.{Role, target, binding, ◌>>>◌, as_pat, as_elements, as_element, as_props, as_prop, as_params, as_literal, is_pattern, is_assign, is_last, is_rest_of, stays}
+use Rattle.swc_grammar.specs.Grammar.{Production, ident-expr, unary-left, lhs-left, left-base, base-primary, exp-unary, array-lit, object-lit, assign-level, assign-expr, assign-pattern, item-expr, item-spread, elements-end, elements-hole, elements-more, tail-end, tail-more, props-end, props-more, props-tail-end, props-tail-more, prop-spread, prop-short, prop-cover, prop-key, after-value, key-name, key-literal, key-computed, args-end, args-more, args-tail-end, args-tail-more, pat-bind, pat-array, pat-object, element-pat, element-default, pat-rest, pat-elements-end, pat-elements-hole, pat-elements-more, pat-elements-rest, pat-tail-end, pat-tail-more, pat-props-end, pat-props-more, pat-props-rest, pat-props-tail-end, pat-props-tail-more, pat-prop-key, pat-prop-short, pat-prop-default, params-end, params-more, params-rest, params-tail-end, params-tail-more, async-ident}
 use Rattle.swc_grammar.specs.Reads.{Reads, by, gave, took, held, calm, calm-two, part}
-use Rattle.swc_grammar.specs.Clean.{first}
 use Rattle.swc_grammar.specs.Arrows.{async_name, goes_on_async, of_arrow, is_bindable}
-use Rattle.swc_grammar.proofs.Answers.{both}
-use Rattle.swc_grammar.proofs.Levels.{lift}
+use Rattle.swc_grammar.specs.{Scope.Scope, Scope.at_head, Names.Spelling, Clean.first}
 use Rattle.swc_grammar.proofs.Only.{lbracket-is, brace-is, equals-is, rbracket-is, rbrace-is, rparen-is, comma-is}
-use Rattle.swc_grammar.proofs.Firsts.{begins as begins-with}
-use Rattle.swc_grammar.proofs.Meets.{meets}
 use Rattle.swc_grammar.proofs.Induct.{Ran, ran-gave, ran-took, ran-held, ran-part, given-ran, every, follows-given}
+use Rattle.swc_grammar.proofs.{Answers.both, Levels.lift, Firsts.begins as begins-with, Meets.meets}
 use Rattle.swc_laws.specs.Bound.{is_free_name}
 use Rattle.swc_laws.proofs.Bindable.{reserved-in}
 use Rattle.swc_laws.proofs.Freed.{freed-name, free-target, free-shorthand, Refers, other-ref, async-ref}

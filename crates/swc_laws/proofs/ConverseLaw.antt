@@ -2,26 +2,17 @@
 -- of the same patterns.
 use Rattle.std.specs.Prelude.{◌≡◌, ℕ, Bool, true, not, ◌&&◌, List, ◌∷◌}
 use Rattle.std.proofs.Common.{refl, sym, ap, ◌∙◌}
-use Rattle.swc_context.specs.Reserved.{strict_binding_words}
-use Rattle.swc_context.specs.Texts.{is_one_of}
+use Rattle.swc_context.specs.{Reserved.strict_binding_words, Texts.is_one_of}
 use Rattle.swc_input.specs.declared.token.TokenAndSpan.{TokenAndSpan}
-use Rattle.swc_ast.specs.Tree.{Tree, node, Trees, nil, cons, erase, erase_all, ident, array_with, object_with, default}
-use Rattle.swc_ast.specs.Tree.{rest, key_value, binding_prop}
+use Rattle.swc_ast.specs.Tree.{Tree, node, Trees, nil, cons, erase, erase_all, ident, array_with, object_with, default, rest, key_value, binding_prop}
 use Rattle.swc_ast.specs.Trees.{items_of}
 use Rattle.swc_bodies.specs.Readings.{Hook}
-use Rattle.swc_grammar.specs.Scope.{Scope}
-use Rattle.swc_grammar.specs.Symbols.{Params, Heads}
-use Rattle.swc_grammar.specs.Tokens.{is_lparen}
 use Rattle.swc_grammar.specs.Patterns.{binds_names, all_bind_names, props_bind_names, prop_binds_names}
-use Rattle.swc_grammar.specs.Cover.{as_params, heads_ok}
-use Rattle.swc_grammar.specs.Grammar.{heads}
 use Rattle.swc_grammar.specs.Reads.{Reads, by, gave, took, held, part}
+use Rattle.swc_grammar.specs.{Scope.Scope, Symbols.Params, Symbols.Heads, Tokens.is_lparen, Cover.as_params, Cover.heads_ok, Grammar.heads}
 use Rattle.swc_grammar.proofs.Induct.{follows-given}
 use Rattle.swc_laws.specs.Bound.{is_free_name}
-use Rattle.swc_laws.proofs.Converse.{converse}
-use Rattle.swc_laws.proofs.CoverLaw.{all-both}
-use Rattle.swc_laws.proofs.Covered.{ident-erased}
-use Rattle.swc_laws.proofs.Freed.{free-target}
+use Rattle.swc_laws.proofs.{Converse.converse, CoverLaw.all-both, Covered.ident-erased, Freed.free-target}
 
 -- what patterns bind doesn't depend on places
 module _ {F C K : Type 0} (ok : List ℕ → Bool) where

@@ -2,68 +2,31 @@
 use Rattle.std.specs.Prelude.{◌≡◌, ℕ, Bool, true, false, not, ◌&&◌, if◌then◌else◌, List, ◌∷◌, Option, Some, None, codes}
 use Rattle.std.proofs.Common.{refl, sym, ap, subst, ◌∙◌}
 use Rattle.std.proofs.lemmas.Bool.{not-true}
-use Rattle.swc_context.specs.Reserved.{is_reserved_word}
-use Rattle.swc_context.specs.declared.operator.AssignOp.{AssignOp}
-use Rattle.swc_context.specs.declared.span.Span.{Span}
-use Rattle.swc_context.specs.declared.operator.AssignOp.TheVariants as write
+use Rattle.swc_context.specs.{Reserved.is_reserved_word, declared.operator.AssignOp.AssignOp, declared.operator.AssignOp.AssignOp as write, declared.span.Span.Span}
 use Rattle.swc_input.specs.declared.token.TokenAndSpan.{TokenAndSpan}
 use Rattle.swc_ast.specs.Targets.{is_target as is_simple_target}
-use Rattle.swc_ast.specs.Tree.{Tree, node, Trees, nil, cons, span_of, erase, erase_all, no_span, array, object, default}
-use Rattle.swc_ast.specs.Tree.{dots, key_value, spread}
-use Rattle.swc_ast.specs.Trees.{to, items_of, comma_of, hole_e, is_ident, prop_of, ident_e, listed, spread_e, assign_e}
-use Rattle.swc_ast.specs.Trees.{put_first, cover_e, short_e, array_e, object_e, key_value_e, member_e, name_e}
-use Rattle.swc_ast.specs.Trees.{private_e, computed_e, call_e}
+use Rattle.swc_ast.specs.Tree.{Tree, node, Trees, nil, cons, span_of, erase, erase_all, no_span, array, object, default, dots, key_value, spread}
+use Rattle.swc_ast.specs.Trees.{to, items_of, comma_of, hole_e, is_ident, prop_of, ident_e, listed, spread_e, assign_e, put_first, cover_e, short_e, array_e, object_e, key_value_e, member_e, name_e, private_e, computed_e, call_e}
 use Rattle.swc_ast.specs.Patterns.{array_p, object_p, default_p, rest_p, name_p, put_element, holds_ident}
 use Rattle.swc_bodies.specs.Readings.{Hook, is_brace}
 use Rattle.swc_grammar.specs.Scope.{Scope, at_head, inner}
 use Rattle.swc_grammar.specs.Rule.{Rule, gives, take, check, peek, peek_two, read, given, ◌>>=◌}
 use Rattle.swc_grammar.specs.Names.{Spelling}
-use Rattle.swc_grammar.specs.Symbols.{Symbol, Assign, Level, Unary, Lhs, Left, Base, Args, ArgsTail, Primary, Literal}
-use Rattle.swc_grammar.specs.Symbols.{Template, Elements, ElementsTail, Item, Props, PropsTail, Prop, AfterKey, Shell}
-use Rattle.swc_grammar.specs.Symbols.{Key, Answer, Pat, Element, Rest, PatElements, PatElementsTail, PatProps}
-use Rattle.swc_grammar.specs.Symbols.{PatPropsTail, Params, ParamsTail, Side, Body, Value}
-use Rattle.swc_grammar.specs.Tokens.{with_in, is_equals, is_rbracket, is_rbrace, is_rparen, is_dots, is_lbracket}
-use Rattle.swc_grammar.specs.Tokens.{is_await, await_ident_ok, is_comma}
-use Rattle.swc_grammar.specs.Parts.{reference, binding as binding_name, any_name, lit_of, regex_of, prefix_here}
-use Rattle.swc_grammar.specs.Parts.{update_here, operator_here, assign_here}
+use Rattle.swc_grammar.specs.Symbols.{Symbol, Assign, Level, Unary, Lhs, Left, Base, Args, ArgsTail, Primary, Literal, Template, Elements, ElementsTail, Item, Props, PropsTail, Prop, AfterKey, Shell, Key, Answer, Pat, Element, Rest, PatElements, PatElementsTail, PatProps, PatPropsTail, Params, ParamsTail, Side, Body, Value}
+use Rattle.swc_grammar.specs.Tokens.{with_in, is_equals, is_rbracket, is_rbrace, is_rparen, is_dots, is_lbracket, is_await, await_ident_ok, is_comma}
+use Rattle.swc_grammar.specs.Parts.{reference, binding as binding_name, any_name, lit_of, regex_of, prefix_here, update_here, operator_here, assign_here}
 use Rattle.swc_grammar.specs.Patterns.{binds_names, all_bind_names, props_bind_names, prop_binds_names}
-use Rattle.swc_grammar.specs.Cover.{Role, target, as_pat, as_elements, as_props, as_prop, takes_name, as_literal}
-use Rattle.swc_grammar.specs.Cover.{is_pattern, is_assign, is_plain_assign, is_rest_of, stays}
+use Rattle.swc_grammar.specs.Cover.{Role, target, as_pat, as_elements, as_props, as_prop, takes_name, as_literal, is_pattern, is_assign, is_plain_assign, is_rest_of, stays}
 use Rattle.swc_grammar.specs.Reads.{Reads, by, gave, took, held, part}
-use Rattle.swc_grammar.specs.Grammar.{Production, ident-expr, lit, paren-expr, unary-left, unary-op, exp-unary}
-use Rattle.swc_grammar.specs.Grammar.{base-primary, super-name, super-computed, super-call, import-meta, import-call}
-use Rattle.swc_grammar.specs.Grammar.{import-source, left-base, member-name, member-private, member-computed, call}
-use Rattle.swc_grammar.specs.Grammar.{args-end, args-more, args-tail-end, args-tail-more, lhs-left, new-bare, left-new}
-use Rattle.swc_grammar.specs.Grammar.{new-target, chain-name, chain-private, chain-computed, chain-call, tagged-tpl}
-use Rattle.swc_grammar.specs.Grammar.{primary-template, template, regex-alone, regex-slash, exp-op, primary-literal}
-use Rattle.swc_grammar.specs.Grammar.{this-expr, array-lit, elements-end, elements-hole, elements-more, tail-end}
-use Rattle.swc_grammar.specs.Grammar.{tail-more, item-expr, item-spread, fn-expr, class-expr, object-lit, props-end}
-use Rattle.swc_grammar.specs.Grammar.{props-more, props-tail-end, props-tail-more, prop-spread, prop-short, prop-cover}
-use Rattle.swc_grammar.specs.Grammar.{prop-key, prop-generator, prop-async, prop-async-generator, prop-getter}
-use Rattle.swc_grammar.specs.Grammar.{prop-setter, after-value, after-shell, shell-block, key-name, key-literal}
-use Rattle.swc_grammar.specs.Grammar.{key-computed, level-up, bin-op, private-expr, private-in, assign-level}
-use Rattle.swc_grammar.specs.Grammar.{update-postfix, update-prefix, await-expr, await-ident, cond-expr, assign-expr}
-use Rattle.swc_grammar.specs.Grammar.{yield-alone, yield-expr, yield-star, assign-pattern, pat-bind, pat-array}
-use Rattle.swc_grammar.specs.Grammar.{pat-object, element-default, pat-elements-end, pat-elements-hole}
-use Rattle.swc_grammar.specs.Grammar.{pat-elements-more, pat-elements-rest, pat-tail-end, pat-tail-more}
-use Rattle.swc_grammar.specs.Grammar.{pat-props-end, pat-props-more, pat-props-rest, pat-props-tail-end}
-use Rattle.swc_grammar.specs.Grammar.{pat-props-tail-more, pat-prop-key, pat-prop-short, pat-prop-default}
-use Rattle.swc_grammar.specs.Grammar.{async-ident, async-call, arrow-async-name, arrow-async-heads, arrow-name}
-use Rattle.swc_grammar.specs.Grammar.{arrow-heads, params-end, params-more, params-rest, params-tail-end}
-use Rattle.swc_grammar.specs.Grammar.{params-tail-more}
+use Rattle.swc_grammar.specs.Grammar.{Production, ident-expr, lit, paren-expr, unary-left, unary-op, exp-unary, base-primary, super-name, super-computed, super-call, import-meta, import-call, import-source, left-base, member-name, member-private, member-computed, call, args-end, args-more, args-tail-end, args-tail-more, lhs-left, new-bare, left-new, new-target, chain-name, chain-private, chain-computed, chain-call, tagged-tpl, primary-template, template, regex-alone, regex-slash, exp-op, primary-literal, this-expr, array-lit, elements-end, elements-hole, elements-more, tail-end, tail-more, item-expr, item-spread, fn-expr, class-expr, object-lit, props-end, props-more, props-tail-end, props-tail-more, prop-spread, prop-short, prop-cover, prop-key, prop-generator, prop-async, prop-async-generator, prop-getter, prop-setter, after-value, after-shell, shell-block, key-name, key-literal, key-computed, level-up, bin-op, private-expr, private-in, assign-level, update-postfix, update-prefix, await-expr, await-ident, cond-expr, assign-expr, yield-alone, yield-expr, yield-star, assign-pattern, pat-bind, pat-array, pat-object, element-default, pat-elements-end, pat-elements-hole, pat-elements-more, pat-elements-rest, pat-tail-end, pat-tail-more, pat-props-end, pat-props-more, pat-props-rest, pat-props-tail-end, pat-props-tail-more, pat-prop-key, pat-prop-short, pat-prop-default, async-ident, async-call, arrow-async-name, arrow-async-heads, arrow-name, arrow-heads, params-end, params-more, params-rest, params-tail-end, params-tail-more}
 use Rattle.swc_grammar.specs.Arrows.{arrow_name, async_name, async_param}
 use Rattle.swc_grammar.proofs.Answers.{only, inj, both}
 use Rattle.swc_grammar.proofs.Related.{bind-some, literal-is}
-use Rattle.swc_grammar.proofs.Induct.{Ran, ran-gave, ran-took, ran-held, ran-calm, ran-calm-two, ran-part, forget}
-use Rattle.swc_grammar.proofs.Induct.{given-ran, Gives, gives-given, gives-side, follows-given}
+use Rattle.swc_grammar.proofs.Induct.{Ran, ran-gave, ran-took, ran-held, ran-calm, ran-calm-two, ran-part, forget, given-ran, Gives, gives-given, gives-side, follows-given}
 use Rattle.swc_laws.specs.Bound.{may_be_bound, Spelled, is_spelled}
 use Rattle.swc_laws.proofs.Bindable.{bound-name, bound-async, bound-await, name-in, reserved-in}
 use Rattle.swc_laws.proofs.Closed.{is_open, unbound, link-closed, lit-closed, regex-closed}
-use Rattle.swc_laws.proofs.Covered.{joined, target-no-pattern, put-same, put-bound, holds-erased, elements-behind}
-use Rattle.swc_laws.proofs.Covered.{props-behind, never-last, rest-no-assign, plain-equals, Covers, CoversAll, alone}
-use Rattle.swc_laws.proofs.Covered.{with-default, Part, plain, dotted, PropPart, plain-prop, dotted-prop, Closes, bound}
-use Rattle.swc_laws.proofs.Covered.{PatLaw, AssignLaw, ItemLaw, ListLaw, PropLaw, PropsLaw, After, valued, method, Law}
-use Rattle.swc_laws.proofs.Covered.{element-of, pattern-of, rest-of, elements-law, props-law}
+use Rattle.swc_laws.proofs.Covered.{joined, target-no-pattern, put-same, put-bound, holds-erased, elements-behind, props-behind, never-last, rest-no-assign, plain-equals, Covers, CoversAll, alone, with-default, Part, plain, dotted, PropPart, plain-prop, dotted-prop, Closes, bound, PatLaw, AssignLaw, ItemLaw, ListLaw, PropLaw, PropsLaw, After, valued, method, Law, element-of, pattern-of, rest-of, elements-law, props-law}
 use Rattle.swc_laws.proofs.Within.{every-within}
 
 none-some : {A : Type 0} {o : Option A} {a : A} → o ≡ None → o ≡ Some a → ⊥

@@ -2,15 +2,10 @@
 use Rattle.std.specs.Prelude.{◌≡◌, true, List, ◌∷◌, Some}
 use Rattle.swc_context.specs.declared.span.Span.{Span}
 use Rattle.swc_input.specs.declared.token.TokenAndSpan.{TokenAndSpan}
-use Rattle.swc_ast.specs.Tree.{Tree, erase_all}
-use Rattle.swc_ast.specs.Trees.{items_of}
+use Rattle.swc_ast.specs.{Tree.Tree, Tree.erase_all, Trees.items_of}
 use Rattle.swc_bodies.specs.Readings.{Hook, LawfulHook}
-use Rattle.swc_grammar.specs.Scope.{Scope}
-use Rattle.swc_grammar.specs.Symbols.{Params, Heads}
-use Rattle.swc_grammar.specs.Patterns.{all_bind_names}
-use Rattle.swc_grammar.specs.Clean.{sym, run}
-use Rattle.swc_grammar.proofs.Complete.{complete}
-use Rattle.swc_grammar.proofs.Sound.{sound}
+use Rattle.swc_grammar.specs.{Scope.Scope, Symbols.Params, Symbols.Heads, Patterns.all_bind_names, Clean.sym, Clean.run}
+use Rattle.swc_grammar.proofs.{Complete.complete, Sound.sound}
 use Rattle.swc_laws.specs.Bound.{Spelled, is_kept_name}
 use Rattle.swc_laws.proofs.CoverLaw.{covering}
 

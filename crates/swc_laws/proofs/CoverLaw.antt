@@ -3,30 +3,22 @@
 use Rattle.std.specs.Prelude.{◌≡◌, ℕ, Bool, true, false, not, ◌&&◌, List, [], ◌∷◌, ◌++◌, Some, None}
 use Rattle.std.proofs.Common.{refl, sym, ap, subst, ◌∙◌}
 use Rattle.std.proofs.lemmas.List.{append_assoc}
-use Rattle.swc_context.specs.Reserved.{strict_binding_words}
-use Rattle.swc_context.specs.Texts.{is_one_of}
-use Rattle.swc_context.specs.declared.context.Context.{Context}
-use Rattle.swc_context.specs.declared.span.Span.{Span}
+use Rattle.swc_context.specs.{Reserved.strict_binding_words, Texts.is_one_of, declared.context.Context.Context, declared.span.Span.Span}
 use Rattle.swc_input.specs.declared.token.TokenAndSpan.{TokenAndSpan}
-use Rattle.swc_ast.specs.Tree.{Tree, node, Trees, nil, cons, span_of, ident, array_with, object_with, default, rest}
-use Rattle.swc_ast.specs.Tree.{hole, key_value, binding_prop}
+use Rattle.swc_ast.specs.Tree.{Tree, node, Trees, nil, cons, span_of, ident, array_with, object_with, default, rest, hole, key_value, binding_prop}
 use Rattle.swc_ast.specs.Trees.{items_of, is_ident, listed, to}
 use Rattle.swc_bodies.specs.Readings.{Hook}
-use Rattle.swc_grammar.specs.Scope.{Scope}
 use Rattle.swc_grammar.specs.Symbols.{Args, Params, ParamsTail, Heads}
 use Rattle.swc_grammar.specs.Tokens.{with_in, is_rparen, is_lparen}
 use Rattle.swc_grammar.specs.Patterns.{binds_names, all_bind_names, props_bind_names, prop_binds_names}
 use Rattle.swc_grammar.specs.Cover.{binding, as_params, heads_ok}
 use Rattle.swc_grammar.specs.Grammar.{params-end, params-more, params-rest, params-tail-end, params-tail-more, heads}
 use Rattle.swc_grammar.specs.Reads.{Reads, by, Follows, gave, took, held, part}
-use Rattle.swc_grammar.specs.Rule.{check, gives}
-use Rattle.swc_grammar.proofs.Answers.{both}
-use Rattle.swc_grammar.proofs.Firsts.{given-held}
-use Rattle.swc_grammar.proofs.Cut.{consumed}
+use Rattle.swc_grammar.specs.{Scope.Scope, Rule.check, Rule.gives}
+use Rattle.swc_grammar.proofs.{Answers.both, Firsts.given-held, Cut.consumed}
 use Rattle.swc_laws.specs.Covering.{Covering}
 use Rattle.swc_laws.specs.Bound.{may_be_bound, is_kept_name, Spelled}
-use Rattle.swc_laws.proofs.Covered.{CoversAll}
-use Rattle.swc_laws.proofs.Cover.{covered}
+use Rattle.swc_laws.proofs.{Covered.CoversAll, Cover.covered}
 
 -- names that pass two tests pass a third
 module _ {F C K : Type 0} (a b c : List ℕ → Bool)

@@ -1,11 +1,9 @@
 -- Trees as patterns, computed.
 use Rattle.std.specs.Prelude.{◌≡◌, ℕ, Bool, true, false, Some, None, codes}
 use Rattle.std.proofs.Common.{refl}
-use Rattle.swc_context.specs.declared.span.Span.{Span}
-use Rattle.swc_context.specs.declared.operator.AssignOp.TheVariants as write
+use Rattle.swc_context.specs.{declared.span.Span.Span, declared.operator.AssignOp.AssignOp as write}
 use Rattle.swc_ast.specs.Tree.{Tree, node, Trees, nil, cons, no_span, pat_expr, dots}
-use Rattle.swc_ast.specs.Trees.{ident_e, item_e, hole_e, spread_e, paren_e, member_e, name_e, assign_e, listed, num_e}
-use Rattle.swc_ast.specs.Trees.{array_e, object_e, cover_e, spread_prop_e}
+use Rattle.swc_ast.specs.Trees.{ident_e, item_e, hole_e, spread_e, paren_e, member_e, name_e, assign_e, listed, num_e, array_e, object_e, cover_e, spread_prop_e}
 use Rattle.swc_ast.specs.Patterns.{array_p, object_p, rest_p, name_p}
 use Rattle.swc_grammar.specs.Cover.{Role, target, binding, as_pat, as_params, as_literal}
 

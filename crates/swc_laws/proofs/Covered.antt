@@ -1,32 +1,20 @@
 -- What the cover law claims of each symbol, and how claims are put together.
 use Rattle.std.specs.Prelude.{◌≡◌, ℕ, Bool, true, false, List, ◌∷◌, Option, Some, None}
 use Rattle.std.proofs.Common.{refl, sym, ap, subst, ◌∙◌}
-use Rattle.swc_context.specs.declared.operator.AssignOp.{AssignOp}
-use Rattle.swc_context.specs.declared.span.Span.{Span}
-use Rattle.swc_context.specs.declared.operator.AssignOp.TheVariants as write
-use Rattle.swc_input.specs.declared.token.Token.{Token}
-use Rattle.swc_input.specs.declared.token.TokenAndSpan.{TokenAndSpan}
-use Rattle.swc_input.specs.declared.token.Token.TheVariants as token
+use Rattle.swc_context.specs.{declared.operator.AssignOp.AssignOp, declared.operator.AssignOp.AssignOp as write, declared.span.Span.Span}
+use Rattle.swc_input.specs.{declared.token.Token.Token, declared.token.Token.Token as token, declared.token.TokenAndSpan.TokenAndSpan}
 use Rattle.swc_ast.specs.Targets.{is_target as is_simple_target}
-use Rattle.swc_ast.specs.Tree.{Tree, node, Trees, nil, cons, span_of, erase, erase_all, no_span, ident, array_with}
-use Rattle.swc_ast.specs.Tree.{object_with, assign, rest, dots, hole}
+use Rattle.swc_ast.specs.Tree.{Tree, node, Trees, nil, cons, span_of, erase, erase_all, no_span, ident, array_with, object_with, assign, rest, dots, hole}
 use Rattle.swc_ast.specs.Trees.{items_of, comma_of, hole_e, is_ident, prop_of, value_e, last_comma}
 use Rattle.swc_ast.specs.Patterns.{rest_p, put_element, holds_ident}
 use Rattle.swc_bodies.specs.Readings.{Hook}
-use Rattle.swc_grammar.specs.Scope.{Scope, inner}
-use Rattle.swc_grammar.specs.Symbols.{Symbol, Assign, Level, Unary, Lhs, Left, Base, Args, ArgsTail, Primary, Literal}
-use Rattle.swc_grammar.specs.Symbols.{Template, Elements, ElementsTail, Item, Props, PropsTail, Prop, AfterKey, Shell}
-use Rattle.swc_grammar.specs.Symbols.{Answer, Pat, Element, Rest, PatElements, PatElementsTail, PatProps, PatPropsTail}
-use Rattle.swc_grammar.specs.Symbols.{PatProp, Params, ParamsTail}
-use Rattle.swc_grammar.specs.Tokens.{with_in, assign_of, is_equals, is_rbracket, is_rbrace, is_rparen, is_colon}
-use Rattle.swc_grammar.specs.Tokens.{is_dots}
+use Rattle.swc_grammar.specs.Symbols.{Symbol, Assign, Level, Unary, Lhs, Left, Base, Args, ArgsTail, Primary, Literal, Template, Elements, ElementsTail, Item, Props, PropsTail, Prop, AfterKey, Shell, Answer, Pat, Element, Rest, PatElements, PatElementsTail, PatProps, PatPropsTail, PatProp, Params, ParamsTail}
+use Rattle.swc_grammar.specs.Tokens.{with_in, assign_of, is_equals, is_rbracket, is_rbrace, is_rparen, is_colon, is_dots}
 use Rattle.swc_grammar.specs.Patterns.{binds_names, all_bind_names, props_bind_names, prop_binds_names}
-use Rattle.swc_grammar.specs.Cover.{Role, target, binding, as_pat, as_elements, as_element, as_props, as_prop}
-use Rattle.swc_grammar.specs.Cover.{is_pattern, is_assign, is_plain_assign, is_last, is_hole, is_rest_of}
+use Rattle.swc_grammar.specs.Cover.{Role, target, binding, as_pat, as_elements, as_element, as_props, as_prop, is_pattern, is_assign, is_plain_assign, is_last, is_hole, is_rest_of}
 use Rattle.swc_grammar.specs.Reads.{Reads, by, gave, took, held, part}
-use Rattle.swc_grammar.specs.Grammar.{element-pat, pat-rest}
-use Rattle.swc_grammar.proofs.Answers.{inj, both}
-use Rattle.swc_grammar.proofs.Related.{bind-some}
+use Rattle.swc_grammar.specs.{Scope.Scope, Scope.inner, Grammar.element-pat, Grammar.pat-rest}
+use Rattle.swc_grammar.proofs.{Answers.inj, Answers.both, Related.bind-some}
 use Rattle.swc_laws.specs.Bound.{may_be_bound}
 use Rattle.swc_laws.proofs.Closed.{is_open}
 

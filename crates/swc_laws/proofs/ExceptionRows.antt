@@ -2,25 +2,16 @@
 -- of the two alone.
 use Rattle.std.specs.Prelude.{◌≡◌, ℕ, ◌+◌, true, false, List, [], ◌∷◌, Some, None, codes}
 use Rattle.std.proofs.Common.{refl}
-use Rattle.swc_context.specs.declared.span.Span.{Span}
-use Rattle.swc_context.specs.declared.word.Keyword.TheVariants as keyword
-use Rattle.swc_context.specs.declared.word.Word.TheVariants as word
+use Rattle.swc_context.specs.{declared.span.Span.Span, declared.word.Keyword.Keyword as keyword, declared.word.Word.Word as word}
 use Rattle.swc_input.specs.declared.token.TokenAndSpan.{TokenAndSpan}
 use Rattle.swc_ast.specs.Patterns.{default_p}
 use Rattle.swc_ast.specs.Tree.{Tree, nil, cons}
 use Rattle.swc_ast.specs.Trees.{item_e, listed, items_of}
 use Rattle.swc_bodies.specs.Readings.{Hook, LawfulHook}
-use Rattle.swc_grammar.specs.Scope.{Scope, in_context}
-use Rattle.swc_grammar.specs.Symbols.{Args, Params}
-use Rattle.swc_grammar.specs.Tokens.{with_in}
-use Rattle.swc_grammar.specs.Patterns.{all_bind_names}
-use Rattle.swc_grammar.specs.Cover.{as_params, heads_ok}
 use Rattle.swc_grammar.specs.Clean.{Out, sym, run}
-use Rattle.swc_grammar.specs.Reads.{Reads}
-use Rattle.swc_grammar.proofs.Complete.{complete}
-use Rattle.swc_grammar.proofs.Sound.{sound}
-use Rattle.swc_grammar.proofs.Texts.{script, module_code, generator, place, name_at, word_at, num_at, close_at}
-use Rattle.swc_grammar.proofs.Texts.{equals_at, ident, num}
+use Rattle.swc_grammar.specs.{Scope.Scope, Scope.in_context, Symbols.Args, Symbols.Params, Tokens.with_in, Patterns.all_bind_names, Cover.as_params, Cover.heads_ok, Reads.Reads}
+use Rattle.swc_grammar.proofs.Texts.{script, module_code, generator, place, name_at, word_at, num_at, close_at, equals_at, ident, num}
+use Rattle.swc_grammar.proofs.{Complete.complete, Sound.sound}
 use Rattle.swc_laws.specs.Bound.{Spelled, is_kept_name, is_free_name}
 
 abbrev static_block : Scope

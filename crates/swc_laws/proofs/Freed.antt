@@ -1,25 +1,14 @@
 -- Bindings by free names are references, and valid simple targets.
 use Rattle.std.specs.Prelude.{◌≡◌, ℕ, Bool, true, false, not, ◌&&◌, ◌||◌, List, Option, Some, None, codes}
 use Rattle.std.proofs.Common.{refl, sym, ap, subst}
-use Rattle.std.proofs.lemmas.Bool.{not-true}
-use Rattle.std.proofs.Math.Bool.{and-false}
-use Rattle.swc_context.specs.Reserved.{is_reserved_shorthand, is_reserved_word, strict_binding_words, strict_reserved}
-use Rattle.swc_context.specs.Reserved.{strict_names}
+use Rattle.std.proofs.{lemmas.Bool.not-true, Math.Bool.and-false}
+use Rattle.swc_context.specs.Reserved.{is_reserved_shorthand, is_reserved_word, strict_binding_words, strict_reserved, strict_names}
 use Rattle.swc_context.specs.Words.{word_of, word_text, keyword_of, keyword_or_name}
-use Rattle.swc_context.specs.Texts.{is_text, is_one_of}
-use Rattle.swc_context.specs.declared.context.Context.{Context}
-use Rattle.swc_context.specs.declared.span.Span.{Span}
-use Rattle.swc_context.specs.declared.word.Keyword.{Keyword}
-use Rattle.swc_context.specs.declared.word.Word.{Word}
-use Rattle.swc_context.specs.declared.word.Keyword.TheVariants as keyword
-use Rattle.swc_context.specs.declared.word.Word.TheVariants as word
-use Rattle.swc_input.specs.declared.token.Token.{Token}
-use Rattle.swc_input.specs.declared.token.Token.TheVariants as token
-use Rattle.swc_grammar.specs.Scope.{Scope}
+use Rattle.swc_context.specs.{Texts.is_text, Texts.is_one_of, declared.context.Context.Context, declared.span.Span.Span, declared.word.Keyword.Keyword, declared.word.Keyword.Keyword as keyword, declared.word.Word.Word, declared.word.Word.Word as word}
+use Rattle.swc_input.specs.declared.token.Token.{Token, Token as token}
 use Rattle.swc_grammar.specs.Names.{Spelling, spelling, may_refer, may_bind}
-use Rattle.swc_grammar.specs.Parts.{reference, binding}
-use Rattle.swc_grammar.specs.Arrows.{async_name}
 use Rattle.swc_grammar.specs.Tokens.{include_in, with_in, is_await, is_put_off}
+use Rattle.swc_grammar.specs.{Scope.Scope, Parts.reference, Parts.binding, Arrows.async_name}
 use Rattle.swc_grammar.proofs.Answers.{only, inj, both, choose}
 use Rattle.swc_laws.specs.Bound.{is_free_name, is_free_word}
 

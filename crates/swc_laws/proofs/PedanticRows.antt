@@ -1,19 +1,13 @@
 -- Texts where the syntax is pedantic, computed.
 use Rattle.std.specs.Prelude.{◌≡◌, true, false, List, [], ◌∷◌, Some, None, ℕ, codes}
 use Rattle.std.proofs.Common.{refl}
-use Rattle.swc_context.specs.declared.operator.BinOpToken.TheVariants as sign
-use Rattle.swc_context.specs.declared.word.Keyword.TheVariants as keyword
-use Rattle.swc_context.specs.declared.word.Word.TheVariants as word
-use Rattle.swc_input.specs.declared.token.Token.TheVariants as token
-use Rattle.swc_input.specs.declared.token.TokenAndSpan.{TokenAndSpan}
+use Rattle.swc_context.specs.{declared.operator.BinOpToken.BinOpToken as sign, declared.word.Keyword.Keyword as keyword, declared.word.Word.Word as word}
+use Rattle.swc_input.specs.{declared.token.Token.Token as token, declared.token.TokenAndSpan.TokenAndSpan}
 use Rattle.swc_bodies.specs.Readings.{Hook}
-use Rattle.swc_ast.specs.Pedantic.{privates_ok, no_cover_left}
-use Rattle.swc_ast.specs.Tree.{Tree}
-use Rattle.swc_grammar.specs.Scope.{Scope}
-use Rattle.swc_grammar.specs.Tokens.{tk}
+use Rattle.swc_ast.specs.{Pedantic.privates_ok, Pedantic.no_cover_left, Tree.Tree}
+use Rattle.swc_grammar.specs.{Scope.Scope, Tokens.tk}
 use Rattle.swc_grammar.proofs.Computed.{answer}
-use Rattle.swc_grammar.proofs.Texts.{script, word_at, name_at, num_at, open_at, close_at, brace_at, unbrace_at, sign_at}
-use Rattle.swc_grammar.proofs.Texts.{bracket_at, unbracket_at, equals_at, comma_at, hash_at, dot_at, place}
+use Rattle.swc_grammar.proofs.Texts.{script, word_at, name_at, num_at, open_at, close_at, brace_at, unbrace_at, sign_at, bracket_at, unbracket_at, equals_at, comma_at, hash_at, dot_at, place}
 
 abbrev pedantic_script : Scope
 pedantic_script = record script { syntax = record script.syntax { pedantic = true } }

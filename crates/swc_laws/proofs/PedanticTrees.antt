@@ -3,8 +3,7 @@
 use Rattle.std.specs.Prelude.{◌≡◌, Bool, true, false, not, ◌&&◌, ◌||◌}
 use Rattle.std.proofs.Common.{refl, ap}
 use Rattle.swc_context.specs.declared.span.Span.{Span}
-use Rattle.swc_ast.specs.Pedantic.{privates_ok, all_privates_ok, no_cover_left, none_left, is_private_kind}
-use Rattle.swc_ast.specs.Pedantic.{is_cover_kind, takes_private_first, takes_private_behind}
+use Rattle.swc_ast.specs.Pedantic.{privates_ok, all_privates_ok, no_cover_left, none_left, is_private_kind, is_cover_kind, takes_private_first, takes_private_behind}
 use Rattle.swc_ast.specs.Tree.{Kind, Tree, node, Trees, nil, cons, erase, erase_all, args_with, array_with, object_with}
 use Rattle.swc_ast.specs.Trees.{unmarked, all_unmarked, unmarked_kind}
 use Rattle.swc_grammar.proofs.Answers.{both}

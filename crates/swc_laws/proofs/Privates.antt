@@ -3,52 +3,20 @@
 -- once.
 use Rattle.std.specs.Prelude.{◌≡◌, ℕ, Bool, true, false, not, ◌||◌, if◌then◌else◌, List, Option, Some, None}
 use Rattle.std.proofs.Common.{refl, ap, subst, ◌∙◌}
-use Rattle.swc_context.specs.declared.operator.BinaryOp.{BinaryOp}
-use Rattle.swc_context.specs.declared.operator.BinaryOp.TheVariants as binary
-use Rattle.swc_context.specs.declared.span.Span.{Span}
-use Rattle.swc_context.specs.declared.word.Word.TheVariants as word
-use Rattle.swc_input.specs.declared.token.Token.{Token}
-use Rattle.swc_input.specs.declared.token.Token.TheVariants as token
-use Rattle.swc_input.specs.declared.token.TokenAndSpan.{TokenAndSpan}
+use Rattle.swc_context.specs.{declared.operator.BinaryOp.BinaryOp, declared.operator.BinaryOp.BinaryOp as binary, declared.span.Span.Span, declared.word.Word.Word as word}
+use Rattle.swc_input.specs.{declared.token.Token.Token, declared.token.Token.Token as token, declared.token.TokenAndSpan.TokenAndSpan}
 use Rattle.swc_ast.specs.Patterns.{put_element}
 use Rattle.swc_ast.specs.Pedantic.{privates_ok, all_privates_ok, takes_private_first}
 use Rattle.swc_ast.specs.Tree.{Tree, node, Trees, nil, cons, span_of, item, spread, param, bin as bin_kind}
-use Rattle.swc_ast.specs.Trees.{to, bin_e, items_of, comma_of, at_place, method_e, value_e, prop_of, regex_e}
-use Rattle.swc_ast.specs.Trees.{trees_append, texts_of, exprs_of, held_expr, held_exprs, seq_of, paren_e, params_e}
-use Rattle.swc_ast.specs.Trees.{pattern_of, setter_parts, is_chain, chain_e, link_e, member_e, call_e, name_e}
-use Rattle.swc_ast.specs.Trees.{private_e, computed_e, hole_e}
+use Rattle.swc_ast.specs.Trees.{to, bin_e, items_of, comma_of, at_place, method_e, value_e, prop_of, regex_e, trees_append, texts_of, exprs_of, held_expr, held_exprs, seq_of, paren_e, params_e, pattern_of, setter_parts, is_chain, chain_e, link_e, member_e, call_e, name_e, private_e, computed_e, hole_e}
 use Rattle.swc_bodies.specs.Readings.{Hook}
 use Rattle.swc_grammar.specs.Scope.{Scope}
 use Rattle.swc_grammar.specs.Rule.{Rule, gives, never, take, check, peek, peek_two, read, hear, given, ◌>>=◌}
-use Rattle.swc_grammar.specs.Symbols.{Symbol, Exprs, Arguments, Args, ArgsTail, Parts, Elements, ElementsTail, Props}
-use Rattle.swc_grammar.specs.Symbols.{PropsTail, Shell, PatElements, PatElementsTail, PatProps, PatPropsTail, Params}
-use Rattle.swc_grammar.specs.Symbols.{ParamsTail, Heads, Answer, Body, Value, Side}
-use Rattle.swc_grammar.specs.Parts.{reference, binding, any_name, lit_of, regex_of, flags_ok, cooked_of, text_by}
-use Rattle.swc_grammar.specs.Parts.{text_of, key_lit_of, prefix_here, update_here, assign_here, operator_here}
+use Rattle.swc_grammar.specs.Symbols.{Symbol, Exprs, Arguments, Args, ArgsTail, Parts, Elements, ElementsTail, Props, PropsTail, Shell, PatElements, PatElementsTail, PatProps, PatPropsTail, Params, ParamsTail, Heads, Answer, Body, Value, Side}
+use Rattle.swc_grammar.specs.Parts.{reference, binding, any_name, lit_of, regex_of, flags_ok, cooked_of, text_by, text_of, key_lit_of, prefix_here, update_here, assign_here, operator_here}
 use Rattle.swc_grammar.specs.Arrows.{arrow_name, async_name, async_param}
 use Rattle.swc_grammar.specs.Cover.{as_literal, as_params, binding as binding_role}
-use Rattle.swc_grammar.specs.Grammar.{Production, ident-expr, async-ident, async-call, this-expr, lit}
-use Rattle.swc_grammar.specs.Grammar.{primary-literal, regex-alone, regex-slash, primary-template, template}
-use Rattle.swc_grammar.specs.Grammar.{parts-end, parts-more, array-lit, elements-end, elements-hole, elements-more}
-use Rattle.swc_grammar.specs.Grammar.{tail-end, tail-more, item-expr, item-spread, object-lit, props-end, props-more}
-use Rattle.swc_grammar.specs.Grammar.{props-tail-end, props-tail-more, prop-spread, prop-short, prop-cover, prop-key}
-use Rattle.swc_grammar.specs.Grammar.{prop-generator, prop-async, prop-async-generator, prop-getter, prop-setter}
-use Rattle.swc_grammar.specs.Grammar.{after-value, after-shell, shell-block, key-name, key-literal, key-computed}
-use Rattle.swc_grammar.specs.Grammar.{fn-expr, class-expr, paren-expr, lhs-left, new-bare, left-base, left-new}
-use Rattle.swc_grammar.specs.Grammar.{base-primary, new-target, super-name, super-computed, import-meta, super-call}
-use Rattle.swc_grammar.specs.Grammar.{import-call, import-source, member-name, member-private, member-computed, call}
-use Rattle.swc_grammar.specs.Grammar.{chain-name, chain-private, chain-computed, chain-call, tagged-tpl, arguments}
-use Rattle.swc_grammar.specs.Grammar.{args-end, args-more, args-tail-end, args-tail-more, unary-left, update-postfix}
-use Rattle.swc_grammar.specs.Grammar.{update-prefix, await-expr, await-ident, unary-op, exp-unary, exp-op, level-up}
-use Rattle.swc_grammar.specs.Grammar.{bin-op, private-expr, private-in, assign-level, cond-expr, assign-expr}
-use Rattle.swc_grammar.specs.Grammar.{yield-alone, yield-expr, yield-star, exprs-one, exprs-more, seq-expr}
-use Rattle.swc_grammar.specs.Grammar.{assign-pattern, pat-bind, pat-array, pat-object, element-pat, element-default}
-use Rattle.swc_grammar.specs.Grammar.{pat-rest, pat-elements-end, pat-elements-hole, pat-elements-more}
-use Rattle.swc_grammar.specs.Grammar.{pat-elements-rest, pat-tail-end, pat-tail-more, pat-props-end, pat-props-more}
-use Rattle.swc_grammar.specs.Grammar.{pat-props-rest, pat-props-tail-end, pat-props-tail-more, pat-prop-key}
-use Rattle.swc_grammar.specs.Grammar.{pat-prop-short, pat-prop-default, params-end, params-more, params-rest}
-use Rattle.swc_grammar.specs.Grammar.{params-tail-end, params-tail-more, heads, arrow-name, arrow-heads}
-use Rattle.swc_grammar.specs.Grammar.{arrow-async-name, arrow-async-heads, body-block, body-expr}
+use Rattle.swc_grammar.specs.Grammar.{Production, ident-expr, async-ident, async-call, this-expr, lit, primary-literal, regex-alone, regex-slash, primary-template, template, parts-end, parts-more, array-lit, elements-end, elements-hole, elements-more, tail-end, tail-more, item-expr, item-spread, object-lit, props-end, props-more, props-tail-end, props-tail-more, prop-spread, prop-short, prop-cover, prop-key, prop-generator, prop-async, prop-async-generator, prop-getter, prop-setter, after-value, after-shell, shell-block, key-name, key-literal, key-computed, fn-expr, class-expr, paren-expr, lhs-left, new-bare, left-base, left-new, base-primary, new-target, super-name, super-computed, import-meta, super-call, import-call, import-source, member-name, member-private, member-computed, call, chain-name, chain-private, chain-computed, chain-call, tagged-tpl, arguments, args-end, args-more, args-tail-end, args-tail-more, unary-left, update-postfix, update-prefix, await-expr, await-ident, unary-op, exp-unary, exp-op, level-up, bin-op, private-expr, private-in, assign-level, cond-expr, assign-expr, yield-alone, yield-expr, yield-star, exprs-one, exprs-more, seq-expr, assign-pattern, pat-bind, pat-array, pat-object, element-pat, element-default, pat-rest, pat-elements-end, pat-elements-hole, pat-elements-more, pat-elements-rest, pat-tail-end, pat-tail-more, pat-props-end, pat-props-more, pat-props-rest, pat-props-tail-end, pat-props-tail-more, pat-prop-key, pat-prop-short, pat-prop-default, params-end, params-more, params-rest, params-tail-end, params-tail-more, heads, arrow-name, arrow-heads, arrow-async-name, arrow-async-heads, body-block, body-expr}
 use Rattle.swc_grammar.specs.Reads.{Reads, by, Follows, gave, took, held, calm, calm-two, part, heard}
 use Rattle.swc_grammar.proofs.Answers.{inj, both, only}
 use Rattle.swc_laws.proofs.PedanticTrees.{privates-eased}

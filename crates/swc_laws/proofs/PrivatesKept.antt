@@ -2,16 +2,11 @@
 use Rattle.std.specs.Prelude.{◌≡◌, Bool, true, false, not, ◌&&◌, Option, Some, None, if◌then◌else◌}
 use Rattle.std.proofs.Common.{refl, subst}
 use Rattle.swc_context.specs.declared.span.Span.{Span}
-use Rattle.swc_ast.specs.Targets.{is_target as is_simple_target}
-use Rattle.swc_ast.specs.Pedantic.{privates_ok, all_privates_ok}
-use Rattle.swc_ast.specs.Tree.{Tree, node, Trees, nil, cons, span_of}
-use Rattle.swc_ast.specs.Tree.{ident, array_with, object_with, assign, member, super_prop, paren, hole, item, spread}
-use Rattle.swc_ast.specs.Tree.{shorthand, cover, key_value, pat_expr}
+use Rattle.swc_ast.specs.Tree.{Tree, node, Trees, nil, cons, span_of, ident, array_with, object_with, assign, member, super_prop, paren, hole, item, spread, shorthand, cover, key_value, pat_expr}
 use Rattle.swc_ast.specs.Trees.{is_ident, hole_e, key_value_e}
 use Rattle.swc_ast.specs.Patterns.{array_p, object_p, default_p, rest_p, name_p, put_element}
-use Rattle.swc_grammar.specs.Cover.{Role, target, binding, as_pat, as_elements, as_element, as_props, as_prop}
-use Rattle.swc_grammar.specs.Cover.{is_pattern, as_expr, as_literal, is_assign, is_plain_assign, is_last, is_hole}
-use Rattle.swc_grammar.specs.Cover.{is_rest_of, stays, takes_name}
+use Rattle.swc_ast.specs.{Targets.is_target as is_simple_target, Pedantic.privates_ok, Pedantic.all_privates_ok}
+use Rattle.swc_grammar.specs.Cover.{Role, target, binding, as_pat, as_elements, as_element, as_props, as_prop, is_pattern, as_expr, as_literal, is_assign, is_plain_assign, is_last, is_hole, is_rest_of, stays, takes_name}
 use Rattle.swc_grammar.proofs.Answers.{only, inj, both}
 use Rattle.swc_grammar.proofs.Related.{bind-some, literal-is}
 

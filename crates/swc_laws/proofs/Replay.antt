@@ -1,33 +1,23 @@
 -- The law of replay.
 use Rattle.std.specs.Prelude.{◌≡◌, Bool, true, false, not, ◌&&◌, ◌||◌, List, [], ◌∷◌, Option, Some, None}
 use Rattle.std.proofs.Common.{refl, sym, ap, subst, ◌∙◌}
-use Rattle.swc_context.specs.declared.operator.AssignOp.TheVariants as assign
-use Rattle.swc_context.specs.declared.operator.BinOpToken.TheVariants as sign
-use Rattle.swc_context.specs.Spans.{from_to}
-use Rattle.swc_context.specs.declared.span.Span.{Span}
-use Rattle.swc_input.specs.declared.token.Token.{Token}
-use Rattle.swc_input.specs.declared.token.Token.TheVariants as token
-use Rattle.swc_input.specs.declared.token.TokenAndSpan.{TokenAndSpan}
+use Rattle.swc_context.specs.{declared.operator.AssignOp.AssignOp as assign, declared.operator.BinOpToken.BinOpToken as sign, Spans.from_to, declared.span.Span.Span}
+use Rattle.swc_input.specs.{declared.token.Token.Token, declared.token.Token.Token as token, declared.token.TokenAndSpan.TokenAndSpan}
 use Rattle.swc_ast.specs.Tree.{Tree, span_of}
+use Rattle.swc_ast.specs.Trees.{to, at_place, regex_e}
 use Rattle.swc_bodies.specs.Readings.{Hook, LawfulHook, whole_span, is_brace, is_function}
 use Rattle.swc_bodies.specs.Slashes.{is_slash, is_regex, is_pair, is_found_at, without_slashes, ReplayHook}
-use Rattle.swc_grammar.specs.Scope.{Scope}
+use Rattle.swc_bodies.specs.Replaying.{pair, stays, left-out, regex-stays}
 use Rattle.swc_grammar.specs.Rule.{Rule, gives, never, take, check, peek, peek_two, read, hear, sees, sees_two, given, ◌>>=◌}
 use Rattle.swc_grammar.specs.Symbols.{Symbol, Primary, Answer, Body, function, class, block, Value, reading_of, Side}
 use Rattle.swc_grammar.specs.Grammar.{Production, await-expr, regex-alone, regex-slash}
-use Rattle.swc_grammar.specs.Tokens.{is_await, is_star, ends_operand, ends_await, begins_yielded, goes_on_yield}
+use Rattle.swc_grammar.specs.Tokens.{is_await, is_star, ends_operand, ends_await, begins_yielded, goes_on_yield, is_lparen, is_slash as is_slash_here}
 use Rattle.swc_grammar.specs.Arrows.{is_arrow, is_sign, is_bindable, before_of, goes_on_async, of_arrow}
-use Rattle.swc_bodies.specs.Replaying.{pair, stays, left-out, regex-stays}
-use Rattle.swc_bodies.proofs.Slashes.{kept-is}
-use Rattle.swc_grammar.specs.Parts.{regex_of, flags_ok}
 use Rattle.swc_grammar.specs.Reads.{Hears, Reads, by, Follows, gave, took, held, calm, calm-two, part, heard}
+use Rattle.swc_grammar.specs.{Scope.Scope, Parts.regex_of, Parts.flags_ok}
+use Rattle.swc_bodies.proofs.Slashes.{kept-is}
 use Rattle.swc_laws.specs.Replay.{is_joining, Joined, JoinedSide, Replay}
-use Rattle.swc_grammar.specs.Tokens.{is_lparen, is_slash as is_slash_here}
-use Rattle.swc_grammar.proofs.Bodies.{hears, hears-place}
-use Rattle.swc_grammar.proofs.Induct.{follows-given}
-use Rattle.swc_ast.specs.Trees.{to, at_place, regex_e}
-use Rattle.swc_grammar.proofs.Firsts.{given-held}
-use Rattle.swc_grammar.proofs.Answers.{inj, only}
+use Rattle.swc_grammar.proofs.{Bodies.hears, Bodies.hears-place, Induct.follows-given, Firsts.given-held, Answers.inj, Answers.only}
 
 -- Of a slash, and the regular expression found at it, a test that the slash doesn't pass isn't passed by the other.
 abbrev Dull : (TokenAndSpan → Bool) → Type 0

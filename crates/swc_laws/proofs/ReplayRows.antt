@@ -1,27 +1,14 @@
 -- Lists of tokens and what is kept of them, computed: those that replay, and why the law has each of its premises.
 use Rattle.std.specs.Prelude.{◌≡◌, ℕ, true, false, List, [], ◌∷◌, Some, codes}
 use Rattle.std.proofs.Common.{refl, ap}
-use Rattle.swc_context.specs.declared.operator.AssignOp.TheVariants as write
-use Rattle.swc_context.specs.declared.operator.BinOpToken.TheVariants as sign
-use Rattle.swc_context.specs.declared.operator.BinaryOp.TheVariants as binary
-use Rattle.swc_context.specs.declared.word.Keyword.TheVariants as keyword
-use Rattle.swc_context.specs.declared.word.Word.TheVariants as word
-use Rattle.swc_input.specs.declared.token.Token.TheVariants as token
-use Rattle.swc_input.specs.declared.token.TokenAndSpan.{TokenAndSpan}
+use Rattle.swc_context.specs.{declared.operator.AssignOp.AssignOp as write, declared.operator.BinOpToken.BinOpToken as sign, declared.operator.BinaryOp.BinaryOp as binary, declared.word.Keyword.Keyword as keyword, declared.word.Word.Word as word}
+use Rattle.swc_input.specs.{declared.token.Token.Token as token, declared.token.TokenAndSpan.TokenAndSpan, Kept.kept_of}
 use Rattle.swc_ast.specs.Tree.{Tree, nil, cons}
-use Rattle.swc_bodies.specs.Readings.{Hook}
-use Rattle.swc_bodies.specs.Slashes.{in_order, are_wanted}
-use Rattle.swc_input.specs.Kept.{kept_of}
-use Rattle.swc_grammar.specs.Parts.{repeated}
-use Rattle.swc_grammar.specs.Tokens.{tk}
 use Rattle.swc_ast.specs.Trees.{regex_e, call_e, item_e, await_e, yield_e, hole_e, assign_e}
-use Rattle.swc_grammar.specs.Reads.{Reads}
-use Rattle.swc_grammar.specs.Scope.{Scope}
-use Rattle.swc_grammar.specs.Symbols.{Expr}
-use Rattle.swc_grammar.proofs.Complete.{complete}
-use Rattle.swc_grammar.proofs.Computed.{answer}
-use Rattle.swc_grammar.proofs.Texts.{script, generator, tok, word_at, name_at, open_at, close_at, sign_at, dot_at, backquote_at}
-use Rattle.swc_grammar.proofs.Texts.{text_at, unbrace_at, place, ident, bin, member, key}
+use Rattle.swc_bodies.specs.{Readings.Hook, Slashes.in_order, Slashes.are_wanted}
+use Rattle.swc_grammar.specs.{Parts.repeated, Tokens.tk, Reads.Reads, Scope.Scope, Symbols.Expr}
+use Rattle.swc_grammar.proofs.Texts.{script, generator, tok, word_at, name_at, open_at, close_at, sign_at, dot_at, backquote_at, text_at, unbrace_at, place, ident, bin, member, key}
+use Rattle.swc_grammar.proofs.{Complete.complete, Computed.answer}
 
 -- `/`, and the regular expression `/a/`
 abbrev slash : ℕ → ℕ → TokenAndSpan

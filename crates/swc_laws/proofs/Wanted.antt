@@ -2,33 +2,19 @@
 -- their slashes: nothing that is read ends before an operand, and an operator is after something read.
 use Rattle.std.specs.Prelude.{◌≡◌, Bool, true, false, not, ◌&&◌, ◌||◌, List, [], ◌∷◌, ◌++◌, Option, Some, None}
 use Rattle.std.proofs.Common.{refl, sym, ap, subst, ◌∙◌}
-use Rattle.swc_context.specs.declared.operator.AssignOp.TheVariants as assign
-use Rattle.swc_context.specs.declared.operator.BinOpToken.TheVariants as sign
-use Rattle.swc_context.specs.declared.operator.UpdateOp.{UpdateOp}
-use Rattle.swc_context.specs.declared.span.Span.{Span}
-use Rattle.swc_context.specs.declared.word.Keyword.TheVariants as keyword
-use Rattle.swc_context.specs.declared.word.Word.TheVariants as word
-use Rattle.swc_input.specs.declared.token.Token.{Token}
-use Rattle.swc_input.specs.declared.token.Token.TheVariants as token
-use Rattle.swc_input.specs.declared.token.TokenAndSpan.{TokenAndSpan}
+use Rattle.std.proofs.lemmas.List.{append-nil}
+use Rattle.swc_context.specs.{declared.operator.AssignOp.AssignOp as assign, declared.operator.BinOpToken.BinOpToken as sign, declared.operator.UpdateOp.UpdateOp, declared.span.Span.Span, declared.word.Keyword.Keyword as keyword, declared.word.Word.Word as word}
+use Rattle.swc_input.specs.{declared.token.Token.Token, declared.token.Token.Token as token, declared.token.TokenAndSpan.TokenAndSpan, Kinds.is_hash}
 use Rattle.swc_ast.specs.Tree.{Tree}
-use Rattle.swc_bodies.specs.Readings.{Hook, LawfulHook}
-use Rattle.swc_bodies.specs.Replaying.{pair}
-use Rattle.swc_bodies.specs.Slashes.{is_slash, is_found_at, may_end, names_follow, wanted_behind, ends_well}
-use Rattle.swc_bodies.specs.Slashes.{EndsBodies, ReplayHook}
-use Rattle.swc_grammar.specs.Scope.{Scope}
+use Rattle.swc_bodies.specs.Slashes.{is_slash, is_found_at, may_end, names_follow, wanted_behind, ends_well, EndsBodies, ReplayHook}
+use Rattle.swc_bodies.specs.{Readings.Hook, Readings.LawfulHook, Replaying.pair}
 use Rattle.swc_grammar.specs.Rule.{Rule, gives, never, take, check, peek, peek_two, read, hear, given, ◌>>=◌}
 use Rattle.swc_grammar.specs.Symbols.{Symbol, Key, Prop, PatProp, Answer, Body, function, class, block, Value, reading_of, Side}
-use Rattle.swc_grammar.specs.Grammar.{Production, regex-slash}
-use Rattle.swc_grammar.specs.Arrows.{async_name}
-use Rattle.swc_grammar.specs.Names.{Spelling}
 use Rattle.swc_grammar.specs.Parts.{reference, binding, any_name, lit_of, regex_of, key_lit_of, update_here}
 use Rattle.swc_grammar.specs.Reads.{Hears, Reads, by, Follows, gave, took, held, calm, calm-two, part, heard}
+use Rattle.swc_grammar.specs.Tokens.{tk, is_this, is_rparen, is_rbracket, is_rbrace, is_backquote, is_target, is_meta, is_await, is_yield, is_dot}
+use Rattle.swc_grammar.specs.{Scope.Scope, Grammar.Production, Grammar.regex-slash, Arrows.async_name, Names.Spelling}
 use Rattle.swc_laws.specs.Replay.{is_joining, Joined, JoinedSide, ReplayWanted}
-use Rattle.swc_grammar.specs.Tokens.{tk, is_this, is_rparen, is_rbracket, is_rbrace, is_backquote, is_target, is_meta, is_await}
-use Rattle.swc_grammar.specs.Tokens.{is_yield, is_dot}
-use Rattle.swc_input.specs.Kinds.{is_hash}
-use Rattle.std.proofs.lemmas.List.{append-nil}
 use Rattle.swc_grammar.proofs.Answers.{both}
 use Rattle.swc_laws.proofs.Replay.{replay}
 

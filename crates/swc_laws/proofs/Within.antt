@@ -3,10 +3,9 @@ use Rattle.std.specs.Prelude.{List, [], ◌∷◌, ◌++◌}
 use Rattle.std.proofs.Common.{subst}
 use Rattle.swc_input.specs.declared.token.TokenAndSpan.{TokenAndSpan}
 use Rattle.swc_bodies.specs.Readings.{Hook}
-use Rattle.swc_grammar.specs.Scope.{Scope}
 use Rattle.swc_grammar.specs.Symbols.{Symbol, Answer, Side}
-use Rattle.swc_grammar.specs.Grammar.{Production}
 use Rattle.swc_grammar.specs.Reads.{Reads, by, Follows, gave, took, held, calm, calm-two, part, heard}
+use Rattle.swc_grammar.specs.{Scope.Scope, Grammar.Production}
 use Rattle.swc_grammar.proofs.Cut.{consumed}
 use Rattle.swc_grammar.proofs.Induct.{Ran, ran-gave, ran-took, ran-held, ran-calm, ran-calm-two, ran-part, ran-heard}
 

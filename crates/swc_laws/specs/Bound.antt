@@ -1,14 +1,7 @@
 -- Names that patterns bind, as the laws between patterns and expressions have them.
 use Rattle.std.specs.Prelude.{◌≡◌, ℕ, Bool, true, false, not, ◌&&◌, List, [], ◌∷◌, codes}
-use Rattle.swc_context.specs.Reserved.{strict_binding_words, strict_names}
-use Rattle.swc_context.specs.Texts.{is_text, is_one_of}
-use Rattle.swc_context.specs.Words.{word_of}
-use Rattle.swc_context.specs.declared.context.Context.{Context}
-use Rattle.swc_context.specs.declared.word.Word.{Word}
-use Rattle.swc_context.specs.declared.word.Word.TheVariants as word
-use Rattle.swc_input.specs.declared.token.Token.{Token}
-use Rattle.swc_input.specs.declared.token.TokenAndSpan.{TokenAndSpan}
-use Rattle.swc_input.specs.declared.token.Token.TheVariants as token
+use Rattle.swc_context.specs.{Reserved.strict_binding_words, Reserved.strict_names, Texts.is_text, Texts.is_one_of, Words.word_of, declared.context.Context.Context, declared.word.Word.Word, declared.word.Word.Word as word}
+use Rattle.swc_input.specs.{declared.token.Token.Token, declared.token.Token.Token as token, declared.token.TokenAndSpan.TokenAndSpan}
 
 -- What a reference spells is bound too, but for `await` in a static block, and `eval` and `arguments` in a module.
 abbrev pub is_kept_name : Context → List ℕ → Bool

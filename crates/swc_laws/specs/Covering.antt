@@ -3,13 +3,9 @@
 -- spelled as a reader spells them.
 use Rattle.std.specs.Prelude.{◌≡◌, true, List, ◌∷◌}
 use Rattle.swc_input.specs.declared.token.TokenAndSpan.{TokenAndSpan}
-use Rattle.swc_ast.specs.Tree.{Tree, erase_all}
-use Rattle.swc_ast.specs.Trees.{items_of}
+use Rattle.swc_ast.specs.{Tree.Tree, Tree.erase_all, Trees.items_of}
 use Rattle.swc_bodies.specs.Readings.{Hook}
-use Rattle.swc_grammar.specs.Patterns.{all_bind_names}
-use Rattle.swc_grammar.specs.Reads.{Reads}
-use Rattle.swc_grammar.specs.Scope.{Scope}
-use Rattle.swc_grammar.specs.Symbols.{Params, Heads}
+use Rattle.swc_grammar.specs.{Patterns.all_bind_names, Reads.Reads, Scope.Scope, Symbols.Params, Symbols.Heads}
 use Rattle.swc_laws.specs.Bound.{Spelled, is_kept_name}
 
 abbrev pub Covering : {F C K : Type 0} → Hook F C K → Type 0

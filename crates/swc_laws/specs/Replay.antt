@@ -1,14 +1,12 @@
 -- Replay: the tokens that are kept of a list are derived as that list was, where each regular expression that was found
 -- at a slash was read after this slash.
 use Rattle.std.specs.Prelude.{◌≡◌, Bool, true, false, not, ◌&&◌, List, []}
-use Rattle.swc_input.specs.declared.token.TokenAndSpan.{TokenAndSpan}
+use Rattle.swc_input.specs.{declared.token.TokenAndSpan.TokenAndSpan, Kept.kept_of}
 use Rattle.swc_bodies.specs.Readings.{Hook}
 use Rattle.swc_bodies.specs.Slashes.{is_found_at, in_order, are_wanted, EndsBodies}
-use Rattle.swc_input.specs.Kept.{kept_of}
-use Rattle.swc_grammar.specs.Scope.{Scope}
 use Rattle.swc_grammar.specs.Symbols.{Symbol, Answer, Side}
-use Rattle.swc_grammar.specs.Grammar.{Production, regex-slash}
 use Rattle.swc_grammar.specs.Reads.{Reads, by, Follows, gave, took, held, calm, calm-two, part, heard}
+use Rattle.swc_grammar.specs.{Scope.Scope, Grammar.Production, Grammar.regex-slash}
 
 -- the production of a regular expression after the slash at which it was found
 abbrev pub is_joining : {F C K : Type 0} {s : Symbol} {c : Scope} {r : Side F C K s} → Production s c r → Bool

@@ -1,8 +1,6 @@
 //! Laws of the grammar, as contracts of calls that do nothing.
 ghost use Rattle.swc_grammar.specs.Symbols.{Expr};
-ghost use Rattle.swc_laws.specs.Converse.{Converse};
-ghost use Rattle.swc_laws.specs.Covering.{Covering};
-ghost use Rattle.swc_laws.specs.Replay.{Replay, ReplayWanted};
+ghost use Rattle.swc_laws.specs.{Converse.Converse, Covering.Covering, Replay.Replay, Replay.ReplayWanted};
 
 use swc_bodies::bodies::{BodyForms, ReplayBodies};
 

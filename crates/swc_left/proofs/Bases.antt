@@ -1,46 +1,22 @@
 -- The clean parser's steps in what a left-hand side begins with (13.3), as the code goes them.
 use Rattle.std.specs.Prelude.{◌≡◌, Bool, true, false, if◌then◌else◌, List, [], ◌∷◌, Option, Some, None, codes}
 use Rattle.std.proofs.Common.{refl, ap, ◌∙◌}
-use Rattle.swc_context.specs.Texts.{is_text}
-use Rattle.swc_context.specs.declared.span.Span.{Span}
-use Rattle.swc_context.specs.declared.word.Keyword.TheVariants as keyword
-use Rattle.swc_context.specs.declared.word.Word.TheVariants as word_of
-use Rattle.swc_input.specs.declared.token.Token.{Token}
-use Rattle.swc_input.specs.declared.token.Token.TheVariants as token
-use Rattle.swc_input.specs.declared.token.TokenAndSpan.{TokenAndSpan}
-use Rattle.swc_input.specs.Kinds.{at_token, is_hash}
-use Rattle.swc_ast.specs.Tree.{Tree, span_of}
+use Rattle.swc_context.specs.{Texts.is_text, declared.span.Span.Span, declared.word.Keyword.Keyword as keyword, declared.word.Word.Word as word_of}
+use Rattle.swc_input.specs.{declared.token.Token.Token, declared.token.Token.Token as token, declared.token.TokenAndSpan.TokenAndSpan, Kinds.at_token, Kinds.is_hash}
 use Rattle.swc_ast.specs.Trees.{to, items_of, call_e, super_e, import_e, meta_e}
-use Rattle.swc_ast.specs.declared.expr.Import.{Import}
-use Rattle.swc_ast.specs.declared.expr.ImportPhase.TheVariants as phase
-use Rattle.swc_ast.specs.declared.expr.MetaPropKind.TheVariants as kind
+use Rattle.swc_ast.specs.{Tree.Tree, Tree.span_of, declared.expr.Import.Import, declared.expr.ImportPhase.ImportPhase as phase, declared.expr.MetaPropKind.MetaPropKind as kind}
 use Rattle.swc_bodies.specs.Readings.{Hook}
-use Rattle.swc_grammar.specs.Scope.{Scope}
 use Rattle.swc_grammar.specs.Rule.{gives, take, check, read, given, must, ◌>>=◌ as ◌▸◌, ◌>>◌}
 use Rattle.swc_grammar.specs.Symbols.{Expr, Base, Args, Primary}
-use Rattle.swc_grammar.specs.Tokens.{tk, with_in, is_new, is_dot, is_rbracket, is_lparen, is_super, is_meta}
-use Rattle.swc_grammar.specs.Tokens.{is_source, super_ok}
-use Rattle.swc_grammar.specs.Parts.{any_name, import_args_ok}
-use Rattle.swc_grammar.specs.Names.{Spelling, may_name}
-use Rattle.swc_grammar.specs.Clean.{Out, and_then, first, second, sym as at, plan, exec, chosen, super_base}
-use Rattle.swc_grammar.specs.Clean.{import_base, import_dot as import_dotted, run}
+use Rattle.swc_grammar.specs.Tokens.{tk, with_in, is_new, is_dot, is_rbracket, is_lparen, is_super, is_meta, is_source, super_ok}
+use Rattle.swc_grammar.specs.Clean.{Out, and_then, first, second, sym as at, plan, exec, chosen, super_base, import_base, import_dot as import_dotted, run}
 use Rattle.swc_grammar.specs.Words.{◌>>=◌, one, word}
-use Rattle.swc_grammar.proofs.Complete.{last}
-use Rattle.swc_grammar.proofs.Knot.{knot}
-use Rattle.swc_left.specs.Bases.{here_by, super_here, head_paren, head_call, head_dot, super_head, callee_of}
-use Rattle.swc_left.specs.Bases.{import_callee, import_meta, import_member, import_dot, import_head, allowed}
-use Rattle.swc_left.specs.Bases.{super_named, super_name_tail, super_in, super_close, callee_node, import_node}
-use Rattle.swc_left.specs.Bases.{super_computed_tail, super_args_tail, super_left, super_tail, super_by, import_args}
-use Rattle.swc_left.specs.Bases.{import_left, import_tail, plain_base}
-use Rattle.swc_left.specs.declared.base.ImportHead.TheVariants as begun
-use Rattle.swc_left.specs.declared.base.SuperHead.TheVariants as head
-use Rattle.swc_steps.specs.Keys.{expected}
-use Rattle.swc_steps.specs.Args.{args_inside}
-use Rattle.swc_steps.specs.Lists.{eaten}
-use Rattle.swc_steps.specs.Readers.{whole_inside}
-use Rattle.swc_steps.proofs.Keys.{then_calls, then_token}
-use Rattle.swc_steps.proofs.Lists.{calls, bind_same}
-use Rattle.swc_steps.proofs.Words.{is_same}
+use Rattle.swc_grammar.specs.{Scope.Scope, Parts.any_name, Parts.import_args_ok, Names.Spelling, Names.may_name}
+use Rattle.swc_grammar.proofs.{Complete.last, Knot.knot}
+use Rattle.swc_left.specs.Bases.{here_by, super_here, head_paren, head_call, head_dot, super_head, callee_of, import_callee, import_meta, import_member, import_dot, import_head, allowed, super_named, super_name_tail, super_in, super_close, callee_node, import_node, super_computed_tail, super_args_tail, super_left, super_tail, super_by, import_args, import_left, import_tail, plain_base}
+use Rattle.swc_left.specs.{declared.base.ImportHead.ImportHead as begun, declared.base.SuperHead.SuperHead as head}
+use Rattle.swc_steps.specs.{Keys.expected, Args.args_inside, Lists.eaten, Readers.whole_inside}
+use Rattle.swc_steps.proofs.{Keys.then_calls, Keys.then_token, Lists.calls, Lists.bind_same, Words.is_same}
 
 -- the words `meta` and `source` are two
 no_source : (t : Token) → is_meta t ≡ true → is_source t ≡ false

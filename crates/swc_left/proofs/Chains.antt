@@ -1,21 +1,16 @@
 -- A chain of links, of which the next is read.
 use Rattle.std.proofs.Common.{◌≡◌, ℕ, Bool, ◌≤◌, Option, Some, Ok, Err, refl, arith}
 use Rattle.swc_context.specs.declared.error.Error.{Error}
-use Rattle.swc_input.specs.declared.buffer.Buffer.{Buffer}
-use Rattle.swc_input.specs.Buffer.{to_come}
-use Rattle.swc_input.specs.Source.{Model}
-use Rattle.swc_ast.specs.Tree.{Tree}
-use Rattle.swc_ast.specs.declared.spanned.Spanned.{Ghosts}
+use Rattle.swc_input.specs.{declared.buffer.Buffer.Buffer, Buffer.to_come, Source.Model}
+use Rattle.swc_ast.specs.{Tree.Tree, declared.spanned.Spanned.Ghosts}
 use Rattle.swc_bodies.specs.Readings.{Hook}
 use Rattle.swc_grammar.specs.Clean.{links, run}
 use Rattle.swc_left.specs.declared.left.LinkHead.{LinkHead}
 use Rattle.swc_left.specs.Links.{link_head, link_tail, links_by}
 use Rattle.swc_left.proofs.Links.{links_splits}
-use Rattle.swc_nodes.specs.NodeParts.{expr_part}
 use Rattle.swc_nodes.specs.GrowingNodes.{first_at, From, Grows}
-use Rattle.swc_nodes.specs.declared.node.ExprId.{ExprId}
-use Rattle.swc_nodes.proofs.Held.{from-down}
-use Rattle.swc_nodes.proofs.Standing.{grows-then}
+use Rattle.swc_nodes.specs.{NodeParts.expr_part, declared.node.ExprId.ExprId}
+use Rattle.swc_nodes.proofs.{Held.from-down, Standing.grows-then}
 use Rattle.swc_steps.specs.declared.productions.Productions.{Productions}
 use Rattle.swc_steps.specs.Parsing.{On, Produces, GoesOn, itself, tree_of}
 use Rattle.swc_steps.proofs.Making as m

@@ -3,11 +3,9 @@ use Rattle.std.specs.Prelude.{◌≡◌, Bool, true, false, not, ◌&&◌, ◌||
 use Rattle.std.proofs.Common.{refl, ap, ◌∙◌}
 use Rattle.swc_context.specs.declared.span.Span.{Span}
 use Rattle.swc_ast.specs.Parts.{item_of, item_tree, item_trees}
-use Rattle.swc_ast.specs.Tree.{Tree}
 use Rattle.swc_ast.specs.Trees.{listed, is_spread, no_spread, is_few}
-use Rattle.swc_ast.specs.declared.expr.ExprOrSpread.{ExprOrSpread}
-use Rattle.swc_grammar.specs.Parts.{import_args_ok}
-use Rattle.swc_grammar.specs.Scope.{Scope}
+use Rattle.swc_ast.specs.{Tree.Tree, declared.expr.ExprOrSpread.ExprOrSpread}
+use Rattle.swc_grammar.specs.{Parts.import_args_ok, Scope.Scope}
 use Rattle.swc_left.specs.Counted.{is_plain, few_items, counted_ok}
 
 and_true : (a : Bool) → (a && true) ≡ a

@@ -1,56 +1,24 @@
 -- The clean parser's steps in left-hand sides (13.3), as the code goes them.
-use Rattle.std.specs.Prelude.{◌≡◌, ℕ, Bool, true, false, not, ◌&&◌, ◌||◌, if◌then◌else◌, List, [], ◌∷◌, Option, Some}
-use Rattle.std.specs.Prelude.{None}
+use Rattle.std.specs.Prelude.{◌≡◌, ℕ, Bool, true, false, not, ◌&&◌, ◌||◌, if◌then◌else◌, List, [], ◌∷◌, Option, Some, None}
 use Rattle.std.proofs.Common.{refl, ap, ◌∙◌}
-use Rattle.swc_context.specs.Spans.{from_to}
-use Rattle.swc_context.specs.Words.{word_text}
-use Rattle.swc_context.specs.declared.span.BytePos.{BytePos}
-use Rattle.swc_context.specs.declared.span.Span.{Span}
-use Rattle.swc_input.specs.declared.token.Token.{Token}
-use Rattle.swc_input.specs.declared.token.Token.TheVariants as token
-use Rattle.swc_input.specs.declared.token.TokenAndSpan.{TokenAndSpan}
-use Rattle.swc_input.specs.Kinds.{at_token, is_hash}
-use Rattle.swc_context.specs.declared.word.Keyword.TheVariants as keyword
-use Rattle.swc_context.specs.declared.word.Word.TheVariants as word_of
-use Rattle.swc_ast.specs.declared.expr.MetaPropKind.TheVariants as kind
-use Rattle.swc_ast.specs.Tree.{Tree, span_of}
-use Rattle.swc_ast.specs.Trees.{to, items_of, name_e, private_e, computed_e, member_e, call_e, link_e, is_chain}
-use Rattle.swc_ast.specs.Trees.{new_e, meta_e, tpl_e, tagged_e}
+use Rattle.swc_context.specs.{Spans.from_to, Words.word_text, declared.span.BytePos.BytePos, declared.span.Span.Span, declared.word.Keyword.Keyword as keyword, declared.word.Word.Word as word_of}
+use Rattle.swc_input.specs.{declared.token.Token.Token, declared.token.Token.Token as token, declared.token.TokenAndSpan.TokenAndSpan, Kinds.at_token, Kinds.is_hash}
+use Rattle.swc_ast.specs.Trees.{to, items_of, name_e, private_e, computed_e, member_e, call_e, link_e, is_chain, new_e, meta_e, tpl_e, tagged_e}
+use Rattle.swc_ast.specs.{declared.expr.MetaPropKind.MetaPropKind as kind, Tree.Tree, Tree.span_of}
 use Rattle.swc_bodies.specs.Readings.{Hook}
-use Rattle.swc_grammar.specs.Scope.{Scope, inner}
-use Rattle.swc_grammar.specs.Rule.{gives, take, check, given, symbol, must, token as token_of, one as one_of}
-use Rattle.swc_grammar.specs.Rule.{◌>>=◌ as ◌▸◌, ◌>>◌}
+use Rattle.swc_grammar.specs.Rule.{gives, take, check, given, symbol, must, token as token_of, one as one_of, ◌>>=◌ as ◌▸◌, ◌>>◌}
 use Rattle.swc_grammar.specs.Symbols.{Expr, Lhs, Left, Base, Args, Parts, Side}
-use Rattle.swc_grammar.specs.Tokens.{tk, with_in, is_dot, is_rbracket, is_new, is_super, is_import, is_target}
-use Rattle.swc_grammar.specs.Tokens.{new_target_ok}
-use Rattle.swc_grammar.specs.Parts.{any_name}
+use Rattle.swc_grammar.specs.Tokens.{tk, with_in, is_dot, is_rbracket, is_new, is_super, is_import, is_target, new_target_ok}
 use Rattle.swc_grammar.specs.Names.{Spelling, spelling, is_joined, may_name}
-use Rattle.swc_grammar.specs.Clean.{Out, first, second, sym as at, links, constructs, constructed, Plan, plan, exec}
-use Rattle.swc_grammar.specs.Clean.{link, linked, begins_new, run}
+use Rattle.swc_grammar.specs.Clean.{Out, first, second, sym as at, links, constructs, constructed, Plan, plan, exec, link, linked, begins_new, run}
 use Rattle.swc_grammar.specs.Words.{◌>>=◌, one, word}
-use Rattle.swc_grammar.proofs.Complete.{last}
-use Rattle.swc_grammar.proofs.Knot.{knot}
-use Rattle.swc_grammar.proofs.Members.{lhs_parts as members}
-use Rattle.swc_grammar.proofs.Only.{new-is}
-use Rattle.swc_grammar.proofs.Rules.{exec-bind}
-use Rattle.swc_left.specs.declared.left.Link.{Link}
-use Rattle.swc_left.specs.declared.left.LinkHead.{LinkHead}
-use Rattle.swc_left.specs.declared.left.LinkHead.TheVariants as head
-use Rattle.swc_steps.specs.Keys.{expected}
-use Rattle.swc_left.specs.Links.{link_here, chain_dot, chain_head, head_behind, head_of, link_head, link_tail}
-use Rattle.swc_left.specs.Links.{links_by, member_name, dot_tail, target_tail, computed_close, computed_tail}
-use Rattle.swc_left.specs.Links.{call_node, new_node, new_args_tail, construct_node, construct_of, construct_tail}
-use Rattle.swc_left.specs.Links.{new_tail, new_lhs, call_tail}
-use Rattle.swc_steps.specs.Args.{hash_name, args_inside}
-use Rattle.swc_left.specs.Templates.{tagged_node, tagged_tail}
-use Rattle.swc_left.specs.Bases.{plain_base}
-use Rattle.swc_steps.specs.Lists.{eaten}
-use Rattle.swc_steps.specs.Readers.{whole_inside}
+use Rattle.swc_grammar.specs.{Scope.Scope, Scope.inner, Parts.any_name}
+use Rattle.swc_grammar.proofs.{Complete.last, Knot.knot, Members.lhs_parts as members, Only.new-is, Rules.exec-bind}
+use Rattle.swc_left.specs.Links.{link_here, chain_dot, chain_head, head_behind, head_of, link_head, link_tail, links_by, member_name, dot_tail, target_tail, computed_close, computed_tail, call_node, new_node, new_args_tail, construct_node, construct_of, construct_tail, new_tail, new_lhs, call_tail}
+use Rattle.swc_left.specs.{declared.left.Link.Link, declared.left.LinkHead.LinkHead, declared.left.LinkHead.LinkHead as head, Templates.tagged_node, Templates.tagged_tail, Bases.plain_base}
+use Rattle.swc_steps.specs.{Keys.expected, Args.hash_name, Args.args_inside, Lists.eaten, Readers.whole_inside}
 use Rattle.swc_left.proofs.Bases.{base_splits}
-use Rattle.swc_steps.proofs.Keys.{then_calls, then_token}
-use Rattle.swc_steps.proofs.Lists.{calls, binds}
-use Rattle.swc_steps.proofs.Args.{neither}
-use Rattle.swc_steps.proofs.Steps.{inner_is}
+use Rattle.swc_steps.proofs.{Keys.then_calls, Keys.then_token, Lists.calls, Lists.binds, Args.neither, Steps.inner_is}
 
 abbrev new_token : Token
 new_token = token.Word (word_of.Keyword keyword.New)

@@ -1,16 +1,8 @@
 -- Which link comes next, by the current token, and by the one after a `?`.
 use Rattle.std.proofs.Common.{◌≡◌, Bool, true, false, Option, Some, None, refl, sym, ap, ◌∙◌}
 use Rattle.swc_context.specs.declared.error.Error.{Error}
-use Rattle.swc_input.specs.declared.buffer.Buffer.{Buffer}
-use Rattle.swc_input.specs.declared.token.Token.{Token}
-use Rattle.swc_input.specs.declared.token.Token.TheVariants as token
-use Rattle.swc_input.specs.declared.token.TokenAndSpan.{TokenAndSpan}
-use Rattle.swc_input.specs.Plain.{plain, plain_token}
-use Rattle.swc_input.specs.Source.{Model, Laws}
-use Rattle.swc_input.specs.Kinds.{at_token}
-use Rattle.swc_grammar.specs.Clean.{first}
-use Rattle.swc_grammar.specs.Tokens.{is_dot, is_question}
-use Rattle.swc_grammar.specs.Words.{rest}
+use Rattle.swc_input.specs.{declared.buffer.Buffer.Buffer, declared.token.Token.Token, declared.token.Token.Token as token, declared.token.TokenAndSpan.TokenAndSpan, Plain.plain, Plain.plain_token, Source.Model, Source.Laws, Kinds.at_token}
+use Rattle.swc_grammar.specs.{Clean.first, Tokens.is_dot, Tokens.is_question, Words.rest}
 use Rattle.swc_grammar.proofs.Only.{question-is}
 use Rattle.swc_left.specs.declared.left.Link.{Link}
 use Rattle.swc_left.specs.Links.{link_at, chain_at, link_here}

@@ -1,47 +1,27 @@
 -- The clean parser's steps in templates (13.2.8, 13.3.11), as the code goes them.
-use Rattle.std.proofs.Common.{◌≡◌, ◌≢◌, ℕ, Bool, true, false, not, if◌then◌else◌, List, [], ◌∷◌, Option, Some, None}
-use Rattle.std.proofs.Common.{Result, Ok, Err, IsSome, refl, sym, ap, ◌∙◌}
-use Rattle.swc_context.specs.declared.error.Error.{Error}
-use Rattle.swc_context.specs.declared.error.SyntaxError.{SyntaxError}
+use Rattle.std.proofs.Common.{◌≡◌, ◌≢◌, ℕ, Bool, true, false, not, if◌then◌else◌, List, [], ◌∷◌, Option, Some, None, Result, Ok, Err, IsSome, refl, sym, ap, ◌∙◌}
+use Rattle.swc_context.specs.{declared.error.Error.Error, declared.error.SyntaxError.SyntaxError, declared.span.Span.Span}
 use Rattle.swc_context.specs.declared.error.SyntaxError.TheVariants as kind
-use Rattle.swc_context.specs.declared.span.Span.{Span}
-use Rattle.swc_input.specs.declared.buffer.Buffer.{Buffer}
-use Rattle.swc_input.specs.declared.token.Token.{Token}
-use Rattle.swc_input.specs.declared.token.Token.TheVariants as token
-use Rattle.swc_input.specs.declared.token.TokenAndSpan.{TokenAndSpan}
-use Rattle.swc_input.specs.Buffer.{Bumped, current}
-use Rattle.swc_input.specs.Kinds.{at_token}
-use Rattle.swc_input.specs.Laws.{held_some}
 use Rattle.swc_input.specs.Plain.{plain, plain_cooked, plain_token}
-use Rattle.swc_input.specs.Recording.{counted_kind}
-use Rattle.swc_input.specs.Source.{Model, Laws}
-use Rattle.swc_ast.specs.Parts.{quasi_tree}
+use Rattle.swc_input.specs.{declared.buffer.Buffer.Buffer, declared.token.Token.Token, declared.token.Token.Token as token, declared.token.TokenAndSpan.TokenAndSpan, Buffer.Bumped, Buffer.current, Kinds.at_token, Laws.held_some, Recording.counted_kind, Source.Model, Source.Laws}
 use Rattle.swc_ast.specs.Tree.{Tree, Trees, nil, cons, span_of}
-use Rattle.swc_ast.specs.Trees.{to, trees_append, parts_e, put_part, texts_of, exprs_of, tpl_e, tagged_e}
-use Rattle.swc_ast.specs.Trees.{is_chain}
+use Rattle.swc_ast.specs.Trees.{to, trees_append, parts_e, put_part, texts_of, exprs_of, tpl_e, tagged_e, is_chain}
+use Rattle.swc_ast.specs.{Parts.quasi_tree, declared.expr.TplElement.TplElement}
 use Rattle.swc_bodies.specs.Readings.{Hook}
-use Rattle.swc_grammar.specs.Scope.{Scope}
 use Rattle.swc_grammar.specs.Rule.{gives, take, check, given, read, ◌>>=◌ as ◌▸◌}
 use Rattle.swc_grammar.specs.Parts.{cooked_of, text_by, text_of}
 use Rattle.swc_grammar.specs.Symbols.{Expr, Template, Parts, Side}
 use Rattle.swc_grammar.specs.Tokens.{with_in, is_backquote, is_dollar_brace, is_rbrace}
-use Rattle.swc_grammar.specs.Grammar.{parts-end, parts-more}
 use Rattle.swc_grammar.specs.Clean.{Out, and_then, first, sym as at, pick, chosen, plan, exec, run}
 use Rattle.swc_grammar.specs.Words.{◌>>=◌, rest, one}
+use Rattle.swc_grammar.specs.{Scope.Scope, Grammar.parts-end, Grammar.parts-more}
 use Rattle.swc_grammar.proofs.Knot.{knot}
 use Rattle.swc_nodes.proofs.Lists.{trees_append-assoc, trees_append-nil}
-use Rattle.swc_steps.specs.Keys.{expected}
-use Rattle.swc_steps.specs.Lists.{eaten}
 use Rattle.swc_steps.specs.Parsing.{Refuses, seen, seen_of}
-use Rattle.swc_steps.specs.Readers.{whole_inside}
-use Rattle.swc_ast.specs.declared.expr.TplElement.{TplElement}
-use Rattle.swc_left.specs.Templates.{is_template, quasi_with, quasi_by, quasi_of, text_at, tpl_element, parts_before}
-use Rattle.swc_left.specs.Templates.{tagged_node, tpl_end_by}
-use Rattle.swc_left.specs.Templates.{tpl_end, tpl_expr_close, tpl_expr_tail, parts_behind, parts_by, parts_after}
-use Rattle.swc_left.specs.Templates.{template_tail}
-use Rattle.swc_steps.proofs.Keys.{then_calls, then_token}
+use Rattle.swc_steps.specs.{Keys.expected, Lists.eaten, Readers.whole_inside}
+use Rattle.swc_left.specs.Templates.{is_template, quasi_with, quasi_by, quasi_of, text_at, tpl_element, parts_before, tagged_node, tpl_end_by, tpl_end, tpl_expr_close, tpl_expr_tail, parts_behind, parts_by, parts_after, template_tail}
 use Rattle.swc_steps.proofs.Lists.{calls, binds, bind_same}
-use Rattle.swc_steps.proofs.Steps.{took_leads, spent}
+use Rattle.swc_steps.proofs.{Keys.then_calls, Keys.then_token, Steps.took_leads, Steps.spent}
 
 -- the error of a bad escape, as it counts, isn't that of a failed parser
 pub counted_apart : (k : SyntaxError) → counted_kind k ≢ kind.ParserFailed

@@ -2,29 +2,15 @@
 use Rattle.std.specs.Prelude.{ℕ, Bool, true, false, if◌then◌else◌, List, Option, Some, None}
 use Rattle.swc_context.specs.declared.span.Span.{Span}
 use Rattle.swc_input.specs.declared.token.TokenAndSpan.{TokenAndSpan}
-use Rattle.swc_ast.specs.Tree.{Tree, span_of}
 use Rattle.swc_ast.specs.Trees.{to, items_of, name_e, computed_e, call_e, super_e, import_e, super_prop_e, meta_e}
-use Rattle.swc_ast.specs.declared.expr.Import.{Import}
-use Rattle.swc_ast.specs.declared.expr.ImportPhase.{ImportPhase}
+use Rattle.swc_ast.specs.{Tree.Tree, Tree.span_of, declared.expr.Import.Import, declared.expr.ImportPhase.ImportPhase, declared.expr.MetaPropKind.MetaPropKind as kind}
 use Rattle.swc_ast.specs.declared.expr.ImportPhase.TheVariants as phase
-use Rattle.swc_ast.specs.declared.expr.MetaPropKind.TheVariants as kind
 use Rattle.swc_bodies.specs.Readings.{Hook}
-use Rattle.swc_grammar.specs.Parts.{import_args_ok}
-use Rattle.swc_grammar.specs.Scope.{Scope}
-use Rattle.swc_grammar.specs.Symbols.{Primary}
-use Rattle.swc_grammar.specs.Tokens.{is_dot, is_lbracket, is_lparen, is_rbracket, is_super, is_import, is_meta}
-use Rattle.swc_grammar.specs.Tokens.{is_source, super_ok}
+use Rattle.swc_grammar.specs.Tokens.{is_dot, is_lbracket, is_lparen, is_rbracket, is_super, is_import, is_meta, is_source, super_ok}
 use Rattle.swc_grammar.specs.Clean.{Out, sym, run}
-use Rattle.swc_grammar.specs.Names.{may_name}
-use Rattle.swc_grammar.specs.Words.{◌>>=◌, word}
-use Rattle.swc_left.specs.declared.base.ImportHead.{ImportHead}
-use Rattle.swc_left.specs.declared.base.ImportHead.TheVariants as begun
-use Rattle.swc_left.specs.declared.base.SuperHead.{SuperHead}
-use Rattle.swc_left.specs.declared.base.SuperHead.TheVariants as head
-use Rattle.swc_steps.specs.Keys.{expected}
-use Rattle.swc_steps.specs.Args.{args_inside}
-use Rattle.swc_steps.specs.Lists.{eaten}
-use Rattle.swc_steps.specs.Readers.{whole_inside}
+use Rattle.swc_grammar.specs.{Parts.import_args_ok, Scope.Scope, Symbols.Primary, Names.may_name, Words.◌>>=◌, Words.word}
+use Rattle.swc_left.specs.{declared.base.ImportHead.ImportHead, declared.base.ImportHead.ImportHead as begun, declared.base.SuperHead.SuperHead, declared.base.SuperHead.SuperHead as head}
+use Rattle.swc_steps.specs.{Keys.expected, Args.args_inside, Lists.eaten, Readers.whole_inside}
 
 -- whether `super` may have properties here
 abbrev pub here_by : Bool → List TokenAndSpan → Out (Unit {0})

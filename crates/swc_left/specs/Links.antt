@@ -1,31 +1,16 @@
 -- What the steps of the code read in left-hand sides (13.3), by the clean parser.
 use Rattle.std.specs.Prelude.{Bool, true, false, not, ◌&&◌, if◌then◌else◌, List, Option, Some, None}
-use Rattle.swc_context.specs.Spans.{from_to}
-use Rattle.swc_context.specs.declared.span.BytePos.{BytePos}
-use Rattle.swc_context.specs.declared.span.Span.{Span}
-use Rattle.swc_input.specs.declared.token.TokenAndSpan.{TokenAndSpan}
-use Rattle.swc_input.specs.Kinds.{at_token, is_hash}
-use Rattle.swc_ast.specs.Tree.{Tree, span_of}
-use Rattle.swc_ast.specs.Trees.{to, items_of, name_e, private_e, computed_e, member_e, call_e, link_e, is_chain}
-use Rattle.swc_ast.specs.Trees.{new_e, bare_new_e, meta_e}
-use Rattle.swc_ast.specs.declared.expr.MetaPropKind.TheVariants as kind
+use Rattle.swc_context.specs.{Spans.from_to, declared.span.BytePos.BytePos, declared.span.Span.Span}
+use Rattle.swc_input.specs.{declared.token.TokenAndSpan.TokenAndSpan, Kinds.at_token, Kinds.is_hash}
+use Rattle.swc_ast.specs.Trees.{to, items_of, name_e, private_e, computed_e, member_e, call_e, link_e, is_chain, new_e, bare_new_e, meta_e}
+use Rattle.swc_ast.specs.{Tree.Tree, Tree.span_of, declared.expr.MetaPropKind.MetaPropKind as kind}
 use Rattle.swc_bodies.specs.Readings.{Hook}
-use Rattle.swc_grammar.specs.Scope.{Scope}
-use Rattle.swc_grammar.specs.Symbols.{Lhs}
-use Rattle.swc_grammar.specs.Tokens.{is_dot, is_lbracket, is_lparen, is_rbracket, is_question, is_backquote}
-use Rattle.swc_grammar.specs.Tokens.{is_target, new_target_ok}
+use Rattle.swc_grammar.specs.Tokens.{is_dot, is_lbracket, is_lparen, is_rbracket, is_question, is_backquote, is_target, new_target_ok}
 use Rattle.swc_grammar.specs.Clean.{Out, first, sym, links, run}
-use Rattle.swc_grammar.specs.Names.{may_name}
 use Rattle.swc_grammar.specs.Words.{◌>>=◌, rest, word}
-use Rattle.swc_left.specs.declared.left.Link.{Link}
-use Rattle.swc_left.specs.declared.left.Link.TheVariants as link
-use Rattle.swc_left.specs.declared.left.LinkHead.{LinkHead}
-use Rattle.swc_left.specs.declared.left.LinkHead.TheVariants as head
-use Rattle.swc_steps.specs.Args.{hash_name, args_inside}
-use Rattle.swc_steps.specs.Keys.{expected}
-use Rattle.swc_steps.specs.Lists.{eaten}
-use Rattle.swc_steps.specs.Readers.{whole_inside}
-use Rattle.swc_left.specs.Templates.{tagged_tail}
+use Rattle.swc_grammar.specs.{Scope.Scope, Symbols.Lhs, Names.may_name}
+use Rattle.swc_left.specs.{declared.left.Link.Link, declared.left.Link.Link as link, declared.left.LinkHead.LinkHead, declared.left.LinkHead.LinkHead as head, Templates.tagged_tail}
+use Rattle.swc_steps.specs.{Args.hash_name, Args.args_inside, Keys.expected, Lists.eaten, Readers.whole_inside}
 
 -- the link of an optional chain, by the token after its `?`
 abbrev pub chain_at : Option TokenAndSpan → Option Link

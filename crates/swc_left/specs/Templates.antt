@@ -1,29 +1,18 @@
 -- What the steps of the code read in templates (13.2.8, 13.3.11), by the clean parser.
 use Rattle.std.specs.Prelude.{ℕ, Bool, true, false, not, if◌then◌else◌, List, map, Option, Some, None}
 use Rattle.swc_context.specs.declared.span.Span.{Span}
-use Rattle.swc_input.specs.declared.token.Token.{Token}
-use Rattle.swc_input.specs.declared.token.Token.TheVariants as token
-use Rattle.swc_input.specs.declared.token.TokenAndSpan.{TokenAndSpan}
-use Rattle.swc_input.specs.Kinds.{at_token}
-use Rattle.swc_ast.specs.Parts.{quasi_tree}
+use Rattle.swc_input.specs.{declared.token.Token.Token, declared.token.Token.Token as token, declared.token.TokenAndSpan.TokenAndSpan, Kinds.at_token}
 use Rattle.swc_ast.specs.Tree.{Tree, Trees, nil, cons, trees, span_of}
 use Rattle.swc_ast.specs.Trees.{to, trees_append, parts_e, texts_of, exprs_of, tpl_e, tagged_e, is_chain}
-use Rattle.swc_ast.specs.declared.expr.TplElement.{TplElement}
-use Rattle.swc_ast.specs.declared.spanned.Spanned.{Ghosts}
+use Rattle.swc_ast.specs.{Parts.quasi_tree, declared.expr.TplElement.TplElement, declared.spanned.Spanned.Ghosts}
 use Rattle.swc_bodies.specs.Readings.{Hook}
-use Rattle.swc_grammar.specs.Scope.{Scope, inner}
-use Rattle.swc_grammar.specs.Parts.{cooked_of}
-use Rattle.swc_grammar.specs.Symbols.{Parts}
 use Rattle.swc_grammar.specs.Tokens.{is_backquote, is_dollar_brace, is_rbrace}
 use Rattle.swc_grammar.specs.Clean.{Out, first, sym, run}
 use Rattle.swc_grammar.specs.Words.{◌>>=◌, rest, one}
-use Rattle.swc_nodes.specs.Lists.{exprs_parts}
-use Rattle.swc_nodes.specs.GrowingNodes.{tree_at, Apart}
-use Rattle.swc_nodes.specs.declared.nodes.Nodes.{Nodes}
+use Rattle.swc_grammar.specs.{Scope.Scope, Scope.inner, Parts.cooked_of, Symbols.Parts}
+use Rattle.swc_nodes.specs.{Lists.exprs_parts, GrowingNodes.tree_at, GrowingNodes.Apart, declared.nodes.Nodes.Nodes}
 use Rattle.swc_left.specs.declared.tpl.TplParts.{TplParts}
-use Rattle.swc_steps.specs.Keys.{expected}
-use Rattle.swc_steps.specs.Lists.{eaten}
-use Rattle.swc_steps.specs.Readers.{whole_inside}
+use Rattle.swc_steps.specs.{Keys.expected, Lists.eaten, Readers.whole_inside}
 
 -- the tokens that are texts of templates
 abbrev pub is_template : Token → Bool

@@ -56,7 +56,7 @@ fn refuse_last_comma<I: Tokens>(input: &mut Buffer<I>, start: Span, comma: Span)
     Err(syntax_error(input, span, kind))
 }
 
-/// Whether a comma may are after the last argument of `import`.
+/// Whether a comma may come after the last argument of `import`.
 fn import_comma_allowed<I: Tokens>(input: &Buffer<I>) -> bool
     ensures { result ≡ import_comma_ok (scope I.model input.now) }
 {

@@ -1,15 +1,12 @@
 // What left-hand sides begin with (ECMA-262, 13.3): `super`, `import`, and primary expressions.
 ghost use Rattle.std.specs.Prelude.{ℕ, ◌≡◌, ◌<◌, ◌≤◌, ◌++◌, not, OnOk, IsSome};
 ghost use Rattle.swc_input.specs.Buffer.{context, current, to_come};
-ghost use Rattle.swc_ast.specs.Parts.{callee_tree};
-ghost use Rattle.swc_ast.specs.Trees.{import_e};
+ghost use Rattle.swc_ast.specs.{Parts.callee_tree, Trees.import_e};
 ghost use Rattle.swc_grammar.specs.Tokens.{super_ok};
 ghost use Rattle.swc_nodes.specs.NodeParts.{args_parts, callee_parts, expr_part};
 ghost use Rattle.swc_nodes.specs.GrowingNodes.{count, first_at, Apart, From};
-ghost use Rattle.swc_left.specs.Bases.{super_head, super_here, super_name_tail, super_close, callee_node};
-ghost use Rattle.swc_left.specs.Bases.{import_head, import_member, import_callee, import_node, import_meta_node};
-ghost use Rattle.swc_steps.specs.Parsing.{scope, ContinuesAlone, ParsesAlone, Produces, GoesOn, Checked, Acts};
-ghost use Rattle.swc_steps.specs.Parsing.{Refuses, itself, tree_of, args_at};
+ghost use Rattle.swc_left.specs.Bases.{super_head, super_here, super_name_tail, super_close, callee_node, import_head, import_member, import_callee, import_node, import_meta_node};
+ghost use Rattle.swc_steps.specs.Parsing.{scope, ContinuesAlone, ParsesAlone, Produces, GoesOn, Checked, Acts, Refuses, itself, tree_of, args_at};
 ghost use Rattle.swc_steps.specs.Readers.{nothing};
 
 use crate::args::check_import_args;
@@ -227,7 +224,7 @@ fn import_member<I: Tokens>(
     }
 }
 
-/// `import.meta` (ECMA-262, 13.3.12), which is at `span`. Consumes nothing, and is refused only for want of
+/// `import.meta` (ECMA-262, 13.3.12), which is at `span`. Consumes nothing, and is refused only when out of
 /// memory.
 pub fn import_meta<I: Tokens, B: Bodies<I>>(
     p: &mut Productions<I, B>,

@@ -1,18 +1,14 @@
 // Expressions (ECMA-262, 13).
-ghost use Rattle.std.specs.Prelude.{◌≡◌, ◌<◌, ◌≤◌, ◌++◌, true, false, not, ◌||◌, None, Some, OnOk, IfOk, IfErr};
-ghost use Rattle.std.specs.Prelude.{IsSome, MatchOption};
+ghost use Rattle.std.specs.Prelude.{◌≡◌, ◌<◌, ◌≤◌, ◌++◌, true, false, not, ◌||◌, None, Some, OnOk, IfOk, IfErr, IsSome, MatchOption};
 ghost use Rattle.swc_input.specs.Buffer.{current, peeked, to_come, context, Peeked};
 ghost use Rattle.swc_input.specs.Kinds.{at_token};
 ghost use Rattle.swc_ast.specs.Trees.{is_chain};
 ghost use Rattle.swc_grammar.specs.Tokens.{is_super, is_import, new_target_ok};
-ghost use Rattle.swc_grammar.specs.Clean.{first};
-ghost use Rattle.swc_grammar.specs.Words.{rest};
+ghost use Rattle.swc_grammar.specs.{Clean.first, Words.rest};
 ghost use Rattle.swc_nodes.specs.NodeParts.{expr_part, one_expr, args_parts};
 ghost use Rattle.swc_nodes.specs.GrowingNodes.{count, first_at, Apart, From};
-ghost use Rattle.swc_left.specs.Links.{link_at, link_here, chain_at, chain_head, head_of, link_head, member_name};
-ghost use Rattle.swc_left.specs.Links.{dot_tail, computed_close, call_node, target_tail, new_node};
-ghost use Rattle.swc_steps.specs.Parsing.{seen, ParsesAlone, ContinuesAlone, Produces, GoesOn, Checked, Refuses};
-ghost use Rattle.swc_steps.specs.Parsing.{Tells, itself, tree_of, args_at, member_name_of, member_name_at};
+ghost use Rattle.swc_left.specs.Links.{link_at, link_here, chain_at, chain_head, head_of, link_head, member_name, dot_tail, computed_close, call_node, target_tail, new_node};
+ghost use Rattle.swc_steps.specs.Parsing.{seen, ParsesAlone, ContinuesAlone, Produces, GoesOn, Checked, Refuses, Tells, itself, tree_of, args_at, member_name_of, member_name_at};
 
 use swc_ast::expr::{ExprOrSpread, MemberProp, MetaPropKind};
 use swc_ast::ident::Ident;

@@ -1,16 +1,11 @@
 // Templates, with a tag and without (ECMA-262, 13.2.8 and 13.3.11).
 ghost use Rattle.std.specs.Prelude.{◌≡◌, ◌<◌, ◌≤◌, ◌++◌, true, not, None, Some, Err, OnOk, IfOk, IfErr, IsSome};
 ghost use Rattle.swc_context.specs.declared.error.Error.{Error};
-ghost use Rattle.swc_input.specs.Buffer.{current, to_come};
-ghost use Rattle.swc_input.specs.Kinds.{at_token};
-ghost use Rattle.swc_input.specs.Recording.{counted};
-ghost use Rattle.swc_input.specs.declared.token.Token.TheVariants as tok;
+ghost use Rattle.swc_input.specs.{Buffer.current, Buffer.to_come, Kinds.at_token, Recording.counted, declared.token.Token.Token as tok};
 ghost use Rattle.swc_ast.specs.Trees.{is_chain};
-ghost use Rattle.swc_grammar.specs.Parts.{cooked_of};
-ghost use Rattle.swc_grammar.specs.Symbols.{Template};
-ghost use Rattle.swc_nodes.specs.Lists.{exprs_parts};
-ghost use Rattle.swc_nodes.specs.NodeParts.{expr_part, one_expr};
+ghost use Rattle.swc_grammar.specs.{Parts.cooked_of, Symbols.Template};
 ghost use Rattle.swc_nodes.specs.GrowingNodes.{first_at, Apart, From};
+ghost use Rattle.swc_nodes.specs.{Lists.exprs_parts, NodeParts.expr_part, NodeParts.one_expr};
 ghost use Rattle.swc_steps.specs.Parsing.{seen, ParsesAlone, GoesOn, Checked, itself, tree_of};
 ghost use Rattle.swc_left.specs.Templates.{is_template, tpl_element, tpl_end, tagged_node, tpl_parts_at};
 

@@ -1,28 +1,13 @@
 -- Arrow functions: their nodes, over parameters and a body that lie apart, in this order.
 use Rattle.std.proofs.Common.{◌≡◌, ℕ, Bool, Option, Some, List, [], ◌++◌, fold, refl, sym, ap, subst, ◌∙◌}
 use Rattle.std.proofs.lemmas.List.Sums.{fold-append}
-use Rattle.std.specs.declared.alloc.Global.{Global}
-use Rattle.std.specs.declared.boxed.Box.{Box}
-use Rattle.std.specs.declared.vec.Vec.{Vec}
-use Rattle.swc_context.specs.Spans.{from_to}
-use Rattle.swc_context.specs.declared.span.BytePos.{BytePos}
-use Rattle.swc_ast.specs.Parts.{body_tree}
-use Rattle.swc_ast.specs.Tree.{Tree}
-use Rattle.swc_ast.specs.Trees.{arrow_e}
-use Rattle.swc_ast.specs.declared.expr.BlockStmtOrExpr.{BlockStmtOrExpr}
-use Rattle.swc_ast.specs.declared.expr.BlockStmtOrExpr.TheVariants as body
-use Rattle.swc_ast.specs.declared.spanned.Spanned.{Ghosts}
-use Rattle.swc_nodes.specs.Lists.{pats_parts, pat_trees}
+use Rattle.std.specs.{declared.alloc.Global.Global, declared.boxed.Box.Box, declared.vec.Vec.Vec}
+use Rattle.swc_context.specs.{Spans.from_to, declared.span.BytePos.BytePos}
+use Rattle.swc_ast.specs.{Parts.body_tree, Tree.Tree, Trees.arrow_e, declared.expr.BlockStmtOrExpr.BlockStmtOrExpr, declared.expr.BlockStmtOrExpr.BlockStmtOrExpr as body, declared.spanned.Spanned.Ghosts}
 use Rattle.swc_nodes.specs.NodeParts.{Part, expr, expr_part, body_parts}
 use Rattle.swc_nodes.specs.GrowingNodes.{seat_at, count, tree_at, body_end, Apart, From, Added, Made}
-use Rattle.swc_nodes.specs.Walking.{behind}
-use Rattle.swc_nodes.specs.declared.node.ExprId.{ExprId}
-use Rattle.swc_nodes.specs.declared.node.Node.TheVariants as n
-use Rattle.swc_nodes.specs.declared.node.PatId.{PatId}
-use Rattle.swc_nodes.specs.declared.nodes.Nodes.{Nodes}
-use Rattle.swc_nodes.proofs.Chains.{chain-second}
-use Rattle.swc_nodes.proofs.Held.{from-apart}
-use Rattle.swc_nodes.proofs.Lists.{list-made}
+use Rattle.swc_nodes.specs.{Lists.pats_parts, Lists.pat_trees, Walking.behind, declared.node.ExprId.ExprId, declared.node.Node.Node as n, declared.node.PatId.PatId, declared.nodes.Nodes.Nodes}
+use Rattle.swc_nodes.proofs.{Chains.chain-second, Held.from-apart, Lists.list-made}
 
 module _ {F C K : Type 0} {fg : Ghosts F} {cg : Ghosts C} {kg : Ghosts K} where
   -- the parts after others lie apart too

@@ -1,19 +1,13 @@
 -- The properties of an object literal that are `name = e`, by its node and by its tree.
 use Rattle.std.proofs.Common.{◌≡◌, ℕ, ◌<◌, true, false, Bool, not, ◌&&◌, ◌||◌, List, [], ◌∷◌, map, Option, refl, ap, ◌∙◌}
-use Rattle.std.specs.declared.alloc.Global.{Global}
-use Rattle.std.specs.declared.vec.Vec.{Vec}
+use Rattle.std.specs.{declared.alloc.Global.Global, declared.vec.Vec.Vec}
 use Rattle.swc_context.specs.declared.span.Span.{Span}
 use Rattle.swc_ast.specs.Tree.{object_with, Tree, node, trees}
 use Rattle.swc_ast.specs.Trees.{is_cover, no_cover, no_cover_in}
 use Rattle.swc_ast.specs.declared.spanned.Spanned.{Ghosts}
 use Rattle.swc_nodes.specs.Lists.{is_cover_prop, has_cover, IsObject}
-use Rattle.swc_nodes.specs.NodeTree.{prop_of}
-use Rattle.swc_nodes.specs.NodeParts.{prop_parts}
 use Rattle.swc_nodes.specs.GrowingNodes.{count, seat_before, tree_at, Stood}
-use Rattle.swc_nodes.specs.declared.node.Node.TheVariants as n
-use Rattle.swc_nodes.specs.declared.node.PropNode.{PropNode}
-use Rattle.swc_nodes.specs.declared.node.PropNode.TheVariants as prop
-use Rattle.swc_nodes.specs.declared.nodes.Nodes.{Nodes}
+use Rattle.swc_nodes.specs.{NodeTree.prop_of, NodeParts.prop_parts, declared.node.Node.Node as n, declared.node.PropNode.PropNode, declared.node.PropNode.PropNode as prop, declared.nodes.Nodes.Nodes}
 use Rattle.swc_nodes.proofs.Lists.{list-same, prop-same, stood-trees}
 
 neither : (a b : Bool) → (not a && not b) ≡ not (a || b)

@@ -1,23 +1,13 @@
 -- Where nodes begin and end: where their operands do, and where a tree says it.
 use Rattle.std.proofs.Common.{◌≡◌, ℕ, zero, suc, ◌<◌, true, false, [], ◌∷◌, Some, None, refl, sym, ap, subst, ◌∙◌, arith}
 use Rattle.swc_context.specs.declared.span.Span.{Span}
-use Rattle.swc_ast.specs.Tree.{Tree, span_of}
-use Rattle.swc_ast.specs.Trees.{ends_in_invalid, begins_in_invalid}
-use Rattle.swc_ast.specs.declared.spanned.Spanned.{Ghosts}
+use Rattle.swc_ast.specs.{Tree.Tree, Tree.span_of, Trees.ends_in_invalid, Trees.begins_in_invalid, declared.spanned.Spanned.Ghosts}
 use Rattle.swc_nodes.specs.Operands.{left_operand, last_operand, own_start, own_end}
-use Rattle.swc_nodes.specs.NodeTree.{marked_tree}
 use Rattle.swc_nodes.specs.NumberedTrees.{Seat, start_refused, end_refused}
-use Rattle.swc_nodes.specs.NodeParts.{expr_part}
-use Rattle.swc_nodes.specs.GrowingNodes.{count, seat_at, seat_before, tree_at, start_at, end_at, or_position, From}
-use Rattle.swc_nodes.specs.GrowingNodes.{Grows, Stood}
-use Rattle.swc_nodes.specs.declared.node.ExprId.{ExprId}
-use Rattle.swc_nodes.specs.declared.node.Node.{Node}
-use Rattle.swc_nodes.specs.declared.node.Node.TheVariants as n
-use Rattle.swc_nodes.specs.declared.nodes.Nodes.{Nodes}
-use Rattle.swc_nodes.proofs.Chains.{both_true}
-use Rattle.swc_nodes.proofs.Held.{stood-parts}
-use Rattle.swc_nodes.proofs.Standing.{get_stood, seat-later}
+use Rattle.swc_nodes.specs.GrowingNodes.{count, seat_at, seat_before, tree_at, start_at, end_at, or_position, From, Grows, Stood}
+use Rattle.swc_nodes.specs.{NodeTree.marked_tree, NodeParts.expr_part, declared.node.ExprId.ExprId, declared.node.Node.Node, declared.node.Node.Node as n, declared.nodes.Nodes.Nodes}
 use Rattle.swc_nodes.proofs.Targets.{Leads, leads, own}
+use Rattle.swc_nodes.proofs.{Chains.both_true, Held.stood-parts, Standing.get_stood, Standing.seat-later}
 
 -- ---- of a node, by its operand or by itself
 

@@ -1,19 +1,12 @@
 -- Numbers that are held while nodes are appended, and what is made of them.
 use Rattle.std.proofs.Common.{◌≡◌, ℕ, suc, ◌+◌, ◌<◌, ◌≤◌, Bool, true, false, not, ◌&&◌, List, [], ◌∷◌, Result, Ok, Err, IfOk, refl, sym, ap, subst, ◌∙◌, arith}
-use Rattle.swc_context.specs.declared.operator.BinaryOp.{BinaryOp}
-use Rattle.swc_context.specs.declared.span.Span.{Span}
+use Rattle.swc_context.specs.{declared.operator.BinaryOp.BinaryOp, declared.span.Span.Span}
 use Rattle.swc_ast.specs.declared.spanned.Spanned.{Ghosts}
 use Rattle.swc_ast.specs.Trees.{is_logical_op, is_nullish, logical_ok, left_ok}
-use Rattle.swc_nodes.specs.NodeTree.{marked_tree}
-use Rattle.swc_nodes.specs.NumberedTrees.{floor, chain}
-use Rattle.swc_nodes.specs.NodeParts.{Part, View, Form, target_expr, other_expr, target_pat, other_pat, expr, pat}
-use Rattle.swc_nodes.specs.NodeParts.{slots, form, view_ok, expr_part, one_expr}
-use Rattle.swc_nodes.specs.GrowingNodes.{count, seat_at, seat_before, tree_at, first_at, Apart, From, Grows, Added}
-use Rattle.swc_nodes.specs.GrowingNodes.{Made, Stood}
-use Rattle.swc_nodes.specs.declared.node.ExprId.{ExprId}
-use Rattle.swc_nodes.specs.declared.node.Node.{Node}
+use Rattle.swc_nodes.specs.NodeParts.{Part, View, Form, target_expr, other_expr, target_pat, other_pat, expr, pat, slots, form, view_ok, expr_part, one_expr}
+use Rattle.swc_nodes.specs.GrowingNodes.{count, seat_at, seat_before, tree_at, first_at, Apart, From, Grows, Added, Made, Stood}
+use Rattle.swc_nodes.specs.{NodeTree.marked_tree, NumberedTrees.floor, NumberedTrees.chain, declared.node.ExprId.ExprId, declared.node.Node.Node, declared.nodes.Nodes.Nodes}
 use Rattle.swc_nodes.specs.declared.node.Node.TheVariants as n
-use Rattle.swc_nodes.specs.declared.nodes.Nodes.{Nodes}
 use Rattle.swc_nodes.proofs.Chains.{both_true, fitting, chain-one, chain-up, chain-same, chain-bound, floor-under}
 use Rattle.swc_nodes.proofs.Standing.{before-same, grows-count, seat-later}
 

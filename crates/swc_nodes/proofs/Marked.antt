@@ -1,66 +1,18 @@
 -- What nodes stand for whose literals were marked with their commas.
-use Rattle.std.proofs.Common.{◌≡◌, ℕ, suc, ◌+◌, ◌<◌, ◌≤◌, true, List, [], ◌∷◌, ◌++◌, map, length, take}
-use Rattle.std.proofs.Common.{drop, Option, Some, None, refl, sym, ap, subst, ◌∙◌, arith, length-append, ⊎_elim}
+use Rattle.std.proofs.Common.{◌≡◌, ℕ, suc, ◌+◌, ◌<◌, ◌≤◌, true, List, [], ◌∷◌, ◌++◌, map, length, take, drop, Option, Some, None, refl, sym, ap, subst, ◌∙◌, arith, length-append, ⊎_elim}
 use Rattle.std.proofs.lemmas.Bool.{cases_lt, le-leb}
-use Rattle.std.proofs.lemmas.List.{append-nil, drop_all, get_or_append_left, get_or_at}
-use Rattle.std.proofs.lemmas.List.{get_or_past, length-map, length-take-le, take-append-drop}
-use Rattle.std.proofs.lemmas.List.{take-take, take_at}
-use Rattle.std.specs.Prelude.{slice_index_or}
-use Rattle.std.specs.declared.alloc.Global.{Global}
-use Rattle.std.specs.declared.vec.Vec.{Vec}
+use Rattle.std.proofs.lemmas.List.{append-nil, drop_all, get_or_append_left, get_or_at, get_or_past, length-map, length-take-le, take-append-drop, take-take, take_at}
+use Rattle.std.specs.{Prelude.slice_index_or, declared.alloc.Global.Global, declared.vec.Vec.Vec}
 use Rattle.swc_context.specs.declared.span.Span.{Span}
-use Rattle.swc_ast.specs.Parts.{leaf, or_hole, ident_tree, prop_name_tree, member_prop_tree, super_part_tree, item_of}
-use Rattle.swc_ast.specs.Parts.{item_tree, item_trees}
-use Rattle.swc_ast.specs.Parts.{args_tree, base_tree, callee_tree, quasi_tree, tpl_tree, body_tree, param_tree}
-use Rattle.swc_ast.specs.Parts.{function_tree}
-use Rattle.swc_ast.specs.Tree.{Tree, node, Trees, nil, cons, trees, span_of, no_span}
-use Rattle.swc_ast.specs.Trees.{unmarked, all_unmarked}
-use Rattle.swc_ast.specs.Tree.{item, spread, dots, args, args_with, array, array_with, object, object_with, unary}
-use Rattle.swc_ast.specs.Tree.{update, bin, assign, cond, seq, paren, member}
-use Rattle.swc_ast.specs.Tree.{super, super_prop, call, new, opt_chain, tpl, tagged, arrow, await, yield, computed}
-use Rattle.swc_ast.specs.Tree.{key_value, cover, method}
-use Rattle.swc_ast.specs.Tree.{function, getter, setter, block, binding_prop, rest, default, param, pat_expr}
-use Rattle.swc_ast.specs.declared.expr.BlockStmtOrExpr.{BlockStmtOrExpr}
-use Rattle.swc_ast.specs.declared.expr.BlockStmtOrExpr.TheVariants as body
-use Rattle.swc_ast.specs.declared.expr.Callee.{Callee}
-use Rattle.swc_ast.specs.declared.expr.Callee.TheVariants as callee
-use Rattle.swc_ast.specs.declared.expr.ExprOrSpread.{ExprOrSpread}
-use Rattle.swc_ast.specs.declared.expr.MemberProp.{MemberProp}
-use Rattle.swc_ast.specs.declared.expr.MemberProp.TheVariants as member_prop
-use Rattle.swc_ast.specs.declared.expr.OptChainBase.{OptChainBase}
-use Rattle.swc_ast.specs.declared.expr.OptChainBase.TheVariants as base
-use Rattle.swc_ast.specs.declared.expr.SuperProp.{SuperProp}
-use Rattle.swc_ast.specs.declared.expr.SuperProp.TheVariants as super_part
-use Rattle.swc_ast.specs.declared.expr.Tpl.{Tpl}
-use Rattle.swc_ast.specs.declared.expr.TplElement.{TplElement}
-use Rattle.swc_ast.specs.declared.function.Function.{Function}
-use Rattle.swc_ast.specs.declared.function.Param.{Param}
-use Rattle.swc_ast.specs.declared.prop.PropName.{PropName}
-use Rattle.swc_ast.specs.declared.prop.PropName.TheVariants as prop_name
-use Rattle.swc_ast.specs.declared.spanned.Spanned.{Ghosts}
-use Rattle.swc_nodes.specs.Marking.{Marker, marked_by, all_marked_by, target_marked_by, pat_marked_by, pats_marked_by}
-use Rattle.swc_nodes.specs.Marking.{marked_as}
-use Rattle.swc_nodes.specs.Marking.{marked_node, marked_from, Marks}
+use Rattle.swc_ast.specs.Parts.{leaf, or_hole, ident_tree, prop_name_tree, member_prop_tree, super_part_tree, item_of, item_tree, item_trees, args_tree, base_tree, callee_tree, quasi_tree, tpl_tree, body_tree, param_tree, function_tree}
+use Rattle.swc_ast.specs.Tree.{Tree, node, Trees, nil, cons, trees, span_of, no_span, item, spread, dots, args, args_with, array, array_with, object, object_with, unary, update, bin, assign, cond, seq, paren, member, super, super_prop, call, new, opt_chain, tpl, tagged, arrow, await, yield, computed, key_value, cover, method, function, getter, setter, block, binding_prop, rest, default, param, pat_expr}
+use Rattle.swc_ast.specs.{Trees.unmarked, Trees.all_unmarked, declared.expr.BlockStmtOrExpr.BlockStmtOrExpr, declared.expr.BlockStmtOrExpr.BlockStmtOrExpr as body, declared.expr.Callee.Callee, declared.expr.Callee.Callee as callee, declared.expr.ExprOrSpread.ExprOrSpread, declared.expr.MemberProp.MemberProp, declared.expr.MemberProp.MemberProp as member_prop, declared.expr.OptChainBase.OptChainBase, declared.expr.OptChainBase.OptChainBase as base, declared.expr.SuperProp.SuperProp, declared.expr.SuperProp.SuperProp as super_part, declared.expr.Tpl.Tpl, declared.expr.TplElement.TplElement, declared.function.Function.Function, declared.function.Param.Param, declared.prop.PropName.PropName, declared.prop.PropName.PropName as prop_name, declared.spanned.Spanned.Ghosts}
+use Rattle.swc_nodes.specs.Marking.{Marker, marked_by, all_marked_by, target_marked_by, pat_marked_by, pats_marked_by, marked_as, marked_node, marked_from, Marks}
 use Rattle.swc_nodes.specs.NodeTree.{target_of, prop_of, pat_prop_of, marked_tree}
-use Rattle.swc_nodes.specs.NodeParts.{Part, View, expr, pat, simple, pattern, Form, target_expr, other_expr, target_pat}
-use Rattle.swc_nodes.specs.NodeParts.{other_pat, slots, form, view_ok}
-use Rattle.swc_nodes.specs.NodeParts.{flat, if_some, one_expr, one_pat, item_parts, args_parts, key_parts, member_parts}
-use Rattle.swc_nodes.specs.NodeParts.{super_parts}
-use Rattle.swc_nodes.specs.NodeParts.{callee_parts, base_parts, body_parts, param_parts, prop_parts, pat_prop_parts}
-use Rattle.swc_nodes.specs.NodeParts.{target_part}
+use Rattle.swc_nodes.specs.NodeParts.{Part, View, expr, pat, simple, pattern, Form, target_expr, other_expr, target_pat, other_pat, slots, form, view_ok, flat, if_some, one_expr, one_pat, item_parts, args_parts, key_parts, member_parts, super_parts, callee_parts, base_parts, body_parts, param_parts, prop_parts, pat_prop_parts, target_part}
 use Rattle.swc_nodes.specs.NumberedTrees.{Seat, no_seat, found, floor, fits, chain, seat, seats_after, ordered}
 use Rattle.swc_nodes.specs.GrowingNodes.{count, seat_at, tree_at, Apart, From}
-use Rattle.swc_nodes.specs.declared.node.ExprId.{ExprId}
-use Rattle.swc_nodes.specs.declared.node.PatId.{PatId}
-use Rattle.swc_nodes.specs.declared.node.Node.{Node}
-use Rattle.swc_nodes.specs.declared.node.Node.TheVariants as n
-use Rattle.swc_nodes.specs.declared.node.PatPropNode.{PatPropNode}
-use Rattle.swc_nodes.specs.declared.node.PatPropNode.TheVariants as pat_prop
-use Rattle.swc_nodes.specs.declared.node.PropNode.{PropNode}
-use Rattle.swc_nodes.specs.declared.node.PropNode.TheVariants as prop
-use Rattle.swc_nodes.specs.declared.node.TargetNode.{TargetNode}
-use Rattle.swc_nodes.specs.declared.node.TargetNode.TheVariants as target
-use Rattle.swc_nodes.specs.declared.nodes.Nodes.{Nodes}
+use Rattle.swc_nodes.specs.{declared.node.ExprId.ExprId, declared.node.PatId.PatId, declared.node.Node.Node, declared.node.Node.Node as n, declared.node.PatPropNode.PatPropNode, declared.node.PatPropNode.PatPropNode as pat_prop, declared.node.PropNode.PropNode, declared.node.PropNode.PropNode as prop, declared.node.TargetNode.TargetNode, declared.node.TargetNode.TargetNode as target, declared.nodes.Nodes.Nodes}
 use Rattle.swc_nodes.proofs.Chains.{both_true, true_both, fitting, fits-of, chain-bound, chain-cons}
 use Rattle.swc_nodes.proofs.Lists.{same_first, same_rest}
 use Rattle.swc_nodes.proofs.Standing.{after_append, after_length, ordered_front, ordered_back, ordered_both}

@@ -1,31 +1,17 @@
 -- The parts of patterns: elements, properties and parameters that are read one after another keep what they stand for;
 -- and an expression as a pattern.
 use Rattle.std.proofs.Common.{◌≡◌, ℕ, suc, ◌<◌, true, List, [], ◌∷◌, ◌++◌, map, Option, Some, None, refl, sym, ap, ◌∙◌}
+use Rattle.std.proofs.lemmas.Bool.{le-leb}
 use Rattle.swc_context.specs.declared.span.Span.{Span}
 use Rattle.swc_ast.specs.Parts.{leaf, or_hole, binding_tree, prop_name_tree, param_tree}
 use Rattle.swc_ast.specs.Tree.{Tree, node, cons, nil, trees, span_of, key_value, binding_prop, rest, dots}
-use Rattle.swc_ast.specs.Trees.{trees_append, setter_parts}
-use Rattle.swc_ast.specs.declared.function.Param.{Param}
-use Rattle.swc_ast.specs.declared.spanned.Spanned.{Ghosts}
-use Rattle.swc_nodes.specs.Lists.{first_param_pat}
-use Rattle.swc_nodes.specs.NodeTree.{pat_prop_of}
-use Rattle.swc_nodes.specs.NumberedTrees.{Seat, chain}
-use Rattle.swc_nodes.specs.NodeParts.{Part, expr_part, flat, one_expr, one_pat, if_some, key_parts, param_parts}
-use Rattle.swc_nodes.specs.NodeParts.{pat_prop_parts}
+use Rattle.swc_ast.specs.{Trees.trees_append, Trees.setter_parts, declared.function.Param.Param, declared.spanned.Spanned.Ghosts}
+use Rattle.swc_nodes.specs.NodeParts.{Part, expr_part, flat, one_expr, one_pat, if_some, key_parts, param_parts, pat_prop_parts}
 use Rattle.swc_nodes.specs.GrowingNodes.{count, seat_at, tree_at, Apart, Grows, Stood}
-use Rattle.swc_nodes.specs.declared.node.ExprId.{ExprId}
-use Rattle.swc_nodes.specs.declared.node.PatId.{PatId}
-use Rattle.swc_nodes.specs.declared.node.Node.{Node}
-use Rattle.swc_nodes.specs.declared.node.Node.TheVariants as n
-use Rattle.swc_nodes.specs.declared.node.PatPropNode.{PatPropNode}
-use Rattle.swc_nodes.specs.declared.node.PatPropNode.TheVariants as pat_prop
-use Rattle.swc_nodes.specs.declared.nodes.Nodes.{Nodes}
-use Rattle.std.proofs.lemmas.Bool.{le-leb}
+use Rattle.swc_nodes.specs.{Lists.first_param_pat, NodeTree.pat_prop_of, NumberedTrees.Seat, NumberedTrees.chain, declared.node.ExprId.ExprId, declared.node.PatId.PatId, declared.node.Node.Node, declared.node.Node.Node as n, declared.node.PatPropNode.PatPropNode, declared.node.PatPropNode.PatPropNode as pat_prop, declared.nodes.Nodes.Nodes}
 use Rattle.swc_nodes.proofs.Chains.{both_true, true_both, chain-bound}
-use Rattle.swc_nodes.proofs.Held.{stood-is, stood-parts}
-use Rattle.swc_nodes.proofs.Lists.{SameTrees, same_first, same-front, same-back, key-same, param-same}
-use Rattle.swc_nodes.proofs.Lists.{list-later, list-more}
-use Rattle.swc_nodes.proofs.Targets.{Leads, leads}
+use Rattle.swc_nodes.proofs.Lists.{SameTrees, same_first, same-front, same-back, key-same, param-same, list-later, list-more}
+use Rattle.swc_nodes.proofs.{Held.stood-is, Held.stood-parts, Targets.Leads, Targets.leads}
 
 module _ {F C K : Type 0} (at by : ℕ → Tree F C K) where
   pub pat-same : (p : PatId) → SameTrees at by (one_pat p) → at p.0 ≡ by p.0

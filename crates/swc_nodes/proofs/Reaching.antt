@@ -1,27 +1,16 @@
 -- Going down from parts to all that is reached from them, a node before its parts.
-use Rattle.std.proofs.Common.{◌≡◌, ℕ, suc, ◌+◌, ◌<◌, ◌≤◌, ◌⊎◌, inl, inr, true, List, [], ◌∷◌, ◌++◌, length, map}
-use Rattle.std.proofs.Common.{reverse}
-use Rattle.std.proofs.Common.{refl, sym, ap, subst, ◌∙◌, arith}
-use Rattle.std.specs.Prelude.{slice_index_or, vec_len, Contains, AllPairs}
-use Rattle.std.specs.declared.alloc.Global.{Global}
-use Rattle.std.specs.declared.vec.Vec.{Vec}
-use Rattle.std.specs.List.{All}
+use Rattle.std.proofs.Common.{◌≡◌, ℕ, suc, ◌+◌, ◌<◌, ◌≤◌, ◌⊎◌, inl, inr, true, List, [], ◌∷◌, ◌++◌, length, map, reverse, refl, sym, ap, subst, ◌∙◌, arith}
 use Rattle.std.proofs.lemmas.List.{get_or_default, get_or-map, length-map, reverse-append}
-use Rattle.std.proofs.lemmas.List.Elements.{All-contains, Contains-append_left, Contains-append_right}
-use Rattle.std.proofs.lemmas.List.Elements.{All-contains_itself, All-weaker, Contains-append_cases, Contains-push_cases}
-use Rattle.std.proofs.lemmas.List.Kept.{AllPairs-cons}
-use Rattle.std.proofs.lemmas.List.Sums.{sum_by-append, sum_by_push}
-use Rattle.std.proofs.lemmas.Bool.{cases_lt}
+use Rattle.std.proofs.lemmas.List.Elements.{All-contains, Contains-append_left, Contains-append_right, All-contains_itself, All-weaker, Contains-append_cases, Contains-push_cases}
+use Rattle.std.proofs.{lemmas.List.Kept.AllPairs-cons, lemmas.List.Sums.sum_by-append, lemmas.List.Sums.sum_by_push, lemmas.Bool.cases_lt}
+use Rattle.std.specs.Prelude.{slice_index_or, vec_len, Contains, AllPairs}
+use Rattle.std.specs.{declared.alloc.Global.Global, declared.vec.Vec.Vec, List.All}
 use Rattle.swc_ast.specs.declared.spanned.Spanned.{Ghosts}
 use Rattle.swc_nodes.specs.NumberedTrees.{Seat, floor, chain}
-use Rattle.swc_nodes.specs.NodeParts.{Part, slots}
 use Rattle.swc_nodes.specs.GrowingNodes.{count, seat_at, seat_before, parts_at, first_at, Apart, Stood}
 use Rattle.swc_nodes.specs.Reached.{Reaches, HasReached, NumbersRise, PartsFirst, itself, part}
-use Rattle.swc_nodes.specs.Walking.{part_of}
 use Rattle.swc_nodes.specs.Weights.{ats, weight, left_over}
-use Rattle.swc_nodes.specs.declared.apart.PartId.{PartId}
-use Rattle.swc_nodes.specs.declared.node.Node.{Node}
-use Rattle.swc_nodes.specs.declared.nodes.Nodes.{Nodes}
+use Rattle.swc_nodes.specs.{NodeParts.Part, NodeParts.slots, Walking.part_of, declared.apart.PartId.PartId, declared.node.Node.Node, declared.nodes.Nodes.Nodes}
 use Rattle.swc_nodes.proofs.Chains.{both_true, fitting, floor-under}
 use Rattle.swc_nodes.proofs.Held.{stood-parts}
 use Rattle.swc_nodes.proofs.Standing.{before-same, get_stood, no_seat-past}

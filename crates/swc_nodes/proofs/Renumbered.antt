@@ -1,18 +1,12 @@
 -- What is renumbered: what holds one thing or two that were, and the items of a list, the first first.
-use Rattle.std.proofs.Common.{◌≡◌, ℕ, suc, ◌+◌, ◌-◌, false, ◌<◌, ◌≤◌, ◌≢◌, List, [], ◌∷◌, ◌++◌, map, length, get_or}
-use Rattle.std.proofs.Common.{refl, sym, ap, subst, ◌∙◌, arith, below_more}
-use Rattle.std.proofs.lemmas.Bool.{le-ltb}
+use Rattle.std.proofs.Common.{◌≡◌, ℕ, suc, ◌+◌, ◌-◌, false, ◌<◌, ◌≤◌, ◌≢◌, List, [], ◌∷◌, ◌++◌, map, length, get_or, refl, sym, ap, subst, ◌∙◌, arith, below_more}
 use Rattle.std.proofs.lemmas.List.{map-append, get_or_default, get_or-set_other, get_or-set_same, length-set, with_items_is}
-use Rattle.std.proofs.Math.ListN.{set}
-use Rattle.std.specs.Prelude.{if◌then◌else◌, nat_lt}
-use Rattle.std.specs.Vec.{with_items}
-use Rattle.std.specs.declared.alloc.Global.{Global}
-use Rattle.std.specs.declared.vec.Vec.{Vec}
+use Rattle.std.proofs.{lemmas.Bool.le-ltb, Math.ListN.set}
+use Rattle.std.specs.{Prelude.if◌then◌else◌, Prelude.nat_lt, Vec.with_items, declared.alloc.Global.Global, declared.vec.Vec.Vec}
 use Rattle.swc_ast.specs.Tree.{Tree, args, node, no_span, Trees, trees}
 use Rattle.swc_ast.specs.Trees.{trees_append}
-use Rattle.swc_nodes.specs.declared.renumbering.Numbers.{Numbers}
 use Rattle.swc_nodes.specs.Renumbering.{given, with_given, Renumbered}
-use Rattle.swc_nodes.specs.NodeParts.{Part, flat}
+use Rattle.swc_nodes.specs.{declared.renumbering.Numbers.Numbers, NodeParts.Part, NodeParts.flat}
 use Rattle.swc_nodes.proofs.Lists.{trees-both}
 
 -- ---- the trees of lists

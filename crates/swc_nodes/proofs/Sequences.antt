@@ -1,28 +1,15 @@
 -- Expressions with commas between them: one alone, or a sequence from the first to the last.
-use Rattle.std.proofs.Common.{◌≡◌, ℕ, zero, suc, ◌-◌, ◌≤◌, ◌<◌, List, [], ◌∷◌, map, Option, Some, None, length}
-use Rattle.std.proofs.Common.{Result, Ok, Err, IfOk, refl, sym, ap, subst, ◌∙◌, arith}
-use Rattle.std.specs.Prelude.{slice_index_or}
-use Rattle.std.specs.declared.alloc.Global.{Global}
-use Rattle.std.specs.declared.vec.Vec.{Vec}
-use Rattle.swc_context.specs.Spans.{from_to}
-use Rattle.swc_context.specs.declared.span.BytePos.{BytePos}
-use Rattle.swc_context.specs.declared.span.Span.{Span}
+use Rattle.std.proofs.Common.{◌≡◌, ℕ, zero, suc, ◌-◌, ◌≤◌, ◌<◌, List, [], ◌∷◌, map, Option, Some, None, length, Result, Ok, Err, IfOk, refl, sym, ap, subst, ◌∙◌, arith}
+use Rattle.std.specs.{Prelude.slice_index_or, declared.alloc.Global.Global, declared.vec.Vec.Vec}
+use Rattle.swc_context.specs.{Spans.from_to, declared.span.BytePos.BytePos, declared.span.Span.Span}
 use Rattle.swc_ast.specs.Parts.{item_of, item_tree, item_trees}
 use Rattle.swc_ast.specs.Tree.{Tree, node, cons, trees, seq}
-use Rattle.swc_ast.specs.Trees.{held_expr, held_exprs}
-use Rattle.swc_ast.specs.declared.expr.ExprOrSpread.{ExprOrSpread}
-use Rattle.swc_ast.specs.declared.spanned.Spanned.{Ghosts}
+use Rattle.swc_ast.specs.{Trees.held_expr, Trees.held_exprs, declared.expr.ExprOrSpread.ExprOrSpread, declared.spanned.Spanned.Ghosts}
 use Rattle.swc_nodes.specs.Lists.{exprs_parts, expr_trees, seq_between}
-use Rattle.swc_nodes.specs.NumberedTrees.{fits, chain}
 use Rattle.swc_nodes.specs.NodeParts.{expr, flat, one_expr, item_parts, args_parts, expr_part}
-use Rattle.swc_nodes.specs.GrowingNodes.{count, seat_at, tree_at, start_at, end_at, first_start, last_end, Apart, From}
-use Rattle.swc_nodes.specs.GrowingNodes.{Added, Made}
-use Rattle.swc_nodes.specs.declared.node.ExprId.{ExprId}
-use Rattle.swc_nodes.specs.declared.node.Node.TheVariants as n
-use Rattle.swc_nodes.specs.declared.nodes.Nodes.{Nodes}
-use Rattle.swc_nodes.proofs.Chains.{both_true}
-use Rattle.swc_nodes.proofs.Held.{from-apart, from-down}
-use Rattle.swc_nodes.proofs.Lists.{list-made}
+use Rattle.swc_nodes.specs.GrowingNodes.{count, seat_at, tree_at, start_at, end_at, first_start, last_end, Apart, From, Added, Made}
+use Rattle.swc_nodes.specs.{NumberedTrees.fits, NumberedTrees.chain, declared.node.ExprId.ExprId, declared.node.Node.Node as n, declared.nodes.Nodes.Nodes}
+use Rattle.swc_nodes.proofs.{Chains.both_true, Held.from-apart, Held.from-down, Lists.list-made}
 
 -- ---- the tree of a sequence
 

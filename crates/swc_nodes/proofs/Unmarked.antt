@@ -1,39 +1,12 @@
 -- The marks of commas taken away, a node stands for the tree that its parts make without theirs.
 use Rattle.std.proofs.Common.{◌≡◌, ℕ, List, [], ◌∷◌, ◌++◌, Option, Some, None, map, refl, ap, ◌∙◌}
-use Rattle.std.specs.declared.alloc.Global.{Global}
-use Rattle.std.specs.declared.vec.Vec.{Vec}
+use Rattle.std.specs.{declared.alloc.Global.Global, declared.vec.Vec.Vec}
 use Rattle.swc_context.specs.declared.span.Span.{Span}
 use Rattle.swc_ast.specs.Tree.{Tree, node, nil, cons, trees, no_span, span_of, args, array, object, computed, param, seq, tpl}
-use Rattle.swc_ast.specs.Parts.{or_hole, prop_name_tree, member_prop_tree, super_part_tree, item_of, item_tree, item_trees}
-use Rattle.swc_ast.specs.Parts.{args_tree, base_tree, callee_tree, quasi_tree, tpl_tree, body_tree, param_tree, function_tree}
-use Rattle.swc_ast.specs.Trees.{unmarked, all_unmarked}
-use Rattle.swc_ast.specs.declared.expr.BlockStmtOrExpr.{BlockStmtOrExpr}
-use Rattle.swc_ast.specs.declared.expr.BlockStmtOrExpr.TheVariants as body
-use Rattle.swc_ast.specs.declared.expr.Callee.{Callee}
-use Rattle.swc_ast.specs.declared.expr.Callee.TheVariants as callee
-use Rattle.swc_ast.specs.declared.expr.ExprOrSpread.{ExprOrSpread}
-use Rattle.swc_ast.specs.declared.expr.MemberProp.{MemberProp}
-use Rattle.swc_ast.specs.declared.expr.MemberProp.TheVariants as member_prop
-use Rattle.swc_ast.specs.declared.expr.OptChainBase.{OptChainBase}
-use Rattle.swc_ast.specs.declared.expr.OptChainBase.TheVariants as base
-use Rattle.swc_ast.specs.declared.expr.SuperProp.{SuperProp}
-use Rattle.swc_ast.specs.declared.expr.SuperProp.TheVariants as super_part
-use Rattle.swc_ast.specs.declared.expr.Tpl.{Tpl}
-use Rattle.swc_ast.specs.declared.expr.TplElement.{TplElement}
-use Rattle.swc_ast.specs.declared.function.Function.{Function}
-use Rattle.swc_ast.specs.declared.prop.PropName.{PropName}
-use Rattle.swc_ast.specs.declared.prop.PropName.TheVariants as prop_name
+use Rattle.swc_ast.specs.Parts.{or_hole, prop_name_tree, member_prop_tree, super_part_tree, item_of, item_tree, item_trees, args_tree, base_tree, callee_tree, quasi_tree, tpl_tree, body_tree, param_tree, function_tree}
+use Rattle.swc_ast.specs.{Trees.unmarked, Trees.all_unmarked, declared.expr.BlockStmtOrExpr.BlockStmtOrExpr, declared.expr.BlockStmtOrExpr.BlockStmtOrExpr as body, declared.expr.Callee.Callee, declared.expr.Callee.Callee as callee, declared.expr.ExprOrSpread.ExprOrSpread, declared.expr.MemberProp.MemberProp, declared.expr.MemberProp.MemberProp as member_prop, declared.expr.OptChainBase.OptChainBase, declared.expr.OptChainBase.OptChainBase as base, declared.expr.SuperProp.SuperProp, declared.expr.SuperProp.SuperProp as super_part, declared.expr.Tpl.Tpl, declared.expr.TplElement.TplElement, declared.function.Function.Function, declared.prop.PropName.PropName, declared.prop.PropName.PropName as prop_name}
 use Rattle.swc_nodes.specs.NodeTree.{expr_of, pat_of, target_of, prop_of, pat_prop_of, node_tree, marked_tree}
-use Rattle.swc_nodes.specs.declared.node.ExprId.{ExprId}
-use Rattle.swc_nodes.specs.declared.node.PatId.{PatId}
-use Rattle.swc_nodes.specs.declared.node.Node.{Node}
-use Rattle.swc_nodes.specs.declared.node.Node.TheVariants as n
-use Rattle.swc_nodes.specs.declared.node.PatPropNode.{PatPropNode}
-use Rattle.swc_nodes.specs.declared.node.PatPropNode.TheVariants as pat_prop
-use Rattle.swc_nodes.specs.declared.node.PropNode.{PropNode}
-use Rattle.swc_nodes.specs.declared.node.PropNode.TheVariants as prop
-use Rattle.swc_nodes.specs.declared.node.TargetNode.{TargetNode}
-use Rattle.swc_nodes.specs.declared.node.TargetNode.TheVariants as target
+use Rattle.swc_nodes.specs.{declared.node.ExprId.ExprId, declared.node.PatId.PatId, declared.node.Node.Node, declared.node.Node.Node as n, declared.node.PatPropNode.PatPropNode, declared.node.PatPropNode.PatPropNode as pat_prop, declared.node.PropNode.PropNode, declared.node.PropNode.PropNode as prop, declared.node.TargetNode.TargetNode, declared.node.TargetNode.TargetNode as target}
 
 module _ {F C K : Type 0} where
   unmarked-place : (t : Tree F C K) → span_of (unmarked t) ≡ span_of t

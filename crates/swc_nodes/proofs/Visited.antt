@@ -1,21 +1,11 @@
 -- How a walk goes on, from the last visit to the first.
-use Rattle.std.proofs.Common.{◌≡◌, ℕ, suc, ◌<◌, ◌≤◌, List, [], ◌∷◌, ◌++◌, length, map, reverse}
-use Rattle.std.proofs.Common.{refl, sym, ap, subst, ◌∙◌, arith}
-use Rattle.std.specs.Prelude.{vec_len, Contains}
-use Rattle.std.specs.declared.alloc.Global.{Global}
-use Rattle.std.specs.declared.vec.Vec.{Vec}
+use Rattle.std.proofs.Common.{◌≡◌, ℕ, suc, ◌<◌, ◌≤◌, List, [], ◌∷◌, ◌++◌, length, map, reverse, refl, sym, ap, subst, ◌∙◌, arith}
 use Rattle.std.proofs.lemmas.List.{append-nil, length-map, reverse-append, length-append}
 use Rattle.std.proofs.lemmas.List.Elements.{Contains-append_left, Contains-append_right}
+use Rattle.std.specs.{Prelude.vec_len, Prelude.Contains, declared.alloc.Global.Global, declared.vec.Vec.Vec}
 use Rattle.swc_ast.specs.declared.spanned.Spanned.{Ghosts}
-use Rattle.swc_nodes.specs.GrowingNodes.{parts_at}
-use Rattle.swc_nodes.specs.NodeParts.{Part, slots}
 use Rattle.swc_nodes.specs.Visits.{Walked, over, enters, leaves, Due, Goes, IsReady, opened, opening, entering, leaving, left_in, parts_under, Turns, past, left}
-use Rattle.swc_nodes.specs.Walking.{part_of}
-use Rattle.swc_nodes.specs.declared.apart.PartId.{PartId}
-use Rattle.swc_nodes.specs.Weights.{ats, left_over}
-use Rattle.swc_nodes.specs.declared.nodes.Nodes.{Nodes}
-use Rattle.swc_nodes.specs.declared.walk.Open.{Open}
-use Rattle.swc_nodes.specs.declared.walk.Visit.{Visit}
+use Rattle.swc_nodes.specs.{GrowingNodes.parts_at, NodeParts.Part, NodeParts.slots, Walking.part_of, declared.apart.PartId.PartId, Weights.ats, Weights.left_over, declared.nodes.Nodes.Nodes, declared.walk.Open.Open, declared.walk.Visit.Visit}
 use Rattle.swc_nodes.proofs.Reaching.{Going, going_on, going_past, on_less, past_less}
 
 module _ {A : Type 0} where

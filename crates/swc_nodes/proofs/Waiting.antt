@@ -1,19 +1,12 @@
 -- Operators are put on the pending ones and taken from them, and their operands lie apart.
-use Rattle.std.proofs.Common.{◌≡◌, ℕ, zero, suc, ◌+◌, ◌<◌, true, List, [], ◌∷◌, ◌++◌, refl, sym, ap, subst}
-use Rattle.std.proofs.Common.{◌∙◌, lt-ltb, arith, Option, Some, None, Result, Ok, Err, length, ◌-◌}
+use Rattle.std.proofs.Common.{◌≡◌, ℕ, zero, suc, ◌+◌, ◌<◌, true, List, [], ◌∷◌, ◌++◌, refl, sym, ap, subst, ◌∙◌, lt-ltb, arith, Option, Some, None, Result, Ok, Err, length, ◌-◌}
+use Rattle.std.proofs.lemmas.List.{append-nil}
 use Rattle.std.specs.Prelude.{if◌then◌else◌, slice_get, option_to_list}
 use Rattle.std.specs.Result.{is_ok}
-use Rattle.std.proofs.lemmas.List.{append-nil}
 use Rattle.swc_context.specs.Operators.{precedence_of}
-use Rattle.swc_ast.specs.declared.spanned.Spanned.{Ghosts}
-use Rattle.swc_ast.specs.Trees.{min_right}
-use Rattle.swc_nodes.specs.Pending.{operand_parts, first_operand}
-use Rattle.swc_nodes.specs.Rising.{least_above, rises}
-use Rattle.swc_nodes.specs.NodeParts.{Part, expr_part}
+use Rattle.swc_ast.specs.{declared.spanned.Spanned.Ghosts, Trees.min_right}
 use Rattle.swc_nodes.specs.GrowingNodes.{count, seat_at, first_at, Apart, From, Grows}
-use Rattle.swc_nodes.specs.declared.node.ExprId.{ExprId}
-use Rattle.swc_nodes.specs.declared.nodes.Nodes.{Nodes}
-use Rattle.swc_nodes.specs.declared.pending.PendingOperator.{PendingOperator}
+use Rattle.swc_nodes.specs.{Pending.operand_parts, Pending.first_operand, Rising.least_above, Rising.rises, NodeParts.Part, NodeParts.expr_part, declared.node.ExprId.ExprId, declared.nodes.Nodes.Nodes, declared.pending.PendingOperator.PendingOperator}
 use Rattle.swc_nodes.proofs.Chains.{both_true, true_both, chain-cons}
 use Rattle.swc_nodes.proofs.Held.{apart-from, from-apart, from-down, from-later}
 use Rattle.swc_nodes.proofs.Lists.{apart-more-one}

@@ -1,18 +1,15 @@
 -- What is left of a walk becomes less as a node is taken apart.
 use Rattle.std.proofs.Common.{◌≡◌, ℕ, suc, ◌+◌, ◌<◌, ◌≤◌, true, List, [], ◌∷◌, ◌++◌, Some, refl, sym, ap, ◌∙◌, arith}
-use Rattle.std.specs.List.{All, sum_by}
 use Rattle.std.proofs.lemmas.List.Elements.{All-nil, All-cons, All-append, All-same, All-pop}
 use Rattle.std.proofs.lemmas.List.Sums.{sum_by-cons, sum_by-append, sum_by_push}
+use Rattle.std.specs.List.{All, sum_by}
 use Rattle.swc_ast.specs.declared.spanned.Spanned.{Ghosts}
 use Rattle.swc_nodes.specs.NumberedTrees.{Seat, floor, fits, chain}
-use Rattle.swc_nodes.specs.NodeParts.{Part, slots}
 use Rattle.swc_nodes.specs.GrowingNodes.{count, seat_at, seat_before, first_at, Apart, Stood}
 use Rattle.swc_nodes.specs.Weights.{ats, weight, left_over, AreNumbers}
-use Rattle.swc_nodes.specs.declared.node.Node.{Node}
-use Rattle.swc_nodes.specs.declared.nodes.Nodes.{Nodes}
+use Rattle.swc_nodes.specs.{NodeParts.Part, NodeParts.slots, declared.node.Node.Node, declared.nodes.Nodes.Nodes}
 use Rattle.swc_nodes.proofs.Chains.{both_true, fitting, chain-bound}
-use Rattle.swc_nodes.proofs.Standing.{before-same}
-use Rattle.swc_nodes.proofs.Held.{stood-parts}
+use Rattle.swc_nodes.proofs.{Standing.before-same, Held.stood-parts}
 
 pub ats-append : (ps qs : List Part) → ats (ps ++ qs) ≡ ats ps ++ ats qs
 ats-append [] qs = refl

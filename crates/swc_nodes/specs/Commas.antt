@@ -1,13 +1,10 @@
 -- Where commas are after the last parts of literals, by where these begin.
 use Rattle.std.specs.Prelude.{◌≡◌, ◌≢◌, ℕ, List, [], ◌∷◌, ◌++◌, Option, None, nat_eq, if◌then◌else◌}
-use Rattle.std.specs.BTreeMap.{get}
-use Rattle.std.specs.Ordering.{nat_cmp}
+use Rattle.std.specs.{BTreeMap.get, Ordering.nat_cmp}
 use Rattle.swc_context.specs.declared.span.Span.{Span}
 use Rattle.swc_ast.specs.Tree.{Kind, array_with, object_with, arrow, Tree, node, Trees, nil, cons}
 use Rattle.swc_nodes.specs.NodeParts.{Part, slots, flat, one_pat, body_parts}
-use Rattle.swc_nodes.specs.declared.commas.TrailingCommas.{TrailingCommas}
-use Rattle.swc_nodes.specs.declared.node.Node.{Node}
-use Rattle.swc_nodes.specs.declared.node.Node.TheVariants as n
+use Rattle.swc_nodes.specs.{declared.commas.TrailingCommas.TrailingCommas, declared.node.Node.Node, declared.node.Node.Node as n}
 
 -- the comma of a literal that begins at the position
 abbrev pub comma_at : TrailingCommas → ℕ → Option Span

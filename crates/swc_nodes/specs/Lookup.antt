@@ -2,10 +2,7 @@
 use Rattle.std.specs.Prelude.{◌≡◌, ℕ, ◌≤◌, List, Option, Some, None, length, slice_range}
 use Rattle.swc_context.specs.Operators.{assign_text, binary_text, unary_text, update_text}
 use Rattle.swc_context.specs.declared.span.Span.{Span}
-use Rattle.swc_nodes.specs.declared.node.ForHeadId.{ForHeadId}
-use Rattle.swc_nodes.specs.declared.node.ForHeadId.TheVariants as for_head
-use Rattle.swc_nodes.specs.declared.node.Node.{Node}
-use Rattle.swc_nodes.specs.declared.node.Node.TheVariants as n
+use Rattle.swc_nodes.specs.{declared.node.ForHeadId.ForHeadId, declared.node.ForHeadId.ForHeadId as for_head, declared.node.Node.Node, declared.node.Node.Node as n}
 
 -- the number of what the head of a `for` begins with
 abbrev pub head_number : ForHeadId → ℕ

@@ -1,15 +1,11 @@
 -- Literals that were read without the places of their commas, with those that are known by where a literal begins.
 use Rattle.std.specs.Prelude.{◌≡◌, ℕ, List, ◌++◌, Option, map, take, drop}
 use Rattle.swc_context.specs.declared.span.Span.{Span}
-use Rattle.swc_ast.specs.Tree.{array_with, object_with, assign, arrow, param, setter, pat_expr, default, key_value}
-use Rattle.swc_ast.specs.Tree.{binding_prop}
-use Rattle.swc_ast.specs.Tree.{Tree, node, Trees, nil, cons}
+use Rattle.swc_ast.specs.Tree.{array_with, object_with, assign, arrow, param, setter, pat_expr, default, key_value, binding_prop, Tree, node, Trees, nil, cons}
 use Rattle.swc_ast.specs.declared.spanned.Spanned.{Ghosts}
 use Rattle.swc_nodes.specs.NodeParts.{Part, View, expr, pat, simple, pattern}
 use Rattle.swc_nodes.specs.GrowingNodes.{count, seat_at, tree_at, first_at, From}
-use Rattle.swc_nodes.specs.declared.node.Node.{Node}
-use Rattle.swc_nodes.specs.declared.node.Node.TheVariants as n
-use Rattle.swc_nodes.specs.declared.nodes.Nodes.{Nodes}
+use Rattle.swc_nodes.specs.{declared.node.Node.Node, declared.node.Node.Node as n, declared.nodes.Nodes.Nodes}
 
 -- where the comma of a literal is, by where the literal begins, or that there is none
 abbrev pub Marker : Type 0

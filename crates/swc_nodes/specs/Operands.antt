@@ -1,9 +1,7 @@
 -- The operand with which a node begins where it does, and the one with which it ends where it does, if there is such a one.
 use Rattle.std.specs.Prelude.{true, Option, Some, None}
 use Rattle.swc_context.specs.declared.span.BytePos.{BytePos}
-use Rattle.swc_nodes.specs.declared.node.ExprId.{ExprId}
-use Rattle.swc_nodes.specs.declared.node.Node.{Node}
-use Rattle.swc_nodes.specs.declared.node.Node.TheVariants as n
+use Rattle.swc_nodes.specs.{declared.node.ExprId.ExprId, declared.node.Node.Node, declared.node.Node.Node as n}
 
 abbrev pub left_operand : {F C K : Type 0} → Node F C K → Option ExprId
 left_operand (n.Bin s op l r) = Some l

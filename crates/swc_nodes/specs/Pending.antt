@@ -1,9 +1,6 @@
 -- The operators that are pending, and their left operands.
 use Rattle.std.specs.Prelude.{List, [], ◌∷◌}
-use Rattle.swc_nodes.specs.NodeParts.{Part, expr_part}
-use Rattle.swc_nodes.specs.declared.node.ExprId.{ExprId}
-use Rattle.swc_nodes.specs.declared.pending.PendingOperator.{PendingOperator}
-use Rattle.swc_nodes.specs.declared.pending.PendingOperators.{PendingOperators}
+use Rattle.swc_nodes.specs.{NodeParts.Part, NodeParts.expr_part, declared.node.ExprId.ExprId, declared.pending.PendingOperator.PendingOperator, declared.pending.PendingOperators.PendingOperators}
 
 -- all that are pending, the lowest one first
 abbrev pub all_pending : PendingOperators → List PendingOperator

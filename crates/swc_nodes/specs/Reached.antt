@@ -1,11 +1,7 @@
 -- What is reached from parts, among nodes.
 use Rattle.std.specs.Prelude.{◌≡◌, ◌<◌, ◌↔◌, List, ◌∷◌, ◌++◌, AllPairs, Contains}
 use Rattle.swc_ast.specs.declared.spanned.Spanned.{Ghosts}
-use Rattle.swc_nodes.specs.NodeParts.{Part}
-use Rattle.swc_nodes.specs.GrowingNodes.{count, parts_at}
-use Rattle.swc_nodes.specs.Walking.{part_of}
-use Rattle.swc_nodes.specs.declared.apart.PartId.{PartId}
-use Rattle.swc_nodes.specs.declared.nodes.Nodes.{Nodes}
+use Rattle.swc_nodes.specs.{NodeParts.Part, GrowingNodes.count, GrowingNodes.parts_at, Walking.part_of, declared.apart.PartId.PartId, declared.nodes.Nodes.Nodes}
 
 -- What is reached from the parts ps: they themselves, where a node has their number, and the parts of the node of each that
 -- is reached.

@@ -1,8 +1,7 @@
 -- New numbers, in place of those that a node's parts are named by.
 use Rattle.std.specs.Prelude.{◌≡◌, ℕ, ◌-◌, List, map, get_or, nat_lt, if◌then◌else◌}
 use Rattle.swc_ast.specs.Tree.{Tree}
-use Rattle.swc_nodes.specs.NodeParts.{Part}
-use Rattle.swc_nodes.specs.declared.renumbering.Numbers.{Numbers}
+use Rattle.swc_nodes.specs.{NodeParts.Part, declared.renumbering.Numbers.Numbers}
 
 -- the new number of an old one; one that has none stays
 abbrev pub given : Numbers → ℕ → ℕ

@@ -1,10 +1,8 @@
 -- How operators whose right operands are being read are on one another, from bottom to top.
 use Rattle.std.specs.Prelude.{ℕ, Bool, true, ◌&&◌, nat_lt, List, [], ◌∷◌}
-use Rattle.swc_context.specs.Operators.{precedence_of}
-use Rattle.swc_context.specs.declared.operator.BinaryOp.{BinaryOp}
+use Rattle.swc_context.specs.{Operators.precedence_of, declared.operator.BinaryOp.BinaryOp}
 use Rattle.swc_ast.specs.Trees.{min_right}
-use Rattle.swc_nodes.specs.declared.node.ExprId.{ExprId}
-use Rattle.swc_nodes.specs.declared.pending.PendingOperator.{PendingOperator}
+use Rattle.swc_nodes.specs.{declared.node.ExprId.ExprId, declared.pending.PendingOperator.PendingOperator}
 
 -- an operator and its left operand
 abbrev pub waiting : ExprId → BinaryOp → PendingOperator

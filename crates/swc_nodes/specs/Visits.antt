@@ -1,16 +1,7 @@
 -- Going over nodes, each before its parts and after them.
 use Rattle.std.specs.Prelude.{◌≡◌, ℕ, ◌<◌, ◌≤◌, List, [], ◌∷◌, ◌++◌, Option, Some, None, Contains, length, map, reverse}
 use Rattle.swc_ast.specs.declared.spanned.Spanned.{Ghosts}
-use Rattle.swc_nodes.specs.GrowingNodes.{count, Stood}
-use Rattle.swc_nodes.specs.NodeParts.{Part, slots}
-use Rattle.swc_nodes.specs.Walking.{part_of}
-use Rattle.swc_nodes.specs.declared.apart.PartId.{PartId}
-use Rattle.swc_nodes.specs.declared.node.Node.{Node}
-use Rattle.swc_nodes.specs.declared.nodes.Nodes.{Nodes}
-use Rattle.swc_nodes.specs.declared.walk.Open.{Open}
-use Rattle.swc_nodes.specs.declared.walk.Step.{Step}
-use Rattle.swc_nodes.specs.declared.walk.Step.TheVariants.{Enter, Leave}
-use Rattle.swc_nodes.specs.declared.walk.Visit.{Visit}
+use Rattle.swc_nodes.specs.{GrowingNodes.count, GrowingNodes.Stood, NodeParts.Part, NodeParts.slots, Walking.part_of, declared.apart.PartId.PartId, declared.node.Node.Node, declared.nodes.Nodes.Nodes, declared.walk.Open.Open, declared.walk.Step.Step, declared.walk.Step.TheVariants.Enter, declared.walk.Step.TheVariants.Leave, declared.walk.Visit.Visit}
 
 -- of the nodes around, the innermost of which is first
 abbrev pub innermost : List PartId → Option PartId

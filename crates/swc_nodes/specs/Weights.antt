@@ -2,10 +2,7 @@
 use Rattle.std.specs.Prelude.{ℕ, suc, ◌-◌, ◌<◌, List, [], ◌∷◌}
 use Rattle.std.specs.List.{All, sum_by}
 use Rattle.swc_ast.specs.declared.spanned.Spanned.{Ghosts}
-use Rattle.swc_nodes.specs.NumberedTrees.{Seat}
-use Rattle.swc_nodes.specs.NodeParts.{Part}
-use Rattle.swc_nodes.specs.GrowingNodes.{count, seat_at}
-use Rattle.swc_nodes.specs.declared.nodes.Nodes.{Nodes}
+use Rattle.swc_nodes.specs.{NumberedTrees.Seat, NodeParts.Part, GrowingNodes.count, GrowingNodes.seat_at, declared.nodes.Nodes.Nodes}
 
 -- the numbers of parts
 abbrev pub ats : List Part → List ℕ

@@ -3,9 +3,8 @@ ghost use Rattle.std.specs.Prelude.{◌≡◌, ℕ, true, ◌++◌, IfOk};
 ghost use Rattle.swc_context.specs.Spans.{from_to};
 ghost use Rattle.swc_ast.specs.Parts.{body_tree};
 ghost use Rattle.swc_ast.specs.Trees as trees;
-ghost use Rattle.swc_nodes.specs.Lists.{pats_parts, pat_trees};
-ghost use Rattle.swc_nodes.specs.NodeParts.{expr_part, body_parts};
 ghost use Rattle.swc_nodes.specs.GrowingNodes.{tree_at, body_end, Apart, Grows, Made};
+ghost use Rattle.swc_nodes.specs.{Lists.pats_parts, Lists.pat_trees, NodeParts.expr_part, NodeParts.body_parts};
 
 use crate::apart::Parts;
 use crate::node::{ExprId, Node, PatId};

@@ -1,9 +1,7 @@
 // Where commas are after the last parts of literals.
 ghost use Rattle.std.specs.Prelude.{◌≡◌, ◌++◌, ℕ, None, IfOk, OnOk, OnErr, map};
 ghost use Rattle.swc_nodes.specs.Commas.{comma_at, Remembers, Recalls, node_comma, outer_parts, part_commas};
-ghost use Rattle.swc_nodes.specs.GrowingNodes.{tree_at, Apart};
-ghost use Rattle.swc_nodes.specs.Marking.{Marks};
-ghost use Rattle.swc_nodes.specs.Walking.{part_of};
+ghost use Rattle.swc_nodes.specs.{GrowingNodes.tree_at, GrowingNodes.Apart, Marking.Marks, Walking.part_of};
 
 use crate::apart::{PartId, Parts, parts_of};
 use crate::node::Node;
@@ -19,7 +17,7 @@ pub struct TrailingCommas {
     by_start: BTreeMap<u32, Span>,
 }
 
-// Not derived: so letting go of the places is a call, and is proved here alone.
+// Not derived: so dropping the places is a call, and is proved here alone.
 impl Drop for TrailingCommas {
     fn drop(self) {
         let TrailingCommas { by_start: _ } = self;

@@ -3,10 +3,9 @@
 ghost use Rattle.std.specs.Prelude.{◌≡◌, ◌<◌, ◌≤◌, not, Some, None, IfSome, MatchOption};
 ghost use Rattle.swc_context.specs.Spans.{in_order};
 ghost use Rattle.swc_ast.specs.Tree.{span_of as tree_span};
-ghost use Rattle.swc_nodes.specs.Lookup.{operator_of, IsTextAt};
 ghost use Rattle.swc_nodes.specs.NodeParts.{expr, form, view_ok};
 ghost use Rattle.swc_nodes.specs.GrowingNodes.{count, tree_at, Stood};
-ghost use Rattle.swc_nodes.specs.Walking.{part_of};
+ghost use Rattle.swc_nodes.specs.{Lookup.operator_of, Lookup.IsTextAt, Walking.part_of};
 
 use crate::apart::PartId;
 use crate::node::{ExprId, ForHeadId, Node, PatId, TargetNode};

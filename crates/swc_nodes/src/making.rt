@@ -1,18 +1,14 @@
 // Makes the nodes of productions, and says where they are.
 ghost use Rattle.std.specs.Prelude.{◌≡◌, ℕ, ◌+◌, ◌≤◌, true, false, ◌++◌, length, map, IfOk};
 ghost use Rattle.swc_context.specs.Spans.{from_to};
-ghost use Rattle.swc_ast.specs.Parts.{leaf, ident_tree, lit_tree, item_trees, member_prop_tree, base_tree};
-ghost use Rattle.swc_ast.specs.Parts.{callee_tree, super_part_tree};
+ghost use Rattle.swc_ast.specs.Parts.{leaf, ident_tree, lit_tree, item_trees, member_prop_tree, base_tree, callee_tree, super_part_tree};
 ghost use Rattle.swc_ast.specs.Spans.{chain_base_span};
 ghost use Rattle.swc_ast.specs.Tree.{node, nil, cons, invalid, super, super_prop, tpl, span_of};
 ghost use Rattle.swc_ast.specs.Trees as trees;
-ghost use Rattle.swc_nodes.specs.Lists.{elem_parts, elem_trees, props_parts, props_trees, exprs_parts, expr_trees};
-ghost use Rattle.swc_nodes.specs.Lists.{tpl_trees, seq_between};
-ghost use Rattle.swc_nodes.specs.NodeParts.{expr_part, one_expr, member_parts, args_parts, base_parts};
-ghost use Rattle.swc_nodes.specs.NodeParts.{callee_parts, super_parts, target_part};
-ghost use Rattle.swc_nodes.specs.declared.node.TargetNode.TheVariants as target;
-ghost use Rattle.swc_nodes.specs.GrowingNodes.{count, tree_at, first_at, start_at, end_at, first_start, last_end};
-ghost use Rattle.swc_nodes.specs.GrowingNodes.{Apart, From, Grows, Made};
+ghost use Rattle.swc_nodes.specs.Lists.{elem_parts, elem_trees, props_parts, props_trees, exprs_parts, expr_trees, tpl_trees, seq_between};
+ghost use Rattle.swc_nodes.specs.NodeParts.{expr_part, one_expr, member_parts, args_parts, base_parts, callee_parts, super_parts, target_part};
+ghost use Rattle.swc_nodes.specs.declared.node.TargetNode.{TargetNode as target};
+ghost use Rattle.swc_nodes.specs.GrowingNodes.{count, tree_at, first_at, start_at, end_at, first_start, last_end, Apart, From, Grows, Made};
 
 use crate::node::{ExprId, InvalidNode, Node, PropNode, TargetNode};
 use crate::nodes::Nodes;

@@ -1,7 +1,6 @@
 // Puts the commas that are remembered into array and object literals.
 ghost use Rattle.std.specs.Prelude.{◌≡◌};
-ghost use Rattle.swc_nodes.specs.Commas.{comma_at};
-ghost use Rattle.swc_nodes.specs.Marking.{marked_from, marked_node};
+ghost use Rattle.swc_nodes.specs.{Commas.comma_at, Marking.marked_from, Marking.marked_node};
 
 use crate::commas::TrailingCommas;
 use crate::node::Node;

@@ -13,13 +13,13 @@ use swc_bodies::bodies::BodyForms;
 /// The nodes of trees, each after its parts. What is reached from one part of a node lies after
 /// the part before it, in the order of the source, so no node is a part of two.
 ///
-/// A number keeps its tree as nodes are appended. Letting go of nodes takes no recursion over trees.
+/// A number keeps its tree as nodes are appended. Dropping nodes takes no recursion over trees.
 pub struct Nodes<F: Spanned, C: Spanned, K: Spanned> {
     nodes: Vec<Node<F, C, K>>,
     ghost in_order: { ordered F.place C.place K.place [] nodes.items ≡ true },
 }
 
-// Not derived: so letting go of nodes is a call, and is proved here alone.
+// Not derived: so dropping nodes is a call, and is proved here alone.
 impl<F: Spanned + Drop, C: Spanned + Drop, K: Spanned + Drop> Drop for Nodes<F, C, K> {
     fn drop(self) {
         let Nodes { nodes: _ } = self;
@@ -35,9 +35,8 @@ pub type NodesOf<B> = Nodes<
 
 impl<F: Spanned + Drop, C: Spanned + Drop, K: Spanned + Drop> Nodes<F, C, K> {
     ghost use Rattle.swc_nodes.specs.NodeParts.{slots, expr_part, pat_part, target_part};
-    ghost use Rattle.swc_nodes.specs.Commas.{comma_at};
-    ghost use Rattle.swc_nodes.specs.Marking.{Marks};
     ghost use Rattle.swc_nodes.specs.GrowingNodes.{count, Apart, From, Grows, Added, Stood, Popped, CutTo};
+    ghost use Rattle.swc_nodes.specs.{Commas.comma_at, Marking.Marks};
 
     /// No nodes. Takes no memory.
     pub fn new(alloc: Global) -> Self
@@ -113,7 +112,7 @@ impl<F: Spanned + Drop, C: Spanned + Drop, K: Spanned + Drop> Nodes<F, C, K> {
         Ok(id)
     }
 
-    /// Takes out the node that has the number, and lets go of all after it.
+    /// Takes out the node that has the number, and drops all after it.
     pub fn pop_at(&mut self, id: usize) -> Node<F, C, K>
         requires { id < count self.old }
         ensures { Popped self.old id result self.new }

@@ -1,20 +1,15 @@
 // Makes the nodes of patterns, of formal parameters and of assignments to patterns, and says where they are.
 ghost use Rattle.std.specs.Prelude.{◌≡◌, ℕ, ◌+◌, ◌++◌, None, IfOk};
-ghost use Rattle.swc_context.specs.Spans.{from_to};
-ghost use Rattle.swc_context.specs.declared.operator.AssignOp.TheVariants as assign_op;
+ghost use Rattle.swc_context.specs.{Spans.from_to, declared.operator.AssignOp.AssignOp as assign_op};
 ghost use Rattle.swc_ast.specs.Parts.{leaf, binding_tree, prop_name_tree, param_tree};
-ghost use Rattle.swc_ast.specs.Patterns as patterns;
 ghost use Rattle.swc_ast.specs.Spans.{prop_name_span};
 ghost use Rattle.swc_ast.specs.Tree.{node, nil, cons, dots as dots_kind, invalid, param as param_kind, span_of};
+ghost use Rattle.swc_ast.specs.Patterns as patterns;
 ghost use Rattle.swc_ast.specs.Trees as trees;
-ghost use Rattle.swc_nodes.specs.Lists.{pat_elem_parts, pat_elem_trees, pat_props_parts, pat_props_trees};
-ghost use Rattle.swc_nodes.specs.Lists.{first_param_pat};
-ghost use Rattle.swc_nodes.specs.NodeParts.{expr_part, pat_part, one_expr, one_pat, key_parts, pat_prop_parts};
-ghost use Rattle.swc_nodes.specs.NodeParts.{param_parts, target_part};
-ghost use Rattle.swc_nodes.specs.NodeTree.{pat_prop_of};
+ghost use Rattle.swc_nodes.specs.Lists.{pat_elem_parts, pat_elem_trees, pat_props_parts, pat_props_trees, first_param_pat};
+ghost use Rattle.swc_nodes.specs.NodeParts.{expr_part, pat_part, one_expr, one_pat, key_parts, pat_prop_parts, param_parts, target_part};
 ghost use Rattle.swc_nodes.specs.GrowingNodes.{count, tree_at, first_at, end_at, Apart, From, Grows, Made};
-ghost use Rattle.swc_nodes.specs.declared.node.PatPropNode.TheVariants as pat_prop;
-ghost use Rattle.swc_nodes.specs.declared.node.TargetNode.TheVariants as target;
+ghost use Rattle.swc_nodes.specs.{NodeTree.pat_prop_of, declared.node.PatPropNode.PatPropNode as pat_prop, declared.node.TargetNode.TargetNode as target};
 
 use crate::node::{ExprId, Node, PatId, PatPropNode, TargetNode};
 use crate::nodes::Nodes;

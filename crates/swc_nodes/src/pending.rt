@@ -26,7 +26,7 @@ pub struct PendingOperators {
     ghost rising: { rises 0 operators.items ≡ true },
 }
 
-// Not derived: so letting go of the operators is a call, and is proved here alone.
+// Not derived: so dropping the operators is a call, and is proved here alone.
 impl Drop for PendingOperators {
     fn drop(self) {
         let PendingOperators { operators: _ } = self;
@@ -56,7 +56,7 @@ impl PendingOperators {
         }
     }
 
-    /// Puts an operator and its left operand on top: one of a precedence above `min_prec`. Refused only for want of
+    /// Puts an operator and its left operand on top: one of a precedence above `min_prec`. Refused only when out of
     /// memory.
     pub fn push(&mut self, left: ExprId, op: BinaryOp) -> Result<(), AllocError>
         requires { least_above 0 (all_pending self.old) < precedence_of op }

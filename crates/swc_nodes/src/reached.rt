@@ -1,8 +1,7 @@
 // All nodes that are reached from a node, or from a piece of one.
 ghost use Rattle.std.specs.Prelude.{◌<◌, ◌≤◌, All, IfOk, length, map};
-ghost use Rattle.swc_nodes.specs.GrowingNodes.{count, Apart};
 ghost use Rattle.swc_nodes.specs.Reached.{HasReached, NumbersRise, PartsFirst};
-ghost use Rattle.swc_nodes.specs.Walking.{part_of};
+ghost use Rattle.swc_nodes.specs.{GrowingNodes.count, GrowingNodes.Apart, Walking.part_of};
 
 use crate::apart::{PartId, Parts, parts_of};
 use crate::nodes::Nodes;

@@ -1,14 +1,10 @@
 // Renumbering: new numbers take the place of those by which parts are held. A number that has no new one stays.
 ghost use Rattle.std.specs.Prelude.{◌≡◌, ◌++◌, ◌∷◌, [], true, map};
-ghost use Rattle.swc_ast.specs.Parts.{or_hole, prop_name_tree, member_prop_tree, super_part_tree, callee_tree};
-ghost use Rattle.swc_ast.specs.Parts.{args_tree, base_tree, body_tree, param_tree, item_tree, member_tree, tpl_tree};
+ghost use Rattle.swc_ast.specs.Parts.{or_hole, prop_name_tree, member_prop_tree, super_part_tree, callee_tree, args_tree, base_tree, body_tree, param_tree, item_tree, member_tree, tpl_tree};
 ghost use Rattle.swc_ast.specs.Tree.{args, node, no_span, trees};
 ghost use Rattle.swc_nodes.specs.NodeTree.{expr_of, pat_of, target_of, prop_of, pat_prop_of, marked_tree};
-ghost use Rattle.swc_nodes.specs.Renumbering.{given, Renumbered};
-ghost use Rattle.swc_nodes.specs.NodeParts.{slots, form, flat, if_some, one_expr, one_pat, target_part, item_parts};
-ghost use Rattle.swc_nodes.specs.NodeParts.{key_parts, member_parts, super_parts, callee_parts, base_parts, body_parts};
-ghost use Rattle.swc_nodes.specs.NodeParts.{args_parts, param_parts, prop_parts, pat_prop_parts};
-ghost use Rattle.swc_nodes.specs.Walking.{is_operation};
+ghost use Rattle.swc_nodes.specs.NodeParts.{slots, form, flat, if_some, one_expr, one_pat, target_part, item_parts, key_parts, member_parts, super_parts, callee_parts, base_parts, body_parts, args_parts, param_parts, prop_parts, pat_prop_parts};
+ghost use Rattle.swc_nodes.specs.{Renumbering.given, Renumbering.Renumbered, Walking.is_operation};
 
 use crate::node::{ExprId, Node, PatId, PatPropNode, PropNode, TargetNode};
 use swc_ast::expr::{

@@ -2,13 +2,11 @@
 ghost use Rattle.std.specs.Prelude.{◌≡◌, not, true, false, MatchOption};
 ghost use Rattle.swc_context.specs.Spans.{in_order};
 ghost use Rattle.swc_ast.specs.Targets as targets;
-ghost use Rattle.swc_ast.specs.Tree.{span_of};
-ghost use Rattle.swc_ast.specs.Trees.{left_ok};
+ghost use Rattle.swc_ast.specs.{Tree.span_of, Trees.left_ok};
 ghost use Rattle.swc_ast.specs.Trees as trees;
 ghost use Rattle.swc_nodes.specs.Lists.{has_cover, is_object, IsObject};
 ghost use Rattle.swc_nodes.specs.NodeParts.{expr_part, pat_part, target_part};
-ghost use Rattle.swc_nodes.specs.declared.node.TargetNode.TheVariants as target;
-ghost use Rattle.swc_nodes.specs.GrowingNodes.{tree_at, From};
+ghost use Rattle.swc_nodes.specs.{declared.node.TargetNode.TargetNode as target, GrowingNodes.tree_at, GrowingNodes.From};
 
 use crate::node::{ExprId, Node, PatId, PropNode};
 use crate::nodes::Nodes;

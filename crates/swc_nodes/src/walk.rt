@@ -1,12 +1,8 @@
 // A walk over all that an expression or a pattern reaches, in the order of the source.
-ghost use Rattle.std.specs.Prelude.{◌≡◌, ◌<◌, ◌≤◌, ℕ, List, [], ◌∷◌, ◌++◌, All, OnOk, IfOk};
-ghost use Rattle.std.specs.Prelude.{length, map, reverse, MatchOption};
+ghost use Rattle.std.specs.Prelude.{◌≡◌, ◌<◌, ◌≤◌, ℕ, List, [], ◌∷◌, ◌++◌, All, OnOk, IfOk, length, map, reverse, MatchOption};
 ghost use Rattle.swc_nodes.specs.GrowingNodes.{count, parts_at, Apart};
-ghost use Rattle.swc_nodes.specs.NodeParts.{Part};
-ghost use Rattle.swc_nodes.specs.Reached.{HasReached, NumbersRise};
+ghost use Rattle.swc_nodes.specs.{NodeParts.Part, Reached.HasReached, Reached.NumbersRise, Visits.left_in, Visits.Walked, Walking.part_of};
 ghost use Rattle.swc_nodes.specs.Visits as visiting;
-ghost use Rattle.swc_nodes.specs.Visits.{left_in, Walked};
-ghost use Rattle.swc_nodes.specs.Walking.{part_of};
 
 use crate::apart::{PartId, Parts, parts_of};
 use crate::nodes::Nodes;

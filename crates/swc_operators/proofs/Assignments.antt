@@ -1,73 +1,36 @@
 -- What the clean parser reads in parentheses, sequences, conditionals, assignments and of `yield`, a step at a time, as
 -- the code goes it.
-use Rattle.std.proofs.Common.{◌≡◌, Bool, true, false, not, ◌&&◌, if◌then◌else◌, List, [], ◌∷◌, Option, Some, None}
-use Rattle.std.proofs.Common.{Result, refl, sym, ap, ◌∙◌, ◌||◌}
-use Rattle.swc_context.specs.declared.context.Context.{Context}
-use Rattle.swc_context.specs.declared.error.Error.{Error}
-use Rattle.swc_context.specs.declared.operator.AssignOp.{AssignOp}
-use Rattle.swc_context.specs.declared.operator.AssignOp.TheVariants as write
-use Rattle.swc_context.specs.declared.span.BytePos.{BytePos}
-use Rattle.swc_context.specs.declared.span.Span.{Span}
-use Rattle.swc_context.specs.declared.word.Keyword.TheVariants as keyword
-use Rattle.swc_context.specs.declared.word.Word.TheVariants as written
-use Rattle.swc_input.specs.declared.buffer.Buffer.{Buffer}
-use Rattle.swc_input.specs.declared.token.Token.{Token}
-use Rattle.swc_input.specs.declared.token.Token.TheVariants as token
-use Rattle.swc_input.specs.declared.token.TokenAndSpan.{TokenAndSpan}
-use Rattle.swc_input.specs.Buffer.{context}
-use Rattle.swc_input.specs.Kinds.{at_token}
-use Rattle.swc_input.specs.Recording.{is_some}
-use Rattle.swc_input.specs.Source.{Model}
-use Rattle.swc_ast.specs.Targets.{is_target}
-use Rattle.swc_ast.specs.Patterns.{array_p, object_p}
+use Rattle.std.proofs.Common.{◌≡◌, Bool, true, false, not, ◌&&◌, if◌then◌else◌, List, [], ◌∷◌, Option, Some, None, Result, refl, sym, ap, ◌∙◌, ◌||◌}
+use Rattle.swc_context.specs.{declared.context.Context.Context, declared.error.Error.Error, declared.operator.AssignOp.AssignOp, declared.operator.AssignOp.AssignOp as write, declared.span.BytePos.BytePos, declared.span.Span.Span, declared.word.Keyword.Keyword as keyword, declared.word.Word.Word as written, Contexts.view as deciding}
+use Rattle.swc_input.specs.{declared.buffer.Buffer.Buffer, declared.token.Token.Token, declared.token.Token.Token as token, declared.token.TokenAndSpan.TokenAndSpan, Buffer.context, Kinds.at_token, Recording.is_some, Source.Model}
 use Rattle.swc_ast.specs.Tree.{Tree, Trees, nil, cons, span_of, node, array_with, object_with}
-use Rattle.swc_ast.specs.Trees.{to, trees_append, cond_e, assign_e, yield_e, hole_e, is_operation}
+use Rattle.swc_ast.specs.Trees.{to, trees_append, cond_e, assign_e, yield_e, hole_e, is_operation, is_valid}
+use Rattle.swc_ast.specs.{Targets.is_target, Patterns.array_p, Patterns.object_p}
 use Rattle.swc_bodies.specs.Readings.{Hook}
-use Rattle.swc_grammar.specs.Scope.{Scope}
-use Rattle.swc_grammar.specs.Cover.{is_assign as is_assign_tree, as_literal, as_elements, as_props, is_pattern}
-use Rattle.swc_grammar.specs.Cover.{is_plain_assign, target, ◌>>>◌}
+use Rattle.swc_grammar.specs.Cover.{is_assign as is_assign_tree, as_literal, as_elements, as_props, is_pattern, is_plain_assign, target, ◌>>>◌}
 use Rattle.swc_grammar.specs.Rule.{gives, take, check, read, sees, given, symbol, ◌>>=◌ as ◌▸◌}
-use Rattle.swc_grammar.specs.Symbols.{Expr, Assign}
-use Rattle.swc_grammar.specs.Tokens.{include_in, with_in, assign_of, is_assign, is_comma, is_question, is_colon}
-use Rattle.swc_grammar.specs.Tokens.{is_star, is_equals, tk, is_yield, yield_ok, goes_on_yield}
-use Rattle.swc_grammar.specs.Tokens.{begins_yielded}
-use Rattle.swc_grammar.specs.Clean.{Out, and_then, first, sym as at, assigns, seqs, begins_yield, plan}
-use Rattle.swc_grammar.specs.Clean.{writes_tail}
-use Rattle.swc_grammar.specs.Clean.{goes_on_yield_at, exec, run, chosen, yield_by as yield_choice}
-use Rattle.swc_grammar.specs.Words.{◌>>=◌, rest}
-use Rattle.swc_grammar.proofs.Answers.{both}
-use Rattle.swc_grammar.proofs.Complete.{last}
-use Rattle.swc_grammar.proofs.Knot.{knot}
-use Rattle.swc_operators.specs.Assignments.{refines, pattern_by, assign_pattern, assign_refined, assign_by, assigned_by}
-use Rattle.swc_cover.proofs.Clear.{clear-fits}
-use Rattle.swc_cover.proofs.Formed.{Formed}
-use Rattle.swc_cover.proofs.Ties.{pattern-is}
-use Rattle.swc_cover.specs.Clear.{is_clear}
+use Rattle.swc_grammar.specs.Tokens.{include_in, with_in, assign_of, is_assign, is_comma, is_question, is_colon, is_star, is_equals, tk, is_yield, yield_ok, goes_on_yield, begins_yielded}
+use Rattle.swc_grammar.specs.Clean.{Out, and_then, first, sym as at, assigns, seqs, begins_yield, plan, writes_tail, goes_on_yield_at, exec, run, chosen, yield_by as yield_choice}
+use Rattle.swc_grammar.specs.{Scope.Scope, Symbols.Expr, Symbols.Assign, Words.◌>>=◌, Words.rest}
+use Rattle.swc_grammar.proofs.{Answers.both, Complete.last, Knot.knot}
+use Rattle.swc_operators.specs.Assignments.{refines, pattern_by, assign_pattern, assign_refined, assign_by, assigned_by, assign_at, seqs_more, seqs_by, cond_tail, seqs_from_by, assigns_from, cond_colon, cond_close, assign_tail, assign_expr, yield_arg, yield_operand, yield_go, yield_tail, yield_expr}
+use Rattle.swc_cover.proofs.{Clear.clear-fits, Formed.Formed, Ties.pattern-is}
 use Rattle.swc_cover.specs.PatTypes.{stands_whole, verdict_as, want_as}
-use Rattle.swc_cover.specs.declared.pat_type.PatType.TheVariants.{AssignPat}
-use Rattle.swc_ast.specs.Trees.{is_valid}
-use Rattle.swc_operators.specs.Assignments.{assign_at, seqs_more, seqs_by, cond_tail, seqs_from_by, assigns_from}
-use Rattle.swc_operators.specs.Assignments.{cond_colon, cond_close, assign_tail, assign_expr, yield_arg}
-use Rattle.swc_operators.specs.Assignments.{yield_operand, yield_go, yield_tail, yield_expr}
+use Rattle.swc_cover.specs.{Clear.is_clear, declared.pat_type.PatType.TheVariants.AssignPat}
 use Rattle.swc_steps.specs.Readers.{begun_if, inside, whole_inside}
-use Rattle.swc_steps.specs.Keys.{expected}
-use Rattle.swc_steps.specs.Lists.{eaten, eaten_by}
-use Rattle.swc_steps.specs.Contexts.{cond_middle, cond_last}
 use Rattle.swc_steps.specs.Parsing.{behind, Moves, Parses}
-use Rattle.swc_steps.proofs.Keys.{then_calls, then_token}
-use Rattle.swc_steps.proofs.Lists.{calls}
-use Rattle.swc_steps.proofs.Rules.{inside_assign}
+use Rattle.swc_steps.specs.{Keys.expected, Lists.eaten, Lists.eaten_by, Contexts.cond_middle, Contexts.cond_last}
 use Rattle.swc_steps.proofs.Steps.{parses_within, parses_aside, parses_inner, inner_of}
+use Rattle.swc_steps.proofs.{Keys.then_calls, Keys.then_token, Lists.calls, Rules.inside_assign}
 use Rattle.swc_operators.proofs.Updates.{if_on, if_off}
 use Rattle.std.specs.Prelude.{is_some as is_given}
-use Rattle.swc_context.specs.Contexts.{view as deciding}
 
 -- whether something is given, by either name
 pub given_some : {A : Type 0} (o : Option A) → is_given o ≡ is_some o
 given_some None = refl
 given_some (Some a) = refl
 
--- the operator that makes a pattern of what stands before it
+-- the operator that makes a pattern of what is before it
 pub plain_is : (op : AssignOp) → is_plain_assign op ≡ true → op ≡ write.Assign
 plain_is write.Assign h = refl
 plain_is op h = absurd cc

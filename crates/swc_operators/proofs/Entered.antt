@@ -1,27 +1,13 @@
 -- What is read in a context that was set, and set back after it.
 use Rattle.std.proofs.Common.{◌≡◌, ℕ, Bool, List, Option, Result, refl, sym, ap, ◌∙◌, arith}
-use Rattle.swc_context.specs.Contexts.{view as deciding}
-use Rattle.swc_context.specs.declared.context.Context.{Context}
-use Rattle.swc_context.specs.declared.error.Error.{Error}
-use Rattle.swc_context.specs.declared.span.Span.{Span}
-use Rattle.swc_input.specs.declared.buffer.Buffer.{Buffer}
-use Rattle.swc_input.specs.declared.token.TokenAndSpan.{TokenAndSpan}
-use Rattle.swc_input.specs.Buffer.{context}
-use Rattle.swc_input.specs.Source.{Model, Laws}
-use Rattle.swc_ast.specs.Tree.{Tree, Trees}
-use Rattle.swc_ast.specs.declared.spanned.Spanned.{Ghosts}
+use Rattle.swc_context.specs.{Contexts.view as deciding, declared.context.Context.Context, declared.error.Error.Error, declared.span.Span.Span}
+use Rattle.swc_input.specs.{declared.buffer.Buffer.Buffer, declared.token.TokenAndSpan.TokenAndSpan, Buffer.context, Source.Model, Source.Laws}
+use Rattle.swc_ast.specs.{Tree.Tree, Tree.Trees, declared.spanned.Spanned.Ghosts}
 use Rattle.swc_bodies.specs.Readings.{Hook}
-use Rattle.swc_grammar.specs.Scope.{Scope}
-use Rattle.swc_grammar.specs.Symbols.{Args}
-use Rattle.swc_grammar.specs.Tokens.{include_in}
-use Rattle.swc_grammar.specs.Clean.{sym as at, run}
-use Rattle.swc_nodes.specs.NodeParts.{Part}
-use Rattle.swc_nodes.specs.declared.nodes.Nodes.{Nodes}
-use Rattle.swc_steps.specs.declared.productions.Productions.{Productions}
-use Rattle.swc_steps.specs.Args.{args_inside}
-use Rattle.swc_steps.specs.Lists.{left_behind}
-use Rattle.swc_steps.specs.Loops.{ItemsRead}
+use Rattle.swc_grammar.specs.{Scope.Scope, Symbols.Args, Tokens.include_in, Clean.sym as at, Clean.run}
+use Rattle.swc_nodes.specs.{NodeParts.Part, declared.nodes.Nodes.Nodes}
 use Rattle.swc_steps.specs.Parsing.{Moves, On, Produces}
+use Rattle.swc_steps.specs.{declared.productions.Productions.Productions, Args.args_inside, Lists.left_behind, Loops.ItemsRead}
 use Rattle.swc_steps.proofs.Args.{inside_args}
 use Rattle.swc_steps.proofs.Steps.{Reader, on_here, on_then}
 use Rattle.swc_operators.proofs.InContext.{within, within_inner}

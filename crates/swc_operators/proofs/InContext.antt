@@ -1,23 +1,14 @@
 -- What a production reads in a context that was set for it, and set back after it.
 use Rattle.std.proofs.Common.{◌≡◌, ℕ, Bool, List, Result, refl, sym, ap, subst, ◌∙◌}
-use Rattle.swc_context.specs.Contexts.{view as deciding}
-use Rattle.swc_context.specs.declared.context.Context.{Context}
-use Rattle.swc_context.specs.declared.error.Error.{Error}
-use Rattle.swc_input.specs.declared.buffer.Buffer.{Buffer}
-use Rattle.swc_input.specs.declared.token.TokenAndSpan.{TokenAndSpan}
-use Rattle.swc_input.specs.Buffer.{context}
-use Rattle.swc_input.specs.Source.{Model}
+use Rattle.swc_context.specs.{Contexts.view as deciding, declared.context.Context.Context, declared.error.Error.Error}
+use Rattle.swc_input.specs.{declared.buffer.Buffer.Buffer, declared.token.TokenAndSpan.TokenAndSpan, Buffer.context, Source.Model}
 use Rattle.swc_ast.specs.declared.spanned.Spanned.{Ghosts}
 use Rattle.swc_bodies.specs.Readings.{Hook}
 use Rattle.swc_grammar.specs.Scope.{Scope, in_context, inner}
-use Rattle.swc_grammar.specs.Symbols.{Expr, Assign}
-use Rattle.swc_grammar.specs.Tokens.{include_in}
-use Rattle.swc_grammar.specs.Clean.{sym as at, run}
-use Rattle.swc_nodes.specs.declared.node.ExprId.{ExprId}
-use Rattle.swc_nodes.specs.declared.nodes.Nodes.{Nodes}
-use Rattle.swc_steps.specs.declared.productions.Productions.{Productions}
+use Rattle.swc_grammar.specs.{Symbols.Expr, Symbols.Assign, Tokens.include_in, Clean.sym as at, Clean.run}
+use Rattle.swc_nodes.specs.{declared.node.ExprId.ExprId, declared.nodes.Nodes.Nodes}
 use Rattle.swc_steps.specs.Parsing.{Moves, Produces, itself, tree_of}
-use Rattle.swc_steps.specs.Readers.{inside, whole_inside}
+use Rattle.swc_steps.specs.{declared.productions.Productions.Productions, Readers.inside, Readers.whole_inside}
 use Rattle.swc_steps.proofs.Making as m
 use Rattle.swc_steps.proofs.Rules.{inside_assign}
 use Rattle.swc_steps.proofs.Steps.{Reader, inner_of, parses_inner, parses_within}

@@ -1,13 +1,10 @@
 -- Operands of binary operators: a `#` and a name that are free, or a unary expression.
 use Rattle.std.proofs.Common.{◌≡◌, Bool, true, false, ◌&&◌, List, Option, refl, ap, ◌∙◌}
-use Rattle.swc_input.specs.declared.token.TokenAndSpan.{TokenAndSpan}
-use Rattle.swc_input.specs.Kinds.{at_token, is_hash}
+use Rattle.swc_input.specs.{declared.token.TokenAndSpan.TokenAndSpan, Kinds.at_token, Kinds.is_hash}
 use Rattle.swc_ast.specs.Tree.{Tree}
 use Rattle.swc_bodies.specs.Readings.{Hook}
-use Rattle.swc_grammar.specs.Scope.{Scope}
-use Rattle.swc_grammar.specs.Symbols.{Unary}
 use Rattle.swc_grammar.specs.Clean.{Out, first, sym as at, links, updates, run}
-use Rattle.swc_grammar.specs.Words.{◌>>=◌}
+use Rattle.swc_grammar.specs.{Scope.Scope, Symbols.Unary, Words.◌>>=◌}
 use Rattle.swc_steps.proofs.Steps.Inner.{inner_is}
 use Rattle.swc_steps.specs.Readers.{behind_operand, is_private_here, operand, private_operand}
 

@@ -1,40 +1,23 @@
 -- How operators are taken and joined, one after another, while others below them wait for their right operands.
-use Rattle.std.proofs.Common.{suc, ◌≡◌, ℕ, ◌<◌, Bool, true, false, if◌then◌else◌, List, [], ◌∷◌, ◌++◌, Option, Some}
-use Rattle.std.proofs.Common.{None, refl, sym, ap, subst, ◌∙◌, arith}
-use Rattle.std.specs.Prelude.{nat_le}
+use Rattle.std.proofs.Common.{suc, ◌≡◌, ℕ, ◌<◌, Bool, true, false, if◌then◌else◌, List, [], ◌∷◌, ◌++◌, Option, Some, None, refl, sym, ap, subst, ◌∙◌, arith}
 use Rattle.std.proofs.lemmas.Bool.{leb-true, leb-false}
-use Rattle.swc_context.specs.Operators.{precedence_of}
-use Rattle.swc_context.specs.declared.error.Error.{Error}
-use Rattle.swc_context.specs.declared.operator.BinaryOp.{BinaryOp}
-use Rattle.swc_context.specs.declared.operator.BinaryOp.TheVariants as binary
-use Rattle.swc_input.specs.declared.buffer.Buffer.{Buffer}
-use Rattle.swc_input.specs.declared.token.TokenAndSpan.{TokenAndSpan}
-use Rattle.swc_input.specs.Source.{Model}
-use Rattle.swc_input.specs.Buffer.{context}
-use Rattle.swc_ast.specs.Tree.{Tree}
+use Rattle.std.specs.Prelude.{nat_le, nat_lt}
+use Rattle.swc_context.specs.{Operators.precedence_of, declared.error.Error.Error, declared.operator.BinaryOp.BinaryOp, declared.operator.BinaryOp.BinaryOp as binary}
+use Rattle.swc_input.specs.{declared.buffer.Buffer.Buffer, declared.token.TokenAndSpan.TokenAndSpan, Source.Model, Buffer.context}
 use Rattle.swc_ast.specs.Trees.{exp_ok, nullish_ok, left_ok, min_right}
-use Rattle.swc_ast.specs.declared.spanned.Spanned.{Ghosts}
+use Rattle.swc_ast.specs.{Tree.Tree, declared.spanned.Spanned.Ghosts}
 use Rattle.swc_bodies.specs.Readings.{Hook}
-use Rattle.swc_grammar.specs.Scope.{Scope, inner}
-use Rattle.swc_grammar.specs.Symbols.{Unary, Level}
 use Rattle.swc_grammar.specs.Clean.{Out, first, sym as at, climb, run, operator_at}
-use Rattle.swc_grammar.specs.Words.{◌>>=◌, rest}
-use Rattle.swc_nodes.specs.Pending.{operand_parts, first_operand}
-use Rattle.swc_nodes.specs.Rising.{waiting, least_above}
-use Rattle.swc_nodes.specs.NodeParts.{expr_part}
+use Rattle.swc_grammar.specs.{Scope.Scope, Scope.inner, Symbols.Unary, Symbols.Level, Words.◌>>=◌, Words.rest}
 use Rattle.swc_nodes.specs.GrowingNodes.{Apart, From, Grows}
-use Rattle.swc_nodes.specs.declared.node.ExprId.{ExprId}
-use Rattle.swc_nodes.specs.declared.nodes.Nodes.{Nodes}
-use Rattle.swc_nodes.specs.declared.pending.PendingOperator.{PendingOperator}
+use Rattle.swc_nodes.specs.{Pending.operand_parts, Pending.first_operand, Rising.waiting, Rising.least_above, NodeParts.expr_part, declared.node.ExprId.ExprId, declared.nodes.Nodes.Nodes, declared.pending.PendingOperator.PendingOperator}
 use Rattle.swc_nodes.proofs.Held.{from-apart, tree-later}
 use Rattle.swc_nodes.proofs.Waiting.{apart-rest, least_more, operands-below, operands-last}
 use Rattle.swc_steps.specs.Parsing.{seen, tree_of, scope, Here, Checks, On, Heard, Unheard}
-use Rattle.std.specs.Prelude.{nat_lt}
 use Rattle.swc_steps.specs.Readers.{turn, bin_op, bin_op_node, operand, turned}
 use Rattle.swc_steps.proofs.Rules as rule
 use Rattle.swc_steps.proofs.Steps as s
-use Rattle.swc_operators.specs.Pending.{operator_above, operator_taken, joined, join, on_joined, on_operand, through}
-use Rattle.swc_operators.specs.Pending.{pending_reads, pending_left, pending_operand}
+use Rattle.swc_operators.specs.Pending.{operator_above, operator_taken, joined, join, on_joined, on_operand, through, pending_reads, pending_left, pending_operand}
 
 -- an operator that binds tighter
 above_by : (b : Bool) (op by : BinaryOp) → (if b then None else Some op) ≡ Some by → (b ≡ false) × (op ≡ by)

@@ -1,30 +1,18 @@
 -- Operands that begin with a name, a literal or `this`: what is read before their links, and where nothing goes on with
 -- them.
-use Rattle.std.proofs.Common.{◌≡◌, Bool, true, false, not, ◌&&◌, if◌then◌else◌, List, [], ◌∷◌, Option, Some, None}
-use Rattle.std.proofs.Common.{refl, sym, ap, ◌∙◌}
-use Rattle.swc_context.specs.declared.word.Keyword.TheVariants as keyword
-use Rattle.swc_context.specs.declared.word.Word.TheVariants as word
-use Rattle.swc_input.specs.declared.token.Token.{Token}
-use Rattle.swc_input.specs.declared.token.Token.TheVariants as token
-use Rattle.swc_input.specs.declared.token.TokenAndSpan.{TokenAndSpan}
-use Rattle.swc_input.specs.Kinds.{at_token}
+use Rattle.std.proofs.Common.{◌≡◌, Bool, true, false, not, ◌&&◌, if◌then◌else◌, List, [], ◌∷◌, Option, Some, None, refl, sym, ap, ◌∙◌}
+use Rattle.swc_context.specs.{declared.word.Keyword.Keyword as keyword, declared.word.Word.Word as word}
+use Rattle.swc_input.specs.{declared.token.Token.Token, declared.token.Token.Token as token, declared.token.TokenAndSpan.TokenAndSpan, Kinds.at_token}
 use Rattle.swc_ast.specs.Tree.{Tree}
 use Rattle.swc_bodies.specs.Readings.{Hook}
-use Rattle.swc_grammar.specs.Scope.{Scope, inner}
 use Rattle.swc_grammar.specs.Symbols.{Unary, Lhs, Base, Primary}
-use Rattle.swc_grammar.specs.Tokens.{is_update, update_of, is_await, prefix_of, is_new, is_super, is_import, is_dot}
-use Rattle.swc_grammar.specs.Tokens.{is_lbracket, is_lparen, is_backquote, is_question}
+use Rattle.swc_grammar.specs.Tokens.{is_update, update_of, is_await, prefix_of, is_new, is_super, is_import, is_dot, is_lbracket, is_lparen, is_backquote, is_question}
 use Rattle.swc_grammar.specs.Clean.{first, sym as at, links, run}
-use Rattle.swc_grammar.specs.Words.{◌>>=◌}
-use Rattle.swc_grammar.proofs.Complete.{last, links-end}
-use Rattle.swc_grammar.proofs.Knot.{knot}
-use Rattle.swc_grammar.proofs.Members.{lhs_parts}
+use Rattle.swc_grammar.specs.{Scope.Scope, Scope.inner, Words.◌>>=◌}
+use Rattle.swc_grammar.proofs.{Complete.last, Complete.links-end, Knot.knot, Members.lhs_parts}
 use Rattle.swc_operators.specs.Operands.{is_plain, goes_on}
-use Rattle.swc_operators.proofs.Operands.{behind, updated}
-use Rattle.swc_operators.proofs.Updates.{operand_splits, updates_end}
-use Rattle.swc_steps.proofs.Keys.{then_calls}
-use Rattle.swc_steps.proofs.Lists.{binds, calls}
-use Rattle.swc_steps.proofs.Steps.Inner.{inner_is}
+use Rattle.swc_operators.proofs.{Operands.behind, Operands.updated, Updates.operand_splits, Updates.updates_end}
+use Rattle.swc_steps.proofs.{Keys.then_calls, Lists.binds, Lists.calls, Steps.Inner.inner_is}
 
 -- ---- no other production begins with such a token
 

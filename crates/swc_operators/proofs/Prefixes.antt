@@ -1,18 +1,9 @@
 -- What `await` is, once it was consumed, as the code finds it.
-use Rattle.std.proofs.Common.{◌≡◌, Bool, true, false, not, ◌&&◌, if◌then◌else◌, List, Some, None, Result}
-use Rattle.std.proofs.Common.{Ok, Err, IfOk, refl, sym, ap, ◌∙◌}
-use Rattle.swc_context.specs.declared.error.Error.{Error}
-use Rattle.swc_context.specs.declared.span.Span.{Span}
-use Rattle.swc_input.specs.declared.buffer.Buffer.{Buffer}
-use Rattle.swc_input.specs.declared.token.TokenAndSpan.{TokenAndSpan}
-use Rattle.swc_input.specs.Buffer.{context}
-use Rattle.swc_input.specs.Kinds.{at_token}
-use Rattle.swc_input.specs.Source.{Model}
+use Rattle.std.proofs.Common.{◌≡◌, Bool, true, false, not, ◌&&◌, if◌then◌else◌, List, Some, None, Result, Ok, Err, IfOk, refl, sym, ap, ◌∙◌}
+use Rattle.swc_context.specs.{declared.error.Error.Error, declared.span.Span.Span}
+use Rattle.swc_input.specs.{declared.buffer.Buffer.Buffer, declared.token.TokenAndSpan.TokenAndSpan, Buffer.context, Kinds.at_token, Source.Model}
 use Rattle.swc_bodies.specs.Readings.{Hook}
-use Rattle.swc_grammar.specs.Scope.{Scope}
-use Rattle.swc_grammar.specs.Tokens.{is_star}
-use Rattle.swc_grammar.specs.Clean.{first, ends_await_at}
-use Rattle.swc_grammar.specs.Words.{◌>>=◌}
+use Rattle.swc_grammar.specs.{Scope.Scope, Tokens.is_star, Clean.first, Clean.ends_await_at, Words.◌>>=◌}
 use Rattle.swc_operators.specs.Prefixes.{await_is_name, await_names, await_by_name}
 use Rattle.swc_operators.specs.Updates.{await_tail, await_go}
 use Rattle.swc_steps.specs.Parsing.{seen, Here, Looks, Continues}

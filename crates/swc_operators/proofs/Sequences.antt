@@ -1,23 +1,15 @@
 -- A sequence (13.16), from the comma after its first expression on.
 use Rattle.std.proofs.Common.{ℕ, Bool, Some, Result, refl}
-use Rattle.swc_context.specs.declared.error.Error.{Error}
-use Rattle.swc_context.specs.declared.span.Span.{Span}
-use Rattle.swc_input.specs.declared.buffer.Buffer.{Buffer}
-use Rattle.swc_input.specs.Source.{Model}
-use Rattle.swc_ast.specs.Tree.{nil, cons}
-use Rattle.swc_ast.specs.Trees.{begins_in_invalid}
-use Rattle.swc_ast.specs.declared.spanned.Spanned.{Ghosts}
+use Rattle.swc_context.specs.{declared.error.Error.Error, declared.span.Span.Span}
+use Rattle.swc_input.specs.{declared.buffer.Buffer.Buffer, Source.Model}
+use Rattle.swc_ast.specs.{Tree.nil, Tree.cons, Trees.begins_in_invalid, declared.spanned.Spanned.Ghosts}
 use Rattle.swc_bodies.specs.Readings.{Hook, LawfulHook}
-use Rattle.swc_grammar.specs.Symbols.{Expr, Assign}
-use Rattle.swc_grammar.specs.Tokens.{is_comma}
 use Rattle.swc_grammar.specs.Clean.{sym as at, run, seqs}
-use Rattle.swc_grammar.specs.Words.{◌>>=◌}
-use Rattle.swc_nodes.specs.GrowingNodes.{start_at, Grows}
-use Rattle.swc_nodes.specs.declared.node.ExprId.{ExprId}
+use Rattle.swc_grammar.specs.{Symbols.Expr, Symbols.Assign, Tokens.is_comma, Words.◌>>=◌}
+use Rattle.swc_nodes.specs.{GrowingNodes.start_at, GrowingNodes.Grows, declared.node.ExprId.ExprId}
 use Rattle.swc_nodes.proofs.Standing.{grows-same}
-use Rattle.swc_steps.specs.declared.productions.Productions.{Productions}
-use Rattle.swc_steps.specs.Lists.{eaten}
 use Rattle.swc_steps.specs.Parsing.{Heard, Produces, itself, tree_of}
+use Rattle.swc_steps.specs.{declared.productions.Productions.Productions, Lists.eaten}
 use Rattle.swc_steps.proofs.Endings.{read-valid, valid-begins}
 use Rattle.swc_steps.proofs.Making as m
 use Rattle.swc_steps.proofs.Steps as s

@@ -1,37 +1,17 @@
 -- What the clean parser reads of `++`, `--` and `await`, a step at a time, as the code goes it.
 use Rattle.std.specs.Prelude.{codes}
-use Rattle.std.proofs.Common.{◌≡◌, Bool, true, false, not, ◌&&◌, if◌then◌else◌, List, [], ◌∷◌, Option, Some, None}
-use Rattle.std.proofs.Common.{refl, sym, ap, ◌∙◌, ◌||◌, Result, Ok, Err}
-use Rattle.swc_context.specs.declared.error.Error.{Error}
-use Rattle.swc_context.specs.declared.operator.UpdateOp.{UpdateOp}
-use Rattle.swc_context.specs.declared.span.Span.{Span}
-use Rattle.swc_context.specs.declared.word.Keyword.TheVariants as keyword
-use Rattle.swc_context.specs.declared.word.Word.TheVariants as written
-use Rattle.swc_input.specs.declared.buffer.Buffer.{Buffer}
-use Rattle.swc_input.specs.declared.token.Token.{Token}
-use Rattle.swc_input.specs.declared.token.Token.TheVariants as token
-use Rattle.swc_input.specs.declared.token.TokenAndSpan.{TokenAndSpan}
-use Rattle.swc_input.specs.Buffer.{Bumped}
-use Rattle.swc_input.specs.Kinds.{at_token}
-use Rattle.swc_input.specs.Plain.{plain}
-use Rattle.swc_input.specs.Source.{Model, Laws}
-use Rattle.swc_ast.specs.Targets.{is_target}
-use Rattle.swc_ast.specs.Tree.{Tree, span_of}
+use Rattle.std.proofs.Common.{◌≡◌, Bool, true, false, not, ◌&&◌, if◌then◌else◌, List, [], ◌∷◌, Option, Some, None, refl, sym, ap, ◌∙◌, ◌||◌, Result, Ok, Err}
+use Rattle.swc_context.specs.{declared.error.Error.Error, declared.operator.UpdateOp.UpdateOp, declared.span.Span.Span, declared.word.Keyword.Keyword as keyword, declared.word.Word.Word as written}
+use Rattle.swc_input.specs.{declared.buffer.Buffer.Buffer, declared.token.Token.Token, declared.token.Token.Token as token, declared.token.TokenAndSpan.TokenAndSpan, Buffer.Bumped, Kinds.at_token, Plain.plain, Source.Model, Source.Laws}
 use Rattle.swc_ast.specs.Trees.{to, update_e, await_e, ident_e}
+use Rattle.swc_ast.specs.{Targets.is_target, Tree.Tree, Tree.span_of}
 use Rattle.swc_bodies.specs.Readings.{Hook}
-use Rattle.swc_grammar.specs.Scope.{Scope, inner}
 use Rattle.swc_grammar.specs.Rule.{gives, read, sees}
-use Rattle.swc_grammar.specs.Symbols.{Unary, Lhs}
-use Rattle.swc_grammar.specs.Tokens.{tk, is_update, update_of, is_await, is_star, await_ok, await_ident_ok}
-use Rattle.swc_grammar.specs.Tokens.{ends_await}
-use Rattle.swc_grammar.specs.Clean.{Out, and_then, first, sym as at, updates, no_update_at, ends_await_at, prefix_at}
-use Rattle.swc_grammar.specs.Clean.{exec, run, chosen, await_by as await_choice}
-use Rattle.swc_grammar.proofs.Answers.{both}
-use Rattle.swc_grammar.specs.Words.{◌>>=◌, rest}
-use Rattle.swc_grammar.proofs.Complete.{last}
-use Rattle.swc_grammar.proofs.Knot.{knot}
-use Rattle.swc_operators.specs.Updates.{update_at, update_behind, update_node, update_tail, update_prefix}
-use Rattle.swc_operators.specs.Updates.{await_ident, await_operand, await_tail, await_expr}
+use Rattle.swc_grammar.specs.Tokens.{tk, is_update, update_of, is_await, is_star, await_ok, await_ident_ok, ends_await}
+use Rattle.swc_grammar.specs.Clean.{Out, and_then, first, sym as at, updates, no_update_at, ends_await_at, prefix_at, exec, run, chosen, await_by as await_choice}
+use Rattle.swc_grammar.specs.{Scope.Scope, Scope.inner, Symbols.Unary, Symbols.Lhs, Words.◌>>=◌, Words.rest}
+use Rattle.swc_grammar.proofs.{Answers.both, Complete.last, Knot.knot}
+use Rattle.swc_operators.specs.Updates.{update_at, update_behind, update_node, update_tail, update_prefix, await_ident, await_operand, await_tail, await_expr}
 use Rattle.swc_steps.specs.Parsing.{Continues, Parses}
 use Rattle.swc_steps.proofs.Lists.{calls}
 use Rattle.swc_steps.proofs.Steps.{Reader, heard_first, on_took, unheard_after, inner_is}

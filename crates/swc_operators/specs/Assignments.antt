@@ -1,41 +1,24 @@
 -- What the steps of the code read in assignment expressions and in sequences (13.14 to 13.16, 15.5), by the clean parser.
 use Rattle.std.specs.Prelude.{ℕ, Bool, true, false, ◌&&◌, if◌then◌else◌, List, Option, Some, None}
-use Rattle.swc_context.specs.declared.operator.AssignOp.{AssignOp}
-use Rattle.swc_context.specs.declared.operator.AssignOp.TheVariants as write
-use Rattle.swc_context.specs.Spans.{from_to}
-use Rattle.swc_context.specs.declared.span.BytePos.{BytePos}
-use Rattle.swc_context.specs.declared.span.Span.{Span}
-use Rattle.swc_input.specs.declared.token.TokenAndSpan.{TokenAndSpan}
-use Rattle.swc_input.specs.Recording.{is_some}
-use Rattle.swc_ast.specs.Targets.{is_target}
-use Rattle.swc_input.specs.Kinds.{at_token}
+use Rattle.swc_context.specs.{declared.operator.AssignOp.AssignOp, declared.operator.AssignOp.AssignOp as write, Spans.from_to, declared.span.BytePos.BytePos, declared.span.Span.Span}
+use Rattle.swc_input.specs.{declared.token.TokenAndSpan.TokenAndSpan, Recording.is_some, Kinds.at_token}
 use Rattle.swc_ast.specs.Tree.{Tree, Trees, nil, cons, span_of}
 use Rattle.swc_ast.specs.Trees.{to, trees_append, cond_e, assign_e, yield_e, hole_e, seq_of, is_operation}
+use Rattle.swc_ast.specs.{Targets.is_target, declared.spanned.Spanned.Ghosts}
 use Rattle.swc_bodies.specs.Readings.{Hook}
-use Rattle.swc_grammar.specs.Scope.{Scope}
 use Rattle.swc_grammar.specs.Cover.{as_literal, is_pattern, is_plain_assign}
-use Rattle.swc_grammar.specs.Symbols.{Assign}
 use Rattle.swc_grammar.specs.Tokens.{assign_of, is_colon, is_question, is_star, yield_ok}
 use Rattle.swc_grammar.specs.Clean.{Out, first, sym, seqs, goes_on_yield_at, run}
-use Rattle.swc_grammar.specs.Words.{◌>>=◌, rest}
-use Rattle.swc_cover.specs.Clear.{is_clear}
-use Rattle.swc_cover.specs.PatTypes.{verdict_as, want_as}
-use Rattle.swc_cover.specs.declared.pat_type.PatType.TheVariants.{AssignPat}
-use Rattle.swc_nodes.specs.GrowingNodes.{tree_at, From}
-use Rattle.swc_nodes.specs.NodeParts.{target_part}
-use Rattle.swc_nodes.specs.declared.node.TargetNode.{TargetNode}
-use Rattle.swc_nodes.specs.declared.node.TargetNode.TheVariants as target
-use Rattle.swc_nodes.specs.declared.nodes.Nodes.{Nodes}
-use Rattle.swc_ast.specs.declared.spanned.Spanned.{Ghosts}
-use Rattle.swc_steps.specs.Keys.{expected}
-use Rattle.swc_steps.specs.Lists.{eaten}
-use Rattle.swc_steps.specs.Readers.{begun_if, inside}
+use Rattle.swc_grammar.specs.{Scope.Scope, Symbols.Assign, Words.◌>>=◌, Words.rest}
+use Rattle.swc_cover.specs.{Clear.is_clear, PatTypes.verdict_as, PatTypes.want_as, declared.pat_type.PatType.TheVariants.AssignPat}
+use Rattle.swc_nodes.specs.{GrowingNodes.tree_at, GrowingNodes.From, NodeParts.target_part, declared.node.TargetNode.TargetNode, declared.node.TargetNode.TargetNode as target, declared.nodes.Nodes.Nodes}
+use Rattle.swc_steps.specs.{Keys.expected, Lists.eaten, Readers.begun_if, Readers.inside}
 
--- whether the operator makes a pattern of what stands before it
+-- whether the operator makes a pattern of what is before it
 abbrev pub refines : {F C K : Type 0} → AssignOp → Tree F C K → Bool
 refines op l = is_plain_assign op && is_pattern l
 
--- the operator that a token is, where it writes to what stands before it: no operation is written to
+-- the operator that a token is, where it writes to what is before it: no operation is written to
 abbrev pub assign_at : {F C K : Type 0} → Option TokenAndSpan → Tree F C K → Option AssignOp
 assign_at None l = None
 assign_at (Some t) l = if is_operation l then None else assign_of t.token
@@ -137,7 +120,7 @@ module _ {F C K : Type 0} (hook : Hook F C K) where
 
 -- ---- what is written to
 
--- its number, and whether it may stand before the operator: a pattern stands before `=` alone
+-- its number, and whether it may come before the operator: a pattern comes before `=` alone
 abbrev pub target_number : TargetNode → ℕ
 target_number (target.Simple e) = e.0
 target_number (target.Pat p) = p.0

@@ -1,20 +1,11 @@
 -- A context that was set round what a loop reads.
 use Rattle.std.specs.Prelude.{◌≡◌, ◌≤◌, Bool, List, Option}
-use Rattle.swc_context.specs.Contexts.{view as deciding}
-use Rattle.swc_context.specs.declared.context.Context.{Context}
-use Rattle.swc_context.specs.declared.span.Span.{Span}
-use Rattle.swc_input.specs.declared.buffer.Buffer.{Buffer}
-use Rattle.swc_input.specs.declared.token.TokenAndSpan.{TokenAndSpan}
-use Rattle.swc_input.specs.Source.{Model}
-use Rattle.swc_input.specs.Buffer.{context, to_come}
-use Rattle.swc_ast.specs.Tree.{Tree, Trees}
-use Rattle.swc_ast.specs.declared.spanned.Spanned.{Ghosts}
-use Rattle.swc_grammar.specs.Scope.{Scope}
-use Rattle.swc_grammar.specs.Clean.{Out}
+use Rattle.swc_context.specs.{Contexts.view as deciding, declared.context.Context.Context, declared.span.Span.Span}
+use Rattle.swc_input.specs.{declared.buffer.Buffer.Buffer, declared.token.TokenAndSpan.TokenAndSpan, Source.Model, Buffer.context, Buffer.to_come}
+use Rattle.swc_ast.specs.{Tree.Tree, Tree.Trees, declared.spanned.Spanned.Ghosts}
+use Rattle.swc_grammar.specs.{Scope.Scope, Clean.Out}
 use Rattle.swc_nodes.specs.NodeParts.{Part}
-use Rattle.swc_steps.specs.declared.productions.Productions.{Productions}
-use Rattle.swc_steps.specs.Loops.{ItemsRead}
-use Rattle.swc_steps.specs.Parsing.{Moves, On}
+use Rattle.swc_steps.specs.{declared.productions.Productions.Productions, Loops.ItemsRead, Parsing.Moves, Parsing.On}
 
 -- From b to c: the context was set, to one that decides as w makes it, and from there what f reads is what g reads at c.
 pub record Entered {S A : Type 0} (model : Model S) (sure : Bool) (w : Context → Context)

@@ -1,9 +1,7 @@
 -- What an operand begins with, and what it goes on with, by one token.
 use Rattle.std.specs.Prelude.{Bool, true, false}
-use Rattle.swc_context.specs.declared.word.Keyword.TheVariants as keyword
-use Rattle.swc_context.specs.declared.word.Word.TheVariants as word
-use Rattle.swc_input.specs.declared.token.Token.{Token}
-use Rattle.swc_input.specs.declared.token.Token.TheVariants as token
+use Rattle.swc_context.specs.{declared.word.Keyword.Keyword as keyword, declared.word.Word.Word as word}
+use Rattle.swc_input.specs.declared.token.Token.{Token, Token as token}
 
 -- a name, a literal or `this` (13.1, 13.2.1 and 13.2.3): any word but the other keywords, a number or a string
 abbrev pub is_plain : Token → Bool

@@ -1,18 +1,14 @@
 -- What is read after an operand, while operators below it wait for their right operands (13.6 to 13.13), by the clean
 -- parser.
 use Rattle.std.specs.Prelude.{ℕ, if◌then◌else◌, nat_le, nat_lt, List, [], ◌∷◌, Option, Some, None}
-use Rattle.swc_context.specs.Operators.{precedence_of}
-use Rattle.swc_context.specs.declared.operator.BinaryOp.{BinaryOp}
+use Rattle.swc_context.specs.{Operators.precedence_of, declared.operator.BinaryOp.BinaryOp}
 use Rattle.swc_input.specs.declared.token.TokenAndSpan.{TokenAndSpan}
 use Rattle.swc_ast.specs.Tree.{Tree, span_of}
 use Rattle.swc_ast.specs.Trees.{to, bin_e, exp_ok, nullish_ok, min_right}
 use Rattle.swc_bodies.specs.Readings.{Hook}
-use Rattle.swc_grammar.specs.Scope.{Scope}
 use Rattle.swc_grammar.specs.Clean.{Out, climb, run}
-use Rattle.swc_grammar.specs.Words.{◌>>=◌, rest}
-use Rattle.swc_nodes.specs.Rising.{least_above}
-use Rattle.swc_nodes.specs.declared.node.ExprId.{ExprId}
-use Rattle.swc_nodes.specs.declared.pending.PendingOperator.{PendingOperator}
+use Rattle.swc_grammar.specs.{Scope.Scope, Words.◌>>=◌, Words.rest}
+use Rattle.swc_nodes.specs.{Rising.least_above, declared.node.ExprId.ExprId, declared.pending.PendingOperator.PendingOperator}
 use Rattle.swc_steps.specs.Readers.{bin_op_node, operand, turned}
 
 -- the operator, if it binds tighter than the precedence m
@@ -45,7 +41,7 @@ module _ {F C K : Type 0} (hook : Hook F C K) where
       (operand hook (nat_lt (min_right op) 7) c ts >>= (λ p. run hook (climb p.0 (min_right op)) c p.1))
       >>= (λ q. on_joined op l m q.0 c q.1)
 
-  -- What is read through all operators that wait, the lowest of which stands on the precedence m: the one on top waits
+  -- What is read through all operators that wait, the lowest of which is on the precedence m: the one on top waits
   -- for o.
   abbrev pub through : (ExprId → Tree F C K) → ℕ → List PendingOperator → Scope → Out (Tree F C K) → Out (Tree F C K)
   through tree m [] c o = o

@@ -1,13 +1,11 @@
 -- What `await` is (13.1 and 15.8), once it was consumed, by the clean parser.
 use Rattle.std.specs.Prelude.{Bool, not, ◌&&◌, if◌then◌else◌, List, Some, None}
 use Rattle.swc_context.specs.declared.span.Span.{Span}
-use Rattle.swc_input.specs.declared.token.TokenAndSpan.{TokenAndSpan}
-use Rattle.swc_input.specs.Kinds.{at_token}
+use Rattle.swc_input.specs.{declared.token.TokenAndSpan.TokenAndSpan, Kinds.at_token}
 use Rattle.swc_ast.specs.Tree.{Tree}
 use Rattle.swc_bodies.specs.Readings.{Hook}
-use Rattle.swc_grammar.specs.Scope.{Scope}
-use Rattle.swc_grammar.specs.Tokens.{is_star}
 use Rattle.swc_grammar.specs.Clean.{Out, first, ends_await_at}
+use Rattle.swc_grammar.specs.{Scope.Scope, Tokens.is_star}
 use Rattle.swc_operators.specs.Updates.{await_ident, await_operand}
 
 -- whether it is an identifier; no `*` is after it

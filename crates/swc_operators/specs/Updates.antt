@@ -1,21 +1,16 @@
 -- What the steps of the code read of `++`, `--` (13.4) and `await` (15.8), by the clean parser.
 use Rattle.std.specs.Prelude.{true, not, ◌&&◌, if◌then◌else◌, List, Option, Some, None, codes}
-use Rattle.swc_context.specs.declared.operator.UpdateOp.{UpdateOp}
-use Rattle.swc_context.specs.declared.span.Span.{Span}
-use Rattle.swc_input.specs.declared.token.TokenAndSpan.{TokenAndSpan}
-use Rattle.swc_input.specs.Kinds.{at_token}
-use Rattle.swc_ast.specs.Targets.{is_target}
-use Rattle.swc_ast.specs.Tree.{Tree, span_of}
+use Rattle.swc_context.specs.{declared.operator.UpdateOp.UpdateOp, declared.span.Span.Span}
+use Rattle.swc_input.specs.{declared.token.TokenAndSpan.TokenAndSpan, Kinds.at_token}
 use Rattle.swc_ast.specs.Trees.{to, update_e, await_e, ident_e}
+use Rattle.swc_ast.specs.{Targets.is_target, Tree.Tree, Tree.span_of}
 use Rattle.swc_bodies.specs.Readings.{Hook}
-use Rattle.swc_grammar.specs.Scope.{Scope, inner}
-use Rattle.swc_grammar.specs.Symbols.{Unary}
 use Rattle.swc_grammar.specs.Tokens.{update_of, is_star, await_ok, await_ident_ok}
 use Rattle.swc_grammar.specs.Clean.{Out, first, sym, ends_await_at, run}
-use Rattle.swc_grammar.specs.Words.{◌>>=◌, rest}
+use Rattle.swc_grammar.specs.{Scope.Scope, Scope.inner, Symbols.Unary, Words.◌>>=◌, Words.rest}
 use Rattle.swc_steps.specs.Parsing.{breaks_at}
 
--- `++` or `--`; and the same on the line of what stands before it
+-- `++` or `--`; and the same on the line of what is before it
 abbrev pub update_at : Option TokenAndSpan → Option UpdateOp
 update_at None = None
 update_at (Some t) = update_of t.token

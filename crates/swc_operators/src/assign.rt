@@ -5,16 +5,12 @@ ghost use Rattle.swc_input.specs.Buffer.{current, context, to_come};
 ghost use Rattle.swc_input.specs.Kinds.{at_token};
 ghost use Rattle.swc_ast.specs.Targets.{is_target};
 ghost use Rattle.swc_grammar.specs.Tokens.{is_yield, yield_ok, opening, word_opening, is_opening, opens_at_times};
-ghost use Rattle.swc_grammar.specs.Firsts.{begins_expression};
-ghost use Rattle.swc_grammar.specs.Scope.{Scope};
-ghost use Rattle.swc_grammar.specs.Clean.{goes_on_yield_at, no_error};
+ghost use Rattle.swc_grammar.specs.{Firsts.begins_expression, Scope.Scope, Clean.goes_on_yield_at, Clean.no_error, Cover.is_pattern};
 ghost use Rattle.swc_nodes.specs.NodeParts.{expr_part, target_part};
 ghost use Rattle.swc_nodes.specs.GrowingNodes.{From, end_at, first_at};
 ghost use Rattle.swc_nodes.specs.declared.node.TargetNode.TheVariants as target;
-ghost use Rattle.swc_grammar.specs.Cover.{is_pattern};
 ghost use Rattle.swc_cover.specs.Rewriting.{Rewrites};
-ghost use Rattle.swc_operators.specs.Assignments.{assign_at, assign_by, assign_made, assign_tail, fits_op, refines};
-ghost use Rattle.swc_operators.specs.Assignments.{target_at, target_from, target_number};
+ghost use Rattle.swc_operators.specs.Assignments.{assign_at, assign_by, assign_made, assign_tail, fits_op, refines, target_at, target_from, target_number};
 ghost use Rattle.swc_steps.specs.Contexts.{cond_middle, cond_last};
 ghost use Rattle.swc_steps.specs.Parsing.{behind, itself, seen, Checks, GoesOn, Looks, Refuses, tree_of};
 
@@ -187,7 +183,7 @@ fn is_opening_word(word: &Word) -> bool
 
 /// What the operator writes to. A literal of an array or an object becomes a pattern before `=` (ECMA-262, 13.15.5),
 /// and what is wrong of that is recorded. Of anything else it is recorded that it can't be written to by the operator,
-/// or not by any but `=`; and refused what can't stand before one at all.
+/// or not by any but `=`; and refused what can't come before one at all.
 pub fn assign_target<I: Tokens, B: Bodies<I>>(
     p: &mut Productions<I, B>,
     op: AssignOp,
@@ -208,7 +204,7 @@ pub fn assign_target<I: Tokens, B: Bodies<I>>(
     Ok(TargetNode::Pat(pat))
 }
 
-/// Whether the operator makes a pattern of what stands before it.
+/// Whether the operator makes a pattern of what is before it.
 fn refines<I: Tokens, B: Bodies<I>>(nodes: &NodesOf<B>, op: AssignOp, left: ExprId) -> bool
     requires { From 0 nodes.now (expr_part left) }
     ensures { result ≡ refines op (tree_of nodes.now left) }
@@ -227,7 +223,7 @@ fn is_literal<I: Tokens, B: Bodies<I>>(nodes: &NodesOf<B>, expr: ExprId) -> bool
     matches!(nodes.get(expr.0), Node::Array { .. } | Node::Object { .. })
 }
 
-/// Records what can't be written to by the operator, or not by any but `=`; and refuses what can't stand before one at
+/// Records what can't be written to by the operator, or not by any but `=`; and refuses what can't come before one at
 /// all.
 fn check_assign_target<I: Tokens, B: Bodies<I>>(
     input: &mut Buffer<I>,
@@ -260,7 +256,7 @@ fn check_assign_target<I: Tokens, B: Bodies<I>>(
     Err(syntax_error(input, span, SyntaxError::InvalidAssignTarget))
 }
 
-/// An assignment (ECMA-262, 13.15) by the operator of `right` to the target, which stands before it.
+/// An assignment (ECMA-262, 13.15) by the operator of `right` to the target, which is before it.
 pub fn assign_node<I: Tokens, B: Bodies<I>>(
     p: &mut Productions<I, B>,
     op: AssignOp,

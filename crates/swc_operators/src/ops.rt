@@ -1,23 +1,17 @@
 // Binary and unary operators, `++`, `--` and `await` (ECMA-262, 13.4 to 13.13 and 15.8).
-ghost use Rattle.std.specs.Prelude.{◌+◌, ◌++◌, ◌∷◌, [], ◌≡◌, ◌≢◌, ◌<◌, ◌≤◌, true, false, not, ◌&&◌, nat_lt};
-ghost use Rattle.std.specs.Prelude.{OnOk, IfOk, IfErr, IsSome};
+ghost use Rattle.std.specs.Prelude.{◌+◌, ◌++◌, ◌∷◌, [], ◌≡◌, ◌≢◌, ◌<◌, ◌≤◌, true, false, not, ◌&&◌, nat_lt, OnOk, IfOk, IfErr, IsSome};
 ghost use Rattle.swc_context.specs.Operators.{precedence_of};
 ghost use Rattle.swc_context.specs.declared.error.SyntaxError.TheVariants.{OutOfMemory, ParserFailed, TS1109};
 ghost use Rattle.swc_input.specs.Buffer.{current, context, last_position, to_come};
-ghost use Rattle.swc_input.specs.Recording.{no_memory};
-ghost use Rattle.swc_ast.specs.Targets.{is_target};
+ghost use Rattle.swc_input.specs.{Recording.no_memory, Kinds.at_token};
+ghost use Rattle.swc_ast.specs.{Targets.is_target, Trees.left_ok};
 ghost use Rattle.swc_ast.specs.Trees as trees;
-ghost use Rattle.swc_ast.specs.Trees.{left_ok};
-ghost use Rattle.swc_input.specs.Kinds.{at_token};
 ghost use Rattle.swc_grammar.specs.Tokens.{is_await as is_await_word, await_ok, await_ident_ok, ends_operand};
 ghost use Rattle.swc_grammar.specs.Clean.{sym, updates, run, operator_at, prefix_at, no_error, ends_await_at};
-ghost use Rattle.swc_nodes.specs.NodeParts.{expr_part};
 ghost use Rattle.swc_nodes.specs.GrowingNodes.{count, first_at, From};
-ghost use Rattle.swc_nodes.specs.Rising.{waiting, least_above};
-ghost use Rattle.swc_nodes.specs.Pending.{all_pending};
+ghost use Rattle.swc_nodes.specs.{NodeParts.expr_part, Rising.waiting, Rising.least_above, Pending.all_pending};
 ghost use Rattle.swc_steps.specs.Readers.{unary_op, unary_op_node};
-ghost use Rattle.swc_steps.specs.Parsing.{seen, Refuses, Acts, Tries, Looks, GoesOn, Recovers, Checked, itself};
-ghost use Rattle.swc_steps.specs.Parsing.{operand_of, tree_of, ParsesAlone};
+ghost use Rattle.swc_steps.specs.Parsing.{seen, Refuses, Acts, Tries, Looks, GoesOn, Recovers, Checked, itself, operand_of, tree_of, ParsesAlone};
 ghost use Rattle.swc_operators.specs.Pending.{operator_above, operator_taken, join};
 ghost use Rattle.swc_operators.specs.Updates.{update_at, update_behind, await_ident};
 
@@ -44,7 +38,7 @@ use swc_steps::tokens::{
 };
 
 /// Records, before an operator, that its left operand, which begins at `first`, was refused: a node of `Invalid`
-/// stands in for it. Elsewhere the refusal stands, and so does out of memory.
+/// stands in for it. Elsewhere the refusal is the answer, and so is out of memory.
 #[inline(never)]
 pub fn recover_left<I: Tokens, B: Bodies<I>>(
     p: &mut Productions<I, B>,
@@ -187,7 +181,7 @@ pub fn parse_update_postfix<I: Tokens, B: Bodies<I>>(
     p.made(node)
 }
 
-/// The identifier `await` (ECMA-262, 13.1), which stands at `start`. In a module it is recorded.
+/// The identifier `await` (ECMA-262, 13.1), which is at `start`. In a module it is recorded.
 pub fn parse_await_ident<I: Tokens, B: Bodies<I>>(
     p: &mut Productions<I, B>,
     start: Span,
@@ -220,8 +214,8 @@ pub fn unary_expr<I: Tokens, B: Bodies<I>>(
     p.made(node)
 }
 
-/// A prefix operator at `start`, the operand of which, at `at`, was refused. That is recorded, unless it is want of
-/// memory, and a node of `Invalid` stands in its place: what ends with it ends where the operator does.
+/// A prefix operator at `start`, the operand of which, at `at`, was refused. That is recorded, unless it is out of
+/// memory, and a node of `Invalid` is in its place: what ends with it ends where the operator does.
 pub fn unary_expr_without_operand<I: Tokens, B: Bodies<I>>(
     p: &mut Productions<I, B>,
     start: Span,
@@ -265,12 +259,12 @@ fn is_delete_op(op: UnaryOp) -> bool
     matches!(op, UnaryOp::Delete)
 }
 
-/// The place of the error, which is let go.
+/// The place of the error, which is dropped.
 fn place_of(error: Error) -> Span {
     error.span()
 }
 
-/// The second error; the first is let go.
+/// The second error; the first is dropped.
 fn instead(_first: Error, second: Error) -> Error
     ensures { result ≡ second }
 {

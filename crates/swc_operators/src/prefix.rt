@@ -1,10 +1,8 @@
 // `++` and `--` before their operand (ECMA-262, 13.4), and what `await` is (13.1 and 15.8).
 ghost use Rattle.std.specs.Prelude.{◌≤◌, OnOk};
 ghost use Rattle.swc_input.specs.Buffer.{to_come};
-ghost use Rattle.swc_nodes.specs.NodeParts.{expr_part};
-ghost use Rattle.swc_nodes.specs.GrowingNodes.{first_at, From};
-ghost use Rattle.swc_operators.specs.Prefixes.{await_names};
-ghost use Rattle.swc_operators.specs.Updates.{update_node};
+ghost use Rattle.swc_nodes.specs.{NodeParts.expr_part, GrowingNodes.first_at, GrowingNodes.From};
+ghost use Rattle.swc_operators.specs.{Prefixes.await_names, Updates.update_node};
 ghost use Rattle.swc_steps.specs.Parsing.{ContinuesAlone, GoesOn, itself, tree_of};
 
 use crate::ops::{check_update_target, is_await_ident};

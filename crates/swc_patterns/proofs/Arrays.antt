@@ -1,45 +1,26 @@
 -- The clean parser's steps in patterns and array patterns (14.3.3), as the code goes them.
-use Rattle.std.proofs.Common.{◌≡◌, ◌≤◌, ℕ, zero, suc, Bool, true, false, not, if◌then◌else◌, List, [], ◌∷◌, ◌++◌}
-use Rattle.std.proofs.Common.{length, Option, Some, None, IsSome, refl, sym, ap, subst, ◌∙◌, arith}
-use Rattle.swc_context.specs.declared.span.Span.{Span}
-use Rattle.swc_context.specs.declared.word.Word.{Word}
-use Rattle.swc_input.specs.declared.token.Token.{Token}
-use Rattle.swc_input.specs.declared.token.Token.TheVariants as token
-use Rattle.swc_input.specs.declared.token.TokenAndSpan.{TokenAndSpan}
-use Rattle.swc_input.specs.Kinds.{at_token}
+use Rattle.std.proofs.Common.{◌≡◌, ◌≤◌, ℕ, zero, suc, Bool, true, false, not, if◌then◌else◌, List, [], ◌∷◌, ◌++◌, length, Option, Some, None, IsSome, refl, sym, ap, subst, ◌∙◌, arith}
+use Rattle.swc_context.specs.{declared.span.Span.Span, declared.word.Word.Word}
+use Rattle.swc_input.specs.{declared.token.Token.Token, declared.token.Token.Token as token, declared.token.TokenAndSpan.TokenAndSpan, Kinds.at_token}
 use Rattle.swc_ast.specs.Patterns.{default_p, object_p, put_element}
 use Rattle.swc_ast.specs.Tree.{Tree, Trees, nil, cons, span_of}
 use Rattle.swc_ast.specs.Trees.{to, ident_e, hole_e, listed, items_of, comma_of, put_first}
 use Rattle.swc_bodies.specs.Readings.{Hook, is_brace}
-use Rattle.swc_grammar.specs.Grammar.{pat-array, pat-object}
-use Rattle.swc_grammar.specs.Names.{may_bind, spelled}
-use Rattle.swc_grammar.specs.Parts.{binding}
 use Rattle.swc_grammar.specs.Rule.{gives, take, check, given, ◌>>=◌ as ◌▸◌}
-use Rattle.swc_grammar.specs.Scope.{Scope}
 use Rattle.swc_grammar.specs.Symbols.{Assign, Pat, Element, Rest, PatElements, PatElementsTail, PatProps}
 use Rattle.swc_grammar.specs.Tokens.{tk, with_in, is_comma, is_equals, is_lbracket, is_rbracket, is_word}
 use Rattle.swc_grammar.specs.Clean.{Out, and_then, first, sym as at, defaults, plan, exec, pat, run}
 use Rattle.swc_grammar.specs.Words.{◌>>=◌, one, word}
-use Rattle.swc_grammar.proofs.Answers.{only, inj}
-use Rattle.swc_grammar.proofs.Complete.{last}
-use Rattle.swc_grammar.proofs.Knot.{knot, run-less}
+use Rattle.swc_grammar.specs.{Grammar.pat-array, Grammar.pat-object, Names.may_bind, Names.spelled, Parts.binding, Scope.Scope}
 use Rattle.swc_grammar.proofs.Only.{lbracket-is, rbracket-is, brace-is, equals-is}
-use Rattle.swc_grammar.proofs.Rules.{run_picked}
-use Rattle.swc_steps.specs.Keys.{expected}
+use Rattle.swc_grammar.proofs.{Answers.only, Answers.inj, Complete.last, Knot.knot, Knot.run-less, Rules.run_picked}
 use Rattle.swc_steps.specs.Lists.{eaten, eaten_by, closed, separated}
-use Rattle.swc_steps.specs.Parsing.{seen_of}
 use Rattle.swc_steps.specs.Readers.{reading, by_production, inside}
+use Rattle.swc_steps.specs.{Keys.expected, Parsing.seen_of}
 use Rattle.swc_steps.proofs.Lists.{calls, binds, bind_same}
-use Rattle.swc_patterns.specs.Arrays.{pat_kind, plain_pat, put_elements, array_from, array_pat_tail, default_value}
-use Rattle.swc_patterns.specs.Arrays.{default_by, ended, head_by, element_head, next_element, item_read, elements_left}
-use Rattle.swc_patterns.specs.Arrays.{behind_element, elements_with}
-use Rattle.swc_patterns.specs.Rests.{Stage, going, closing, never, stage_of, has_comma, has_rest, behind_by}
-use Rattle.swc_patterns.specs.Rests.{separated_item}
-use Rattle.swc_patterns.specs.declared.pat.NextElement.{NextElement}
-use Rattle.swc_patterns.specs.declared.pat.NextElement.TheVariants as next
-use Rattle.swc_patterns.specs.declared.pat.PatKind.TheVariants as kind
-use Rattle.swc_patterns.specs.declared.rest.SeenRest.{SeenRest}
-use Rattle.swc_patterns.specs.declared.rest.SeenRest.TheVariants as seen
+use Rattle.swc_patterns.specs.Arrays.{pat_kind, plain_pat, put_elements, array_from, array_pat_tail, default_value, default_by, ended, head_by, element_head, next_element, item_read, elements_left, behind_element, elements_with}
+use Rattle.swc_patterns.specs.Rests.{Stage, going, closing, never, stage_of, has_comma, has_rest, behind_by, separated_item}
+use Rattle.swc_patterns.specs.{declared.pat.NextElement.NextElement, declared.pat.NextElement.NextElement as next, declared.pat.PatKind.PatKind as kind, declared.rest.SeenRest.SeenRest, declared.rest.SeenRest.SeenRest as seen}
 
 -- ---- what is before an element
 

@@ -1,32 +1,18 @@
 -- Which pattern the current token begins (14.3.3), and what is left of an object pattern after its brace.
 use Rattle.std.proofs.Common.{◌≡◌, Bool, true, false, if◌then◌else◌, List, ◌∷◌, Option, Some, Result, refl, ap, ◌∙◌}
-use Rattle.swc_context.specs.declared.error.Error.{Error}
-use Rattle.swc_context.specs.declared.span.BytePos.{BytePos}
-use Rattle.swc_input.specs.declared.buffer.Buffer.{Buffer}
-use Rattle.swc_input.specs.declared.token.Token.{Token}
-use Rattle.swc_input.specs.declared.token.TokenAndSpan.{TokenAndSpan}
-use Rattle.swc_input.specs.Buffer.{Bumped}
-use Rattle.swc_input.specs.Kinds.{at_token}
-use Rattle.swc_input.specs.Plain.{plain}
-use Rattle.swc_input.specs.Source.{Model}
+use Rattle.swc_context.specs.{declared.error.Error.Error, declared.span.BytePos.BytePos}
+use Rattle.swc_input.specs.{declared.buffer.Buffer.Buffer, declared.token.Token.Token, declared.token.TokenAndSpan.TokenAndSpan, Buffer.Bumped, Kinds.at_token, Plain.plain, Source.Model}
 use Rattle.swc_ast.specs.Tree.{Tree}
 use Rattle.swc_bodies.specs.Readings.{Hook, is_brace}
-use Rattle.swc_grammar.specs.Grammar.{pat-object}
-use Rattle.swc_grammar.specs.Scope.{Scope}
-use Rattle.swc_grammar.specs.Symbols.{Pat, PatProps}
-use Rattle.swc_grammar.specs.Tokens.{is_lbracket}
 use Rattle.swc_grammar.specs.Clean.{Out, sym as at, run}
-use Rattle.swc_grammar.specs.Words.{◌>>=◌}
+use Rattle.swc_grammar.specs.{Grammar.pat-object, Scope.Scope, Symbols.Pat, Symbols.PatProps, Tokens.is_lbracket, Words.◌>>=◌}
 use Rattle.swc_steps.specs.Parsing.{Here, On, Unheard, Parses, Continues, seen}
 use Rattle.swc_steps.specs.Readers.{by_production}
 use Rattle.swc_steps.proofs.Rules.{passes_plain}
 use Rattle.swc_steps.proofs.Steps as s
-use Rattle.swc_patterns.specs.Arrays.{pat_kind}
 use Rattle.swc_patterns.specs.Objects.{object_pat_of, object_pat_from, props_done}
-use Rattle.swc_patterns.specs.declared.pat.PatKind.{PatKind}
-use Rattle.swc_patterns.specs.declared.pat.PatKind.TheVariants as kind
-use Rattle.swc_patterns.proofs.Arrays.{pat_object_picked, pat_object_opens}
-use Rattle.swc_patterns.proofs.Leaving.{on_bind}
+use Rattle.swc_patterns.specs.{Arrays.pat_kind, declared.pat.PatKind.PatKind, declared.pat.PatKind.PatKind as kind}
+use Rattle.swc_patterns.proofs.{Arrays.pat_object_picked, Arrays.pat_object_opens, Leaving.on_bind}
 
 abbrev kind_by : Bool → Bool → PatKind
 kind_by a b = if a then kind.Array else (if b then kind.Object else kind.Plain)

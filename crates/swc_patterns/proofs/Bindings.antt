@@ -1,24 +1,14 @@
 -- Names that are bound: what the call on them reads is what the clean parser reads.
 use Rattle.std.proofs.Common.{◌≡◌, Bool, if◌then◌else◌, List, [], ◌∷◌, Some, None, Result, refl, sym, ap}
-use Rattle.swc_context.specs.Words.{word_text}
-use Rattle.swc_context.specs.declared.context.Context.{Context}
-use Rattle.swc_context.specs.declared.error.Error.{Error}
-use Rattle.swc_context.specs.declared.span.Span.{Span}
-use Rattle.swc_input.specs.declared.buffer.Buffer.{Buffer}
-use Rattle.swc_input.specs.declared.token.Token.{Token}
-use Rattle.swc_input.specs.declared.token.Token.TheVariants as token
-use Rattle.swc_input.specs.declared.token.TokenAndSpan.{TokenAndSpan}
-use Rattle.swc_input.specs.Source.{Model, Laws}
+use Rattle.swc_context.specs.{Words.word_text, declared.context.Context.Context, declared.error.Error.Error, declared.span.Span.Span}
+use Rattle.swc_input.specs.{declared.buffer.Buffer.Buffer, declared.token.Token.Token, declared.token.Token.Token as token, declared.token.TokenAndSpan.TokenAndSpan, Source.Model, Source.Laws}
 use Rattle.swc_ast.specs.declared.ident.BindingIdent.{BindingIdent}
 use Rattle.swc_grammar.specs.Names.{spelling, spelled, may_bind}
-use Rattle.swc_grammar.specs.Scope.{Scope}
-use Rattle.swc_grammar.specs.Words.{one, word}
-use Rattle.swc_ident.specs.Naming.{Names}
-use Rattle.swc_ident.specs.Verdicts.{binding_verdict}
+use Rattle.swc_grammar.specs.{Scope.Scope, Words.one, Words.word}
+use Rattle.swc_ident.specs.{Naming.Names, Verdicts.binding_verdict}
 use Rattle.swc_steps.specs.Parsing.{binding_spelling, Parses}
 use Rattle.swc_steps.proofs.Naming.{honest-binding, parses_name, word_of}
-use Rattle.swc_steps.proofs.Steps.{on_here, parses_after}
-use Rattle.swc_steps.proofs.Words.{is_clean, binding-table}
+use Rattle.swc_steps.proofs.{Steps.on_here, Steps.parses_after, Words.is_clean, Words.binding-table}
 
 spelled_same : (c : Context) (t : Token) (s : Span)
     → spelled (may_bind c) t s ≡ spelled (λ w. is_clean c (binding_verdict c w)) t s

@@ -2,13 +2,8 @@
 use Rattle.std.specs.Prelude.{◌≡◌, Bool, true, false, if◌then◌else◌, List, [], ◌∷◌, Option, Some, None}
 use Rattle.std.proofs.Common.{refl}
 use Rattle.swc_context.specs.declared.span.Span.{Span}
-use Rattle.swc_input.specs.declared.token.Token.{Token}
-use Rattle.swc_input.specs.declared.token.Token.TheVariants as token
-use Rattle.swc_input.specs.declared.token.TokenAndSpan.{TokenAndSpan}
-use Rattle.swc_grammar.specs.Scope.{Scope}
-use Rattle.swc_grammar.specs.Tokens.{tk}
-use Rattle.swc_grammar.specs.Clean.{Out}
-use Rattle.swc_grammar.specs.Words.{◌>>=◌}
+use Rattle.swc_input.specs.{declared.token.Token.Token, declared.token.Token.Token as token, declared.token.TokenAndSpan.TokenAndSpan}
+use Rattle.swc_grammar.specs.{Scope.Scope, Tokens.tk, Clean.Out, Words.◌>>=◌}
 use Rattle.swc_steps.specs.Keys.{expected, expected_by}
 use Rattle.swc_steps.specs.Lists.{eaten, eaten_by, closed, separated}
 

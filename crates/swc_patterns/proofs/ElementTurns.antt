@@ -1,32 +1,22 @@
 -- The loop over the elements of an array pattern (14.3.3): what is read from the bracket on, turn by turn.
 use Rattle.std.proofs.Common.{◌≡◌, Bool, List, [], ◌∷◌, ◌++◌, Option, Some, None, Result, refl, ℕ}
 use Rattle.std.specs.Option.{is_some}
-use Rattle.swc_context.specs.declared.error.Error.{Error}
-use Rattle.swc_context.specs.declared.span.Span.{Span}
-use Rattle.swc_input.specs.declared.buffer.Buffer.{Buffer}
-use Rattle.swc_input.specs.Source.{Model}
-use Rattle.swc_ast.specs.Tree.{Tree, nil}
-use Rattle.swc_ast.specs.Trees.{listed}
-use Rattle.swc_ast.specs.declared.spanned.Spanned.{Ghosts}
+use Rattle.swc_context.specs.{declared.error.Error.Error, declared.span.Span.Span}
+use Rattle.swc_input.specs.{declared.buffer.Buffer.Buffer, Source.Model}
+use Rattle.swc_ast.specs.{Tree.Tree, Tree.nil, Trees.listed, declared.spanned.Spanned.Ghosts}
 use Rattle.swc_bodies.specs.Readings.{Hook}
-use Rattle.swc_grammar.specs.Symbols.{Pat}
-use Rattle.swc_grammar.specs.Tokens.{is_rbracket}
-use Rattle.swc_grammar.specs.Clean.{sym as at, run}
-use Rattle.swc_nodes.specs.NodeParts.{pat_part}
+use Rattle.swc_grammar.specs.{Symbols.Pat, Tokens.is_rbracket, Clean.sym as at, Clean.run}
 use Rattle.swc_nodes.specs.GrowingNodes.{first_at, From, Grows}
-use Rattle.swc_nodes.specs.declared.node.PatId.{PatId}
+use Rattle.swc_nodes.specs.{NodeParts.pat_part, declared.node.PatId.PatId}
 use Rattle.swc_nodes.proofs.Held.{from-down}
 use Rattle.swc_steps.specs.Parsing.{On, Heard, Unheard, Produces, GoesOn}
 use Rattle.swc_steps.specs.declared.productions.Productions.{Productions}
 use Rattle.swc_steps.proofs.Making as m
 use Rattle.swc_steps.proofs.Steps as s
 use Rattle.swc_steps.proofs.Steps.{Reader, give}
-use Rattle.swc_patterns.specs.Answers.{pat_itself, pat_at}
-use Rattle.swc_patterns.specs.Arrays.{put_elements, next_element, item_read, elements_left, behind_element}
-use Rattle.swc_patterns.specs.Arrays.{elements_with}
+use Rattle.swc_patterns.specs.Arrays.{put_elements, next_element, item_read, elements_left, behind_element, elements_with}
 use Rattle.swc_patterns.specs.Rests.{Stage, behind_item, separated_item, rest_node}
-use Rattle.swc_patterns.specs.declared.pat.NextElement.{NextElement}
-use Rattle.swc_patterns.specs.declared.pat.NextElement.TheVariants as next
+use Rattle.swc_patterns.specs.{Answers.pat_itself, Answers.pat_at, declared.pat.NextElement.NextElement, declared.pat.NextElement.NextElement as next}
 use Rattle.swc_patterns.proofs.Arrays.{elements_turn, behind_element_splits}
 
 module _ {S F C K : Type 0} {model : Model S} {sure : Bool} (hook : Hook F C K) {f : Reader (Tree F C K)}

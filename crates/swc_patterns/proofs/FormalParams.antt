@@ -1,39 +1,26 @@
 -- The clean parser's steps in formal parameters (15.1), as the code goes them.
 use Rattle.std.specs.Prelude.{◌≡◌, Bool, true, false, not, if◌then◌else◌, List, [], ◌∷◌, Option, Some, None, IsSome}
 use Rattle.std.proofs.Common.{refl, sym, ap, ◌∙◌}
-use Rattle.swc_context.specs.declared.span.Span.{Span}
-use Rattle.swc_input.specs.declared.token.Token.{Token}
-use Rattle.swc_input.specs.declared.token.Token.TheVariants as token
-use Rattle.swc_input.specs.declared.token.TokenAndSpan.{TokenAndSpan}
-use Rattle.swc_input.specs.Kinds.{at_token}
+use Rattle.swc_context.specs.{declared.span.Span.Span, declared.operator.AssignOp.AssignOp as assign}
+use Rattle.swc_input.specs.{declared.token.Token.Token, declared.token.Token.Token as token, declared.token.TokenAndSpan.TokenAndSpan, Kinds.at_token}
 use Rattle.swc_ast.specs.Tree.{Tree, Trees, nil, cons}
 use Rattle.swc_ast.specs.Trees.{listed, put_first, trees_append}
 use Rattle.swc_bodies.specs.Readings.{Hook}
-use Rattle.swc_context.specs.declared.operator.AssignOp.TheVariants as assign
 use Rattle.swc_grammar.specs.Rule.{gives, token as token_of, ◌>>=◌ as ◌▸◌}
-use Rattle.swc_grammar.specs.Scope.{Scope}
 use Rattle.swc_grammar.specs.Symbols.{Pat, Element, Rest, Params, ParamsTail}
 use Rattle.swc_grammar.specs.Tokens.{tk, is_rparen, is_dots, is_equals}
 use Rattle.swc_grammar.specs.Clean.{Out, and_then, first, sym as at, defaults, exec, plan, run}
-use Rattle.swc_grammar.specs.Words.{◌>>=◌}
-use Rattle.swc_grammar.proofs.Knot.{knot}
-use Rattle.swc_grammar.proofs.Only.{rparen-is}
+use Rattle.swc_grammar.specs.{Scope.Scope, Words.◌>>=◌}
+use Rattle.swc_grammar.proofs.{Knot.knot, Only.rparen-is}
 use Rattle.swc_nodes.proofs.Lists.{trees_append-nil}
-use Rattle.swc_steps.specs.Keys.{expected, expected_by}
 use Rattle.swc_steps.specs.Lists.{eaten, eaten_by, closed, separated, put_before}
-use Rattle.swc_steps.specs.Parsing.{seen_of}
+use Rattle.swc_steps.specs.{Keys.expected, Keys.expected_by, Parsing.seen_of}
 use Rattle.swc_steps.proofs.Keys.{then_calls}
 use Rattle.swc_steps.proofs.Lists.{calls, binds, bind_same, twice}
-use Rattle.swc_patterns.specs.Params.{next_param, param_head, params_close, rest_by, rest_end}
-use Rattle.swc_patterns.specs.Params.{params_by, params_left, behind_param, params_with}
-use Rattle.swc_patterns.specs.Rests.{Stage, going, closing, never, is_never, behind_rest, stage_of, has_comma, has_rest}
-use Rattle.swc_patterns.specs.Rests.{separated_item, rest_node}
-use Rattle.swc_patterns.specs.declared.params.NextParam.{NextParam}
-use Rattle.swc_patterns.specs.declared.rest.SeenRest.{SeenRest}
-use Rattle.swc_patterns.specs.declared.rest.SeenRest.TheVariants as seen
-use Rattle.swc_patterns.specs.declared.params.NextParam.TheVariants as next
-use Rattle.swc_patterns.proofs.Closing.{closing_by, rest_closes}
-use Rattle.swc_patterns.proofs.Objects.{answer, again}
+use Rattle.swc_patterns.specs.Params.{next_param, param_head, params_close, rest_by, rest_end, params_by, params_left, behind_param, params_with}
+use Rattle.swc_patterns.specs.Rests.{Stage, going, closing, never, is_never, behind_rest, stage_of, has_comma, has_rest, separated_item, rest_node}
+use Rattle.swc_patterns.specs.{declared.params.NextParam.NextParam, declared.params.NextParam.NextParam as next, declared.rest.SeenRest.SeenRest, declared.rest.SeenRest.SeenRest as seen}
+use Rattle.swc_patterns.proofs.{Closing.closing_by, Closing.rest_closes, Objects.answer, Objects.again}
 
 -- ---- what is before a parameter
 

@@ -1,6 +1,5 @@
 -- The holes at the end of the elements of an array pattern.
-use Rattle.std.proofs.Common.{◌≡◌, suc, ◌-◌, true, false, List, [], ◌∷◌, Option, Some, None, length, take}
-use Rattle.std.proofs.Common.{refl, sym, ap, ◌∙◌, arith}
+use Rattle.std.proofs.Common.{◌≡◌, suc, ◌-◌, true, false, List, [], ◌∷◌, Option, Some, None, length, take, refl, sym, ap, ◌∙◌, arith}
 use Rattle.std.specs.Prelude.{slice_get}
 use Rattle.swc_patterns.specs.Arrays.{put_elem, without_holes, is_hole, ends_in_hole}
 

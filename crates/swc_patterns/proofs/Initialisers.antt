@@ -1,31 +1,18 @@
 -- A pattern, and its initialiser (14.3.3).
 use Rattle.std.proofs.Common.{◌≡◌, Bool, List, Some, Result, Ok, refl, sym, ap, ◌∙◌, ℕ}
-use Rattle.swc_context.specs.Spans.{from_to}
-use Rattle.swc_context.specs.declared.error.Error.{Error}
-use Rattle.swc_input.specs.declared.token.TokenAndSpan.{TokenAndSpan}
-use Rattle.swc_input.specs.Source.{Model}
-use Rattle.swc_ast.specs.Patterns.{default_p}
-use Rattle.swc_ast.specs.Tree.{Tree, span_of}
-use Rattle.swc_ast.specs.Trees.{to}
-use Rattle.swc_ast.specs.declared.spanned.Spanned.{Ghosts}
+use Rattle.swc_context.specs.{Spans.from_to, declared.error.Error.Error}
+use Rattle.swc_input.specs.{declared.token.TokenAndSpan.TokenAndSpan, Source.Model}
+use Rattle.swc_ast.specs.{Patterns.default_p, Tree.Tree, Tree.span_of, Trees.to, declared.spanned.Spanned.Ghosts}
 use Rattle.swc_bodies.specs.Readings.{Hook, LawfulHook}
-use Rattle.swc_grammar.specs.Scope.{Scope}
-use Rattle.swc_grammar.specs.Symbols.{Assign}
-use Rattle.swc_grammar.specs.Tokens.{with_in}
-use Rattle.swc_grammar.specs.Words.{◌>>=◌}
-use Rattle.swc_nodes.specs.NodeParts.{pat_part}
+use Rattle.swc_grammar.specs.{Scope.Scope, Symbols.Assign, Tokens.with_in, Words.◌>>=◌}
 use Rattle.swc_nodes.specs.GrowingNodes.{count, end_at, first_at, From}
-use Rattle.swc_nodes.specs.declared.node.ExprId.{ExprId}
-use Rattle.swc_nodes.specs.declared.node.PatId.{PatId}
+use Rattle.swc_nodes.specs.{NodeParts.pat_part, declared.node.ExprId.ExprId, declared.node.PatId.PatId}
 use Rattle.swc_nodes.proofs.Held.{from-down, from-later, tree-later}
 use Rattle.swc_steps.specs.Parsing.{Produces, GoesOn, itself, tree_of}
-use Rattle.swc_steps.specs.Readers.{inside}
-use Rattle.swc_steps.specs.declared.productions.Productions.{Productions}
-use Rattle.swc_steps.proofs.Endings.{ended}
+use Rattle.swc_steps.specs.{Readers.inside, declared.productions.Productions.Productions}
+use Rattle.swc_steps.proofs.{Endings.ended, Rules.inside_assign}
 use Rattle.swc_steps.proofs.Making as m
-use Rattle.swc_steps.proofs.Rules.{inside_assign}
-use Rattle.swc_patterns.specs.Answers.{pat_itself, pat_at}
-use Rattle.swc_patterns.specs.Arrays.{default_value}
+use Rattle.swc_patterns.specs.{Answers.pat_itself, Answers.pat_at, Arrays.default_value}
 
 module _ {F C K : Type 0} (hook : Hook F C K) where
   pub default_value_splits : (l : Tree F C K) (x : Scope) (ts : List TokenAndSpan)

@@ -1,22 +1,14 @@
 -- Calls that don't read all that they are to read, but leave some of it.
-use Rattle.std.proofs.Common.{◌≡◌, ℕ, Bool, List, ◌++◌, Result, Ok, Err, MatchResult, sym, ap}
-use Rattle.std.proofs.Common.{subst, ◌∙◌}
-use Rattle.swc_context.specs.declared.error.Error.{Error}
-use Rattle.swc_input.specs.declared.buffer.Buffer.{Buffer}
-use Rattle.swc_input.specs.declared.token.TokenAndSpan.{TokenAndSpan}
-use Rattle.swc_input.specs.Buffer.{context}
-use Rattle.swc_input.specs.Source.{Model}
+use Rattle.std.proofs.Common.{◌≡◌, ℕ, Bool, List, ◌++◌, Result, Ok, Err, MatchResult, sym, ap, subst, ◌∙◌}
+use Rattle.swc_context.specs.{declared.error.Error.Error, Contexts.view as deciding}
+use Rattle.swc_input.specs.{declared.buffer.Buffer.Buffer, declared.token.TokenAndSpan.TokenAndSpan, Buffer.context, Source.Model}
 use Rattle.swc_ast.specs.declared.spanned.Spanned.{Ghosts}
-use Rattle.swc_grammar.specs.Scope.{Scope}
-use Rattle.swc_grammar.specs.Words.{◌>>=◌}
-use Rattle.swc_grammar.specs.Clean.{Out}
-use Rattle.swc_nodes.specs.GrowingNodes.{Grows}
-use Rattle.swc_nodes.specs.declared.nodes.Nodes.{Nodes}
+use Rattle.swc_grammar.specs.{Scope.Scope, Words.◌>>=◌, Clean.Out}
+use Rattle.swc_nodes.specs.{GrowingNodes.Grows, declared.nodes.Nodes.Nodes}
 use Rattle.swc_steps.specs.Parsing.{scope, Moves, On, Unheard}
 use Rattle.swc_steps.specs.declared.productions.Productions.{Productions}
 use Rattle.swc_steps.proofs.Steps.{Reader, less, read_scope, parses_aside}
 use Rattle.swc_patterns.specs.Answers.{Leaves}
-use Rattle.swc_context.specs.Contexts.{view as deciding}
 
 module _ {S : Type 0} {model : Model S} {sure : Bool} where
   -- q is called, of which r is left, and k goes on

@@ -2,13 +2,10 @@
 -- parameters. They keep what they stand for.
 use Rattle.std.proofs.Common.{◌≡◌, ℕ, List, [], ◌∷◌, ◌++◌, map, Option, Some, None, refl, ap, ◌∙◌}
 use Rattle.swc_ast.specs.Tree.{cons, nil, trees}
-use Rattle.swc_ast.specs.Trees.{trees_append}
-use Rattle.swc_ast.specs.declared.function.Param.{Param}
-use Rattle.swc_ast.specs.declared.spanned.Spanned.{Ghosts}
+use Rattle.swc_ast.specs.{Trees.trees_append, declared.function.Param.Param, declared.spanned.Spanned.Ghosts}
 use Rattle.swc_nodes.specs.NodeParts.{flat, if_some, one_pat, param_parts}
 use Rattle.swc_nodes.specs.GrowingNodes.{tree_at, Apart, Grows}
-use Rattle.swc_nodes.specs.declared.node.PatId.{PatId}
-use Rattle.swc_nodes.specs.declared.nodes.Nodes.{Nodes}
+use Rattle.swc_nodes.specs.{declared.node.PatId.PatId, declared.nodes.Nodes.Nodes}
 use Rattle.swc_nodes.proofs.Lists.{SameTrees, same_first, same-front, same-back, apart-trees, list-more}
 use Rattle.swc_patterns.specs.Answers.{pat_at, if_there}
 

@@ -1,33 +1,19 @@
 -- The loop in which the properties of an object pattern are read (14.3.3), one turn after another.
-use Rattle.std.proofs.Common.{◌≡◌, Bool, List, [], ◌∷◌, ◌++◌, Option, Some, None, MatchOption, map, refl, sym, ap}
-use Rattle.std.proofs.Common.{subst, ◌∙◌, arith}
-use Rattle.swc_context.specs.declared.error.Error.{Error}
-use Rattle.swc_context.specs.declared.span.BytePos.{BytePos}
-use Rattle.swc_context.specs.declared.span.Span.{Span}
-use Rattle.swc_input.specs.declared.buffer.Buffer.{Buffer}
-use Rattle.swc_input.specs.Source.{Model, Laws}
-use Rattle.swc_input.specs.Recording.{no_memory}
+use Rattle.std.proofs.Common.{◌≡◌, Bool, List, [], ◌∷◌, ◌++◌, Option, Some, None, MatchOption, map, refl, sym, ap, subst, ◌∙◌, arith}
+use Rattle.swc_context.specs.{declared.error.Error.Error, declared.span.BytePos.BytePos, declared.span.Span.Span}
+use Rattle.swc_input.specs.{declared.buffer.Buffer.Buffer, Source.Model, Source.Laws, Recording.no_memory}
 use Rattle.swc_ast.specs.Tree.{Tree, Trees, cons, nil, trees}
-use Rattle.swc_ast.specs.Trees.{listed, trees_append}
-use Rattle.swc_ast.specs.declared.spanned.Spanned.{Ghosts}
+use Rattle.swc_ast.specs.{Trees.listed, Trees.trees_append, declared.spanned.Spanned.Ghosts}
 use Rattle.swc_bodies.specs.Readings.{Hook}
-use Rattle.swc_grammar.specs.Symbols.{PatProps}
-use Rattle.swc_grammar.specs.Tokens.{is_rbrace}
-use Rattle.swc_grammar.specs.Clean.{sym as at, run}
-use Rattle.swc_nodes.specs.NodeParts.{flat, pat_prop_parts}
+use Rattle.swc_grammar.specs.{Symbols.PatProps, Tokens.is_rbrace, Clean.sym as at, Clean.run}
 use Rattle.swc_nodes.specs.GrowingNodes.{count, Apart, Grows}
-use Rattle.swc_nodes.specs.declared.node.PatPropNode.{PatPropNode}
-use Rattle.swc_nodes.proofs.Lists.{apart-none, apart-list-more}
-use Rattle.swc_nodes.proofs.PatternParts.{pat-props-more}
-use Rattle.swc_nodes.proofs.Standing.{grows-same, grows-then}
-use Rattle.swc_steps.specs.Lists.{eaten, separated}
+use Rattle.swc_nodes.specs.{NodeParts.flat, NodeParts.pat_prop_parts, declared.node.PatPropNode.PatPropNode}
+use Rattle.swc_nodes.proofs.{Lists.apart-none, Lists.apart-list-more, PatternParts.pat-props-more, Standing.grows-same, Standing.grows-then}
 use Rattle.swc_steps.specs.Parsing.{On, Heard, Unheard}
-use Rattle.swc_steps.specs.declared.productions.Productions.{Productions}
-use Rattle.swc_steps.proofs.Steps.{give, on_here, on_then, on_to, on_call, unheard_after, unheard_call, unheard_memory}
-use Rattle.swc_steps.proofs.Steps.{forgoes_later, forgoes_here, leads_then, less, eats_none, eats_some}
-use Rattle.swc_patterns.specs.Answers.{pat_prop_at}
-use Rattle.swc_patterns.specs.Loops.{PatPropsRead}
+use Rattle.swc_steps.specs.{Lists.eaten, Lists.separated, declared.productions.Productions.Productions}
+use Rattle.swc_steps.proofs.Steps.{give, on_here, on_then, on_to, on_call, unheard_after, unheard_call, unheard_memory, forgoes_later, forgoes_here, leads_then, less, eats_none, eats_some}
 use Rattle.swc_patterns.specs.Objects.{pat_prop_item, pat_prop_more, pat_props_left, props_done}
+use Rattle.swc_patterns.specs.{Answers.pat_prop_at, Loops.PatPropsRead}
 use Rattle.swc_patterns.proofs.Objects.{pat_prop_more_splits, props_first, props_turn}
 
 -- where the brace was looked for from b to c, and perhaps taken

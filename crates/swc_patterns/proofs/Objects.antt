@@ -1,35 +1,18 @@
 -- The clean parser's steps in object patterns (14.3.3), as the code goes them.
-use Rattle.std.specs.Prelude.{◌≡◌, ℕ, Bool, true, false, not, if◌then◌else◌, List, [], ◌∷◌, Option, Some, None}
-use Rattle.std.specs.Prelude.{Result, Ok, Err, IfOk}
+use Rattle.std.specs.Prelude.{◌≡◌, ℕ, Bool, true, false, not, if◌then◌else◌, List, [], ◌∷◌, Option, Some, None, Result, Ok, Err, IfOk}
 use Rattle.std.proofs.Common.{refl, sym, ap, ◌∙◌}
-use Rattle.swc_context.specs.Reserved.{is_reserved_word}
-use Rattle.swc_context.specs.declared.error.Error.{Error}
-use Rattle.swc_context.specs.Words.{word_text}
-use Rattle.swc_context.specs.declared.operator.AssignOp.TheVariants as assign
-use Rattle.swc_context.specs.declared.span.BytePos.{BytePos}
-use Rattle.swc_context.specs.declared.span.Span.{Span}
-use Rattle.swc_context.specs.declared.word.Word.{Word}
-use Rattle.swc_input.specs.declared.token.Token.{Token}
-use Rattle.swc_input.specs.declared.token.Token.TheVariants as token
-use Rattle.swc_input.specs.declared.token.TokenAndSpan.{TokenAndSpan}
-use Rattle.swc_input.specs.Kinds.{at_token}
-use Rattle.swc_ast.specs.Patterns.{name_p, holds_ident}
+use Rattle.swc_context.specs.{Reserved.is_reserved_word, declared.error.Error.Error, Words.word_text, declared.operator.AssignOp.AssignOp as assign, declared.span.BytePos.BytePos, declared.span.Span.Span, declared.word.Word.Word}
+use Rattle.swc_input.specs.{declared.token.Token.Token, declared.token.Token.Token as token, declared.token.TokenAndSpan.TokenAndSpan, Kinds.at_token}
 use Rattle.swc_ast.specs.Tree.{Tree, Trees, nil, cons, span_of}
-use Rattle.swc_ast.specs.Trees.{to, ident_e, hole_e, name_e, computed_e, str_e, num_e, big_e, key_value_e, listed}
-use Rattle.swc_ast.specs.Trees.{put_first, trees_append, items_of, comma_of}
-use Rattle.swc_ast.specs.Parts.{prop_name_tree}
-use Rattle.swc_ast.specs.declared.ident.IdentName.{IdentName}
-use Rattle.swc_ast.specs.declared.prop.PropName.{PropName}
-use Rattle.swc_ast.specs.declared.prop.PropName.TheVariants as name
+use Rattle.swc_ast.specs.Trees.{to, ident_e, hole_e, name_e, computed_e, str_e, num_e, big_e, key_value_e, listed, put_first, trees_append, items_of, comma_of}
+use Rattle.swc_ast.specs.{Patterns.name_p, Patterns.holds_ident, Parts.prop_name_tree, declared.ident.IdentName.IdentName, declared.prop.PropName.PropName, declared.prop.PropName.PropName as name}
 use Rattle.swc_bodies.specs.Readings.{Hook}
 use Rattle.swc_grammar.specs.Rule.{gives, symbol, token as token_of, ◌>>=◌ as ◌▸◌, ◌>>◌}
-use Rattle.swc_grammar.specs.Scope.{Scope}
 use Rattle.swc_grammar.specs.Symbols.{Assign, Pat, Element, Rest, Key, PatProps, PatPropsTail, PatProp}
 use Rattle.swc_grammar.specs.Tokens.{tk, is_word, is_rbracket, is_rbrace, is_dots, is_colon, is_equals, with_in}
 use Rattle.swc_grammar.specs.Clean.{Out, and_then, first, sym as at, exec, plan, run}
-use Rattle.swc_grammar.specs.Words.{◌>>=◌}
-use Rattle.swc_grammar.proofs.Knot.{knot}
-use Rattle.swc_grammar.proofs.Only.{rbrace-is}
+use Rattle.swc_grammar.specs.{Scope.Scope, Words.◌>>=◌}
+use Rattle.swc_grammar.proofs.{Knot.knot, Only.rbrace-is}
 use Rattle.swc_nodes.specs.declared.node.ExprId.{ExprId}
 use Rattle.swc_nodes.proofs.Lists.{trees_append-nil}
 use Rattle.swc_steps.specs.Keys.{expected, expected_by, plain_key, computed_key}
@@ -37,13 +20,9 @@ use Rattle.swc_steps.specs.Lists.{eaten, eaten_by, closed, separated, put_before
 use Rattle.swc_steps.specs.Readers.{inside}
 use Rattle.swc_steps.proofs.Keys.{bind_none, then_calls, key_splits}
 use Rattle.swc_steps.proofs.Steps.{not_true, not_false}
-use Rattle.swc_patterns.specs.declared.object.AfterPatKey.TheVariants as after
 use Rattle.swc_steps.proofs.Lists.{calls, binds, bind_same, twice}
-use Rattle.swc_patterns.specs.Objects.{after_pat_key, after_name, after_by, no_colon, name_by, bound, pat_prop_left}
-use Rattle.swc_patterns.specs.Objects.{pat_prop_by, pat_prop_item, is_rest, props_stage, rests_checked}
-use Rattle.swc_patterns.specs.Objects.{object_pat_of, object_pat_from, props_by, pat_props_left, pat_prop_more}
-use Rattle.swc_patterns.specs.Objects.{pat_props_with, is_value, key_or}
-use Rattle.swc_patterns.specs.declared.object.AfterPatKey.{AfterPatKey}
+use Rattle.swc_patterns.specs.declared.object.AfterPatKey.{AfterPatKey as after, AfterPatKey}
+use Rattle.swc_patterns.specs.Objects.{after_pat_key, after_name, after_by, no_colon, name_by, bound, pat_prop_left, pat_prop_by, pat_prop_item, is_rest, props_stage, rests_checked, object_pat_of, object_pat_from, props_by, pat_props_left, pat_prop_more, pat_props_with, is_value, key_or}
 use Rattle.swc_patterns.specs.Rests.{Stage, going, closing, never, is_never, behind_rest, rest_node}
 use Rattle.swc_patterns.proofs.Closing.{closing_by, rest_closes}
 

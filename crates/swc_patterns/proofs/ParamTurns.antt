@@ -1,34 +1,23 @@
 -- The loop over formal parameters (15.1): what is read from the first of them on, turn by turn.
 use Rattle.std.proofs.Common.{◌≡◌, Bool, Option, Some, None, Result, refl, ℕ}
 use Rattle.std.specs.Option.{is_some}
-use Rattle.swc_context.specs.declared.error.Error.{Error}
-use Rattle.swc_context.specs.declared.span.Span.{Span}
-use Rattle.swc_input.specs.declared.buffer.Buffer.{Buffer}
-use Rattle.swc_input.specs.Source.{Model}
+use Rattle.swc_context.specs.{declared.error.Error.Error, declared.span.Span.Span}
+use Rattle.swc_input.specs.{declared.buffer.Buffer.Buffer, Source.Model}
 use Rattle.swc_ast.specs.Tree.{Tree, Trees, nil, cons}
-use Rattle.swc_ast.specs.Trees.{trees_append}
-use Rattle.swc_ast.specs.declared.spanned.Spanned.{Ghosts}
+use Rattle.swc_ast.specs.{Trees.trees_append, declared.spanned.Spanned.Ghosts}
 use Rattle.swc_bodies.specs.Readings.{Hook}
-use Rattle.swc_grammar.specs.Symbols.{Pat}
-use Rattle.swc_grammar.specs.Tokens.{is_equals, is_rparen}
-use Rattle.swc_grammar.specs.Clean.{sym as at, run}
-use Rattle.swc_nodes.specs.NodeParts.{pat_part}
+use Rattle.swc_grammar.specs.{Symbols.Pat, Tokens.is_equals, Tokens.is_rparen, Clean.sym as at, Clean.run}
 use Rattle.swc_nodes.specs.GrowingNodes.{first_at, From, Grows}
-use Rattle.swc_nodes.specs.declared.node.PatId.{PatId}
+use Rattle.swc_nodes.specs.{NodeParts.pat_part, declared.node.PatId.PatId}
 use Rattle.swc_nodes.proofs.Held.{from-down, from-later}
-use Rattle.swc_steps.specs.Lists.{eaten}
 use Rattle.swc_steps.specs.Parsing.{Leads, On, Heard, Unheard, Produces, GoesOn}
-use Rattle.swc_steps.specs.Readers.{nothing}
-use Rattle.swc_steps.specs.declared.productions.Productions.{Productions}
+use Rattle.swc_steps.specs.{Lists.eaten, Readers.nothing, declared.productions.Productions.Productions}
 use Rattle.swc_steps.proofs.Making as m
 use Rattle.swc_steps.proofs.Steps as s
 use Rattle.swc_steps.proofs.Steps.{Reader, give}
-use Rattle.swc_patterns.specs.Answers.{pat_itself, pat_at}
-use Rattle.swc_patterns.specs.Params.{next_param, params_close, rest_by, rest_end, param_read, params_left}
-use Rattle.swc_patterns.specs.Params.{behind_param, params_with}
+use Rattle.swc_patterns.specs.Params.{next_param, params_close, rest_by, rest_end, param_read, params_left, behind_param, params_with}
 use Rattle.swc_patterns.specs.Rests.{Stage, separated_item, rest_node}
-use Rattle.swc_patterns.specs.declared.params.NextParam.{NextParam}
-use Rattle.swc_patterns.specs.declared.params.NextParam.TheVariants as next
+use Rattle.swc_patterns.specs.{Answers.pat_itself, Answers.pat_at, declared.params.NextParam.NextParam, declared.params.NextParam.NextParam as next}
 use Rattle.swc_patterns.proofs.FormalParams.{params_turn, behind_param_splits, rest_end_splits}
 
 module _ {S F C K : Type 0} {model : Model S} {sure : Bool} (hook : Hook F C K) {f : Reader (Tree F C K)}

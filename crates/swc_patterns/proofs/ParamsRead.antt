@@ -1,35 +1,20 @@
 -- The loop over formal parameters (15.1): each is read by itself.
-use Rattle.std.proofs.Common.{◌≡◌, ℕ, ◌≤◌, Bool, false, List, ◌∷◌, ◌++◌, Option, Some, None, Result, Ok, Err, IsErrAnd, IfOk}
-use Rattle.std.proofs.Common.{refl, sym, ap, subst, ◌∙◌, arith}
-use Rattle.std.specs.declared.alloc.Global.{Global}
-use Rattle.std.specs.declared.vec.Vec.{Vec}
-use Rattle.swc_context.specs.declared.error.Error.{Error}
-use Rattle.swc_context.specs.declared.span.Span.{Span}
-use Rattle.swc_input.specs.Laws.{Future-some}
-use Rattle.swc_input.specs.Source.{Model}
-use Rattle.swc_input.specs.declared.buffer.Buffer.{Buffer}
-use Rattle.swc_input.specs.declared.token.Token.TheVariants as token
-use Rattle.swc_input.specs.declared.token.TokenAndSpan.{TokenAndSpan}
+use Rattle.std.proofs.Common.{◌≡◌, ℕ, ◌≤◌, Bool, false, List, ◌∷◌, ◌++◌, Option, Some, None, Result, Ok, Err, IsErrAnd, IfOk, refl, sym, ap, subst, ◌∙◌, arith}
+use Rattle.std.specs.{declared.alloc.Global.Global, declared.vec.Vec.Vec}
+use Rattle.swc_context.specs.{declared.error.Error.Error, declared.span.Span.Span}
+use Rattle.swc_input.specs.{Laws.Future-some, Source.Model, declared.buffer.Buffer.Buffer, declared.token.Token.Token as token, declared.token.TokenAndSpan.TokenAndSpan}
 use Rattle.swc_ast.specs.Tree.{Tree, Trees, nil, cons}
-use Rattle.swc_ast.specs.Trees.{trees_append}
-use Rattle.swc_ast.specs.declared.function.Param.{Param}
-use Rattle.swc_ast.specs.declared.spanned.Spanned.{Ghosts}
+use Rattle.swc_ast.specs.{Trees.trees_append, declared.function.Param.Param, declared.spanned.Spanned.Ghosts}
 use Rattle.swc_bodies.specs.Readings.{Hook}
 use Rattle.swc_grammar.specs.Clean.{Out, sym as at, run}
-use Rattle.swc_grammar.specs.Scope.{Scope}
-use Rattle.swc_grammar.specs.Symbols.{Params, Pat}
-use Rattle.swc_grammar.specs.Tokens.{is_equals, tk}
-use Rattle.swc_grammar.specs.Words.{◌>>=◌}
-use Rattle.swc_nodes.specs.GrowingNodes.{Grows}
-use Rattle.swc_nodes.specs.declared.node.PatId.{PatId}
-use Rattle.swc_steps.specs.Lists.{eaten}
+use Rattle.swc_grammar.specs.{Scope.Scope, Symbols.Params, Symbols.Pat, Tokens.is_equals, Tokens.tk, Words.◌>>=◌}
+use Rattle.swc_nodes.specs.{GrowingNodes.Grows, declared.node.PatId.PatId}
 use Rattle.swc_steps.specs.Parsing.{scope, recorded, Leads, Loud, On, Unheard}
-use Rattle.swc_steps.specs.declared.productions.Productions.{Productions}
+use Rattle.swc_steps.specs.{Lists.eaten, declared.productions.Productions.Productions}
 use Rattle.swc_steps.proofs.Steps.{give, less, loud_after, more_recorded, read_scope}
-use Rattle.swc_patterns.specs.Answers.{params_at, params_of}
 use Rattle.swc_patterns.specs.Params.{param_read, params_close, rest_by, rest_end}
 use Rattle.swc_patterns.specs.ParamsRead.{ReadAlone, element, dotted, AllReadAlone, LeavesParams}
-use Rattle.swc_patterns.specs.Rests.{rest_node}
+use Rattle.swc_patterns.specs.{Answers.params_at, Answers.params_of, Rests.rest_node}
 use Rattle.swc_patterns.proofs.FormalParams.{rest_end_splits, rest_read}
 
 abbrev tree_or : {F C K : Type 0} → Tree F C K → Out (Tree F C K) → Tree F C K

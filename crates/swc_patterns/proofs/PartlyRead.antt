@@ -3,10 +3,8 @@ use Rattle.std.proofs.Common.{◌≡◌, ℕ, Bool, Result, Ok, Err, IsErrAnd}
 use Rattle.swc_context.specs.declared.error.Error.{Error}
 use Rattle.swc_input.specs.Source.{Model}
 use Rattle.swc_ast.specs.declared.spanned.Spanned.{Ghosts}
-use Rattle.swc_nodes.specs.GrowingNodes.{Grows}
-use Rattle.swc_nodes.specs.declared.nodes.Nodes.{Nodes}
-use Rattle.swc_steps.specs.Parsing.{On, Unheard}
-use Rattle.swc_steps.specs.declared.productions.Productions.{Productions}
+use Rattle.swc_nodes.specs.{GrowingNodes.Grows, declared.nodes.Nodes.Nodes}
+use Rattle.swc_steps.specs.{Parsing.On, Parsing.Unheard, declared.productions.Productions.Productions}
 use Rattle.swc_steps.proofs.Steps.{Reader, less}
 use Rattle.swc_patterns.specs.Answers.{Leaves}
 

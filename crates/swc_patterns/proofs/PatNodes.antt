@@ -1,25 +1,15 @@
 -- Productions: the nodes of patterns that were made.
-use Rattle.std.proofs.Common.{◌≡◌, ℕ, ◌≤◌, List, [], ◌∷◌, ◌++◌, Option, Some, None, Result, Ok, Err, IfOk, IfErr}
-use Rattle.std.proofs.Common.{refl, sym, ap, subst, ◌∙◌, map}
-use Rattle.std.specs.Prelude.{Bool}
-use Rattle.std.specs.declared.alloc.AllocError.{AllocError}
-use Rattle.std.specs.declared.alloc.Global.{Global}
-use Rattle.std.specs.declared.vec.Vec.{Vec}
-use Rattle.swc_context.specs.declared.error.Error.{Error}
-use Rattle.swc_context.specs.declared.span.BytePos.{BytePos}
-use Rattle.swc_context.specs.declared.span.Span.{Span}
-use Rattle.swc_input.specs.Source.{Model}
-use Rattle.swc_input.specs.Recording.{no_memory}
-use Rattle.swc_ast.specs.Patterns.{array_p}
+use Rattle.std.proofs.Common.{◌≡◌, ℕ, ◌≤◌, List, [], ◌∷◌, ◌++◌, Option, Some, None, Result, Ok, Err, IfOk, IfErr, refl, sym, ap, subst, ◌∙◌, map}
+use Rattle.std.specs.{Prelude.Bool, declared.alloc.AllocError.AllocError, declared.alloc.Global.Global, declared.vec.Vec.Vec}
+use Rattle.swc_context.specs.{declared.error.Error.Error, declared.span.BytePos.BytePos, declared.span.Span.Span}
+use Rattle.swc_input.specs.{Source.Model, Recording.no_memory}
 use Rattle.swc_ast.specs.Tree.{Tree, nil, trees}
-use Rattle.swc_ast.specs.declared.spanned.Spanned.{Ghosts}
+use Rattle.swc_ast.specs.{Patterns.array_p, declared.spanned.Spanned.Ghosts}
 use Rattle.swc_nodes.specs.Lists.{pat_elem_parts, pat_elem_tree, pat_elem_trees}
 use Rattle.swc_nodes.specs.NodeParts.{Part, flat, if_some, one_pat, pat_part}
 use Rattle.swc_nodes.specs.GrowingNodes.{tree_at, Apart, Grows, Made}
-use Rattle.swc_nodes.specs.declared.node.PatId.{PatId}
-use Rattle.swc_nodes.specs.declared.nodes.Nodes.{Nodes}
-use Rattle.swc_nodes.proofs.Held.{from-down}
-use Rattle.swc_nodes.proofs.Standing.{grows-then}
+use Rattle.swc_nodes.specs.{declared.node.PatId.PatId, declared.nodes.Nodes.Nodes}
+use Rattle.swc_nodes.proofs.{Held.from-down, Standing.grows-then}
 use Rattle.swc_steps.specs.Parsing.{On, Heard, Produces, GoesOn}
 use Rattle.swc_steps.specs.declared.productions.Productions.{Productions}
 use Rattle.swc_steps.proofs.Making.{yes, on}

@@ -1,41 +1,22 @@
 -- The nodes of properties of object patterns: their trees, and what they reach.
 use Rattle.std.proofs.Common.{◌≡◌, ℕ, Bool, ◌++◌, None, Some, Ok, refl, sym, ap, subst, ◌∙◌}
 use Rattle.swc_context.specs.Spans.{from_to}
-use Rattle.swc_input.specs.declared.buffer.Buffer.{Buffer}
-use Rattle.swc_input.specs.Source.{Model}
-use Rattle.swc_ast.specs.Patterns.{name_p}
-use Rattle.swc_ast.specs.Parts.{binding_tree, prop_name_tree}
-use Rattle.swc_ast.specs.Spans.{prop_name_span}
-use Rattle.swc_ast.specs.Tree.{Tree, span_of}
-use Rattle.swc_ast.specs.Trees.{to, key_value_e}
-use Rattle.swc_ast.specs.declared.ident.BindingIdent.{BindingIdent}
-use Rattle.swc_ast.specs.declared.prop.PropName.{PropName}
-use Rattle.swc_ast.specs.declared.prop.PropName.TheVariants as name
-use Rattle.swc_ast.specs.declared.spanned.Spanned.{Ghosts}
+use Rattle.swc_input.specs.{declared.buffer.Buffer.Buffer, Source.Model}
+use Rattle.swc_ast.specs.{Patterns.name_p, Parts.binding_tree, Parts.prop_name_tree, Spans.prop_name_span, Tree.Tree, Tree.span_of, Trees.to, Trees.key_value_e, declared.ident.BindingIdent.BindingIdent, declared.prop.PropName.PropName, declared.prop.PropName.PropName as name, declared.spanned.Spanned.Ghosts}
 use Rattle.swc_bodies.specs.Readings.{Hook, LawfulHook}
-use Rattle.swc_grammar.specs.Symbols.{Assign}
-use Rattle.swc_grammar.specs.Tokens.{with_in}
+use Rattle.swc_grammar.specs.{Symbols.Assign, Tokens.with_in}
 use Rattle.swc_nodes.specs.NodeParts.{expr_part, key_parts, one_expr, one_pat, pat_part, pat_prop_parts}
 use Rattle.swc_nodes.specs.GrowingNodes.{count, end_at, tree_at, Apart, From, Grows}
-use Rattle.swc_nodes.specs.declared.node.ExprId.{ExprId}
-use Rattle.swc_nodes.specs.declared.node.PatId.{PatId}
-use Rattle.swc_nodes.specs.declared.node.PatPropNode.{PatPropNode}
-use Rattle.swc_nodes.specs.declared.node.PatPropNode.TheVariants as pat_prop
-use Rattle.swc_nodes.specs.declared.nodes.Nodes.{Nodes}
-use Rattle.swc_nodes.proofs.Held.{apart-from}
+use Rattle.swc_nodes.specs.{declared.node.ExprId.ExprId, declared.node.PatId.PatId, declared.node.PatPropNode.PatPropNode, declared.node.PatPropNode.PatPropNode as pat_prop, declared.nodes.Nodes.Nodes}
 use Rattle.swc_nodes.proofs.Lists.{apart-more, apart-none, apart-trees, key-same}
-use Rattle.swc_nodes.proofs.Standing.{grows-count}
+use Rattle.swc_nodes.proofs.{Held.apart-from, Standing.grows-count}
 use Rattle.swc_steps.specs.Parsing.{On, Heard, Produces, itself, key_of, key_at, tree_of, binding_spelling}
-use Rattle.swc_steps.specs.Readers.{inside}
-use Rattle.swc_steps.specs.declared.productions.Productions.{Productions}
-use Rattle.swc_steps.proofs.Building.{apart-lower}
-use Rattle.swc_steps.proofs.Endings.{ended}
-use Rattle.swc_steps.proofs.Rules.{inside_assign}
+use Rattle.swc_steps.specs.{Readers.inside, declared.productions.Productions.Productions}
 use Rattle.swc_steps.proofs.Steps.{heard_after, heard_answer, heard_call_read}
+use Rattle.swc_steps.proofs.{Building.apart-lower, Endings.ended, Rules.inside_assign}
 use Rattle.swc_patterns.specs.Answers.{pat_at, pat_prop_at, pat_prop_of}
 use Rattle.swc_patterns.specs.Objects.{default_node, key_or, name_node, pat_prop_item, pat_prop_left}
-use Rattle.swc_patterns.specs.declared.object.AfterPatKey.{AfterPatKey}
-use Rattle.swc_patterns.specs.declared.object.AfterPatKey.TheVariants as after
+use Rattle.swc_patterns.specs.declared.object.AfterPatKey.{AfterPatKey, AfterPatKey as after}
 
 key_place : {F C K X : Type 0} (view : X → Tree F C K) (k : PropName X)
     → span_of (prop_name_tree view k) ≡ prop_name_span k

@@ -1,28 +1,17 @@
 -- A property of an object pattern (14.3.3), or a rest among these: what is read, part by part.
 use Rattle.std.proofs.Common.{◌≡◌, Bool, Option, Some, None, MatchOption, refl}
-use Rattle.swc_context.specs.declared.error.Error.{Error}
-use Rattle.swc_context.specs.declared.span.Span.{Span}
-use Rattle.swc_input.specs.declared.buffer.Buffer.{Buffer}
-use Rattle.swc_input.specs.Source.{Model}
-use Rattle.swc_ast.specs.Parts.{prop_name_tree}
-use Rattle.swc_ast.specs.Tree.{Tree, span_of}
-use Rattle.swc_ast.specs.Trees.{to, key_value_e}
-use Rattle.swc_ast.specs.declared.ident.BindingIdent.{BindingIdent}
-use Rattle.swc_ast.specs.declared.prop.PropName.{PropName}
+use Rattle.swc_context.specs.{declared.error.Error.Error, declared.span.Span.Span}
+use Rattle.swc_input.specs.{declared.buffer.Buffer.Buffer, Source.Model}
+use Rattle.swc_ast.specs.{Parts.prop_name_tree, Tree.Tree, Tree.span_of, Trees.to, Trees.key_value_e, declared.ident.BindingIdent.BindingIdent, declared.prop.PropName.PropName}
 use Rattle.swc_bodies.specs.Readings.{Hook}
 use Rattle.swc_grammar.specs.Symbols.{Pat, Element, Key}
-use Rattle.swc_grammar.specs.Tokens.{is_dots}
-use Rattle.swc_grammar.specs.Clean.{sym as at, run}
+use Rattle.swc_grammar.specs.{Tokens.is_dots, Clean.sym as at, Clean.run}
 use Rattle.swc_nodes.specs.declared.node.ExprId.{ExprId}
-use Rattle.swc_steps.specs.Lists.{eaten}
 use Rattle.swc_steps.specs.Parsing.{On, Heard, Unheard, binding_spelling}
-use Rattle.swc_steps.specs.Readers.{inside}
-use Rattle.swc_steps.proofs.Steps.{give, on_then, on_call, on_answer, heard_after, heard_call, heard_more}
-use Rattle.swc_steps.proofs.Steps.{unheard_after, unheard_call, eats_none, eats_some}
+use Rattle.swc_steps.specs.{Lists.eaten, Readers.inside}
+use Rattle.swc_steps.proofs.Steps.{give, on_then, on_call, on_answer, heard_after, heard_call, heard_more, unheard_after, unheard_call, eats_none, eats_some}
 use Rattle.swc_patterns.specs.Objects.{after_pat_key, default_node, name_node, pat_prop_left, pat_prop_item}
-use Rattle.swc_patterns.specs.Rests.{rest_node}
-use Rattle.swc_patterns.specs.declared.object.AfterPatKey.{AfterPatKey}
-use Rattle.swc_patterns.specs.declared.object.AfterPatKey.TheVariants as after
+use Rattle.swc_patterns.specs.{Rests.rest_node, declared.object.AfterPatKey.AfterPatKey, declared.object.AfterPatKey.AfterPatKey as after}
 use Rattle.swc_patterns.proofs.Objects.{key_left, key_left_splits, pat_prop_splits, pat_prop_item_splits}
 
 -- where dots were looked for from b to c, and perhaps taken

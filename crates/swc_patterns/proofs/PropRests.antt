@@ -1,38 +1,23 @@
 -- Rests among the properties of an object pattern, as they are looked at one after another.
-use Rattle.std.proofs.Common.{◌≡◌, ℕ, zero, suc, ◌+◌, ◌<◌, ◌≤◌, Bool, true, false, not, ◌&&◌, if◌then◌else◌, List, []}
-use Rattle.std.proofs.Common.{◌∷◌, Option, Some, None, Result, Ok, Err, IfOk, IfSome, OnOk}
-use Rattle.std.proofs.Common.{length, take, map, get_or, refl, sym, ap, subst}
-use Rattle.std.proofs.Common.{◌∙◌, add-one, arith}
-use Rattle.std.specs.Option.{is_some}
-use Rattle.std.specs.Prelude.{slice_get}
-use Rattle.std.specs.declared.alloc.AllocError.{AllocError}
+use Rattle.std.proofs.Common.{◌≡◌, ℕ, zero, suc, ◌+◌, ◌<◌, ◌≤◌, Bool, true, false, not, ◌&&◌, if◌then◌else◌, List, [], ◌∷◌, Option, Some, None, Result, Ok, Err, IfOk, IfSome, OnOk, length, take, map, get_or, refl, sym, ap, subst, ◌∙◌, add-one, arith}
 use Rattle.std.proofs.lemmas.Option.{slice_get-get_or}
-use Rattle.swc_context.specs.Spans.{in_order}
-use Rattle.swc_context.specs.declared.error.Error.{Error}
-use Rattle.swc_context.specs.declared.error.SyntaxError.TheVariants.{CommaAfterRestElement, DotsWithoutIdentifier}
-use Rattle.swc_context.specs.declared.span.Span.{Span}
-use Rattle.swc_input.specs.declared.buffer.Buffer.{Buffer}
-use Rattle.swc_input.specs.declared.token.TokenAndSpan.{TokenAndSpan}
-use Rattle.swc_input.specs.Recording.{Refused}
+use Rattle.std.specs.{Option.is_some, Prelude.slice_get, declared.alloc.AllocError.AllocError}
+use Rattle.swc_context.specs.{Spans.in_order, declared.error.Error.Error, declared.error.SyntaxError.TheVariants.CommaAfterRestElement, declared.error.SyntaxError.TheVariants.DotsWithoutIdentifier, declared.span.Span.Span}
 use Rattle.swc_input.specs.Recordings.{Judges, NotesAll, RefusesAfter}
-use Rattle.swc_input.specs.Source.{Model, Laws}
-use Rattle.swc_ast.specs.Patterns.{holds_ident}
+use Rattle.swc_input.specs.{declared.buffer.Buffer.Buffer, declared.token.TokenAndSpan.TokenAndSpan, Recording.Refused, Source.Model, Source.Laws}
 use Rattle.swc_ast.specs.Tree.{Tree, Trees, nil, cons, trees}
-use Rattle.swc_ast.specs.Trees.{trees_append}
-use Rattle.swc_ast.specs.declared.spanned.Spanned.{Ghosts}
+use Rattle.swc_ast.specs.{Patterns.holds_ident, Trees.trees_append, declared.spanned.Spanned.Ghosts}
 use Rattle.swc_grammar.specs.Scope.{Scope}
 use Rattle.swc_nodes.specs.NodeParts.{Part, flat, pat_part}
 use Rattle.swc_nodes.specs.GrowingNodes.{count, seat_at, Apart, Made}
-use Rattle.swc_nodes.specs.declared.node.PatId.{PatId}
-use Rattle.swc_nodes.specs.declared.nodes.Nodes.{Nodes}
+use Rattle.swc_nodes.specs.{declared.node.PatId.PatId, declared.nodes.Nodes.Nodes}
 use Rattle.swc_nodes.proofs.Chains.{chain-first, chain-second, chain-up, floor-under}
 use Rattle.swc_steps.specs.Parsing.{Checked, Checks, ContinuesAlone}
 use Rattle.swc_steps.proofs.Emitted.{notes-none}
 use Rattle.swc_steps.proofs.Steps.{not_false, not_true, check_passes, checks_and, on_checked, continues_after, unheard_memory}
 use Rattle.swc_patterns.specs.Objects.{is_rest, props_stage, last_stage, rests_checked}
-use Rattle.swc_patterns.specs.RestFaults.{last_faults, last_refused}
 use Rattle.swc_patterns.specs.Rests.{Stage, closing, never}
-use Rattle.swc_patterns.specs.declared.object.RestProp.{RestProp}
+use Rattle.swc_patterns.specs.{RestFaults.last_faults, RestFaults.last_refused, declared.object.RestProp.RestProp}
 use Rattle.swc_patterns.proofs.Objects.{stage_with, stage_more}
 
 -- each of items that lie apart

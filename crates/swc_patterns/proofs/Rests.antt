@@ -1,13 +1,10 @@
 -- Rests in lists of patterns, as the code sees them, and what may be read after them.
 use Rattle.std.proofs.Common.{◌≡◌, Bool, List, Some, None, refl}
-use Rattle.swc_input.specs.declared.token.Token.{Token}
-use Rattle.swc_input.specs.declared.token.TokenAndSpan.{TokenAndSpan}
-use Rattle.swc_grammar.specs.Scope.{Scope}
-use Rattle.swc_grammar.specs.Words.{◌>>=◌}
+use Rattle.swc_input.specs.{declared.token.Token.Token, declared.token.TokenAndSpan.TokenAndSpan}
+use Rattle.swc_grammar.specs.{Scope.Scope, Words.◌>>=◌}
 use Rattle.swc_steps.specs.Lists.{separated}
 use Rattle.swc_patterns.specs.Rests.{Stage, behind_item, behind_by, stage_of, passed, separated_item}
-use Rattle.swc_patterns.specs.declared.rest.SeenRest.{SeenRest}
-use Rattle.swc_patterns.specs.declared.rest.SeenRest.TheVariants as seen
+use Rattle.swc_patterns.specs.declared.rest.SeenRest.{SeenRest, SeenRest as seen}
 
 -- after an item that is no rest
 pub passed_stage : (r : SeenRest) → stage_of (passed r) ≡ behind_item (stage_of r)

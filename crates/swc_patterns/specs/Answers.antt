@@ -1,28 +1,16 @@
 -- What answers of productions of patterns hold of numbers, and which trees they stand for among nodes.
-use Rattle.std.specs.Prelude.{◌≡◌, ◌≤◌, ℕ, Bool, List, [], ◌∷◌, Option, Some, None, Result, MatchResult, OnOk, IfOk}
-use Rattle.std.specs.Prelude.{map}
-use Rattle.std.specs.declared.alloc.Global.{Global}
-use Rattle.std.specs.declared.vec.Vec.{Vec}
+use Rattle.std.specs.Prelude.{◌≡◌, ◌≤◌, ℕ, Bool, List, [], ◌∷◌, Option, Some, None, Result, MatchResult, OnOk, IfOk, map}
+use Rattle.std.specs.{declared.alloc.Global.Global, declared.vec.Vec.Vec}
 use Rattle.swc_context.specs.declared.error.Error.{Error}
-use Rattle.swc_input.specs.declared.token.TokenAndSpan.{TokenAndSpan}
-use Rattle.swc_input.specs.Source.{Model}
-use Rattle.swc_input.specs.Buffer.{to_come}
+use Rattle.swc_input.specs.{declared.token.TokenAndSpan.TokenAndSpan, Source.Model, Buffer.to_come}
 use Rattle.swc_ast.specs.Tree.{Tree, Trees, nil, trees, span_of}
-use Rattle.swc_ast.specs.Trees.{listed}
-use Rattle.swc_ast.specs.declared.function.Param.{Param}
-use Rattle.swc_ast.specs.declared.spanned.Spanned.{Ghosts}
-use Rattle.swc_grammar.specs.Scope.{Scope}
-use Rattle.swc_grammar.specs.Clean.{Out}
+use Rattle.swc_ast.specs.{Trees.listed, declared.function.Param.Param, declared.spanned.Spanned.Ghosts}
+use Rattle.swc_grammar.specs.{Scope.Scope, Clean.Out}
 use Rattle.swc_nodes.specs.GrowingNodes.{tree_at, From, Apart, Grows}
 use Rattle.swc_nodes.specs.Lists.{pat_elem_parts, pat_props_parts, pat_props_trees}
 use Rattle.swc_nodes.specs.NodeParts.{pat_part, pat_prop_parts, param_parts, flat}
-use Rattle.swc_nodes.specs.NodeTree.{pat_prop_of as pat_prop_tree}
-use Rattle.swc_nodes.specs.declared.node.PatId.{PatId}
-use Rattle.swc_nodes.specs.declared.node.PatPropNode.{PatPropNode}
-use Rattle.swc_nodes.specs.declared.nodes.Nodes.{Nodes}
-use Rattle.swc_steps.specs.Parsing.{On, Unheard}
-use Rattle.swc_steps.specs.declared.productions.Productions.{Productions}
-use Rattle.swc_steps.specs.declared.tokens.Listed.{Listed}
+use Rattle.swc_nodes.specs.{NodeTree.pat_prop_of as pat_prop_tree, declared.node.PatId.PatId, declared.node.PatPropNode.PatPropNode, declared.nodes.Nodes.Nodes}
+use Rattle.swc_steps.specs.{Parsing.On, Parsing.Unheard, declared.productions.Productions.Productions, declared.tokens.Listed.Listed}
 use Rattle.swc_patterns.specs.Arrays.{put_elements}
 
 module _ {F C K : Type 0} {fg : Ghosts F} {cg : Ghosts C} {kg : Ghosts K} where

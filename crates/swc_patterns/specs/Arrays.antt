@@ -1,30 +1,19 @@
 -- What the steps of the code read in patterns and array patterns (14.3.3), by the clean parser.
 use Rattle.std.specs.Option.{is_some}
-use Rattle.std.specs.Prelude.{Bool, true, false, if◌then◌else◌, List, [], ◌∷◌, ◌++◌, ◌-◌, Option, Some, None}
-use Rattle.std.specs.Prelude.{length, slice_get}
-use Rattle.swc_context.specs.Spans.{from_to}
-use Rattle.swc_context.specs.declared.span.BytePos.{BytePos}
-use Rattle.swc_context.specs.declared.span.Span.{Span}
-use Rattle.swc_input.specs.declared.token.TokenAndSpan.{TokenAndSpan}
-use Rattle.swc_input.specs.Kinds.{at_token}
+use Rattle.std.specs.Prelude.{Bool, true, false, if◌then◌else◌, List, [], ◌∷◌, ◌++◌, ◌-◌, Option, Some, None, length, slice_get}
+use Rattle.swc_context.specs.{Spans.from_to, declared.span.BytePos.BytePos, declared.span.Span.Span}
+use Rattle.swc_input.specs.{declared.token.TokenAndSpan.TokenAndSpan, Kinds.at_token}
 use Rattle.swc_ast.specs.Patterns.{array_p, default_p, put_element}
 use Rattle.swc_ast.specs.Tree.{Tree, Trees, nil, cons, span_of}
 use Rattle.swc_ast.specs.Trees.{to, ident_e, hole_e, listed, items_of}
 use Rattle.swc_bodies.specs.Readings.{Hook, is_brace}
-use Rattle.swc_grammar.specs.Scope.{Scope}
-use Rattle.swc_grammar.specs.Names.{may_bind}
 use Rattle.swc_grammar.specs.Symbols.{Pat, Element, PatElements}
 use Rattle.swc_grammar.specs.Tokens.{is_lbracket, is_rbracket, is_comma, is_dots}
 use Rattle.swc_grammar.specs.Clean.{Out, first, sym, run}
-use Rattle.swc_grammar.specs.Words.{◌>>=◌, word}
-use Rattle.swc_steps.specs.Keys.{expected}
-use Rattle.swc_steps.specs.Lists.{eaten}
-use Rattle.swc_steps.specs.Readers.{inside}
+use Rattle.swc_grammar.specs.{Scope.Scope, Names.may_bind, Words.◌>>=◌, Words.word}
+use Rattle.swc_steps.specs.{Keys.expected, Lists.eaten, Readers.inside}
 use Rattle.swc_patterns.specs.Rests.{Stage, going, closing, never, behind_item, separated_item, rest_node}
-use Rattle.swc_patterns.specs.declared.pat.NextElement.{NextElement}
-use Rattle.swc_patterns.specs.declared.pat.NextElement.TheVariants as next
-use Rattle.swc_patterns.specs.declared.pat.PatKind.{PatKind}
-use Rattle.swc_patterns.specs.declared.pat.PatKind.TheVariants as kind
+use Rattle.swc_patterns.specs.{declared.pat.NextElement.NextElement, declared.pat.NextElement.NextElement as next, declared.pat.PatKind.PatKind, declared.pat.PatKind.PatKind as kind}
 
 -- what a pattern begins with
 abbrev pub pat_kind : Option TokenAndSpan → PatKind

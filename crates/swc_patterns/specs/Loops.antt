@@ -1,20 +1,14 @@
 -- The loop in which the properties of an object pattern are read.
 use Rattle.std.specs.Prelude.{◌≤◌, Bool, List, Option, map}
 use Rattle.swc_context.specs.declared.span.Span.{Span}
-use Rattle.swc_input.specs.Source.{Model}
-use Rattle.swc_input.specs.Buffer.{to_come}
-use Rattle.swc_ast.specs.Tree.{trees}
-use Rattle.swc_ast.specs.declared.spanned.Spanned.{Ghosts}
+use Rattle.swc_input.specs.{Source.Model, Buffer.to_come}
+use Rattle.swc_ast.specs.{Tree.trees, declared.spanned.Spanned.Ghosts}
 use Rattle.swc_bodies.specs.Readings.{Hook}
-use Rattle.swc_grammar.specs.Symbols.{PatProps}
-use Rattle.swc_grammar.specs.Clean.{sym, run}
-use Rattle.swc_nodes.specs.NodeParts.{flat, pat_prop_parts}
+use Rattle.swc_grammar.specs.{Symbols.PatProps, Clean.sym, Clean.run}
 use Rattle.swc_nodes.specs.GrowingNodes.{count, Apart, Grows}
-use Rattle.swc_nodes.specs.declared.node.PatPropNode.{PatPropNode}
-use Rattle.swc_steps.specs.declared.productions.Productions.{Productions}
-use Rattle.swc_steps.specs.Parsing.{On}
-use Rattle.swc_patterns.specs.Answers.{pat_prop_at}
-use Rattle.swc_patterns.specs.Objects.{pat_props_left}
+use Rattle.swc_nodes.specs.{NodeParts.flat, NodeParts.pat_prop_parts, declared.node.PatPropNode.PatPropNode}
+use Rattle.swc_steps.specs.{declared.productions.Productions.Productions, Parsing.On}
+use Rattle.swc_patterns.specs.{Answers.pat_prop_at, Objects.pat_props_left}
 
 -- From p to q: properties of an object pattern were read, and the comma after the last of them. Their parts lie apart
 -- among nodes that were appended, and what is left is read at q.

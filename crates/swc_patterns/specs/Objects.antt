@@ -1,33 +1,21 @@
 -- What the steps of the code read in object patterns (14.3.3), by the clean parser.
 use Rattle.std.specs.Prelude.{Bool, true, false, if◌then◌else◌, List, Option, Some, None}
-use Rattle.swc_context.specs.Reserved.{is_reserved_word}
-use Rattle.swc_context.specs.Spans.{from_to}
-use Rattle.swc_context.specs.declared.span.BytePos.{BytePos}
-use Rattle.swc_context.specs.declared.span.Span.{Span}
+use Rattle.swc_context.specs.{Reserved.is_reserved_word, Spans.from_to, declared.span.BytePos.BytePos, declared.span.Span.Span}
 use Rattle.swc_input.specs.declared.token.TokenAndSpan.{TokenAndSpan}
 use Rattle.swc_ast.specs.Patterns.{object_p, name_p, holds_ident}
 use Rattle.swc_ast.specs.Tree.{Tree, node, Trees, nil, cons, rest, span_of}
 use Rattle.swc_ast.specs.Trees.{to, ident_e, hole_e, key_value_e, listed, items_of, comma_of, trees_append}
-use Rattle.swc_ast.specs.declared.ident.BindingIdent.{BindingIdent}
-use Rattle.swc_ast.specs.declared.ident.IdentName.{IdentName}
-use Rattle.swc_ast.specs.declared.prop.PropName.{PropName}
-use Rattle.swc_ast.specs.declared.prop.PropName.TheVariants as name
+use Rattle.swc_ast.specs.{declared.ident.BindingIdent.BindingIdent, declared.ident.IdentName.IdentName, declared.prop.PropName.PropName, declared.prop.PropName.PropName as name}
 use Rattle.swc_bodies.specs.Readings.{Hook}
-use Rattle.swc_grammar.specs.Names.{Spelling}
-use Rattle.swc_grammar.specs.Scope.{Scope}
 use Rattle.swc_grammar.specs.Symbols.{Pat, Element, PatProps, PatProp}
 use Rattle.swc_grammar.specs.Tokens.{is_rbrace, is_dots, is_colon, is_equals}
 use Rattle.swc_grammar.specs.Clean.{Out, sym, run}
-use Rattle.swc_grammar.specs.Words.{◌>>=◌}
+use Rattle.swc_grammar.specs.{Names.Spelling, Scope.Scope, Words.◌>>=◌}
 use Rattle.swc_nodes.specs.declared.node.ExprId.{ExprId}
-use Rattle.swc_steps.specs.Keys.{expected}
 use Rattle.swc_steps.specs.Lists.{eaten, separated, put_before}
-use Rattle.swc_steps.specs.Readers.{inside}
-use Rattle.swc_steps.specs.Parsing.{name_spelling, binding_spelling}
+use Rattle.swc_steps.specs.{Keys.expected, Readers.inside, Parsing.name_spelling, Parsing.binding_spelling}
 use Rattle.swc_patterns.specs.Rests.{Stage, going, closing, never, is_never, behind_rest, rest_node}
-use Rattle.swc_patterns.specs.declared.object.AfterPatKey.{AfterPatKey}
-use Rattle.swc_patterns.specs.declared.object.AfterPatKey.TheVariants as after
-use Rattle.swc_patterns.specs.declared.object.RestProp.{RestProp}
+use Rattle.swc_patterns.specs.{declared.object.AfterPatKey.AfterPatKey, declared.object.AfterPatKey.AfterPatKey as after, declared.object.RestProp.RestProp}
 
 -- ---- after a key
 

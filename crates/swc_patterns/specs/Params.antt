@@ -6,16 +6,13 @@ use Rattle.swc_input.specs.declared.token.TokenAndSpan.{TokenAndSpan}
 use Rattle.swc_ast.specs.Tree.{Tree, Trees, nil, cons}
 use Rattle.swc_ast.specs.Trees.{listed, trees_append}
 use Rattle.swc_bodies.specs.Readings.{Hook}
-use Rattle.swc_grammar.specs.Scope.{Scope}
 use Rattle.swc_grammar.specs.Symbols.{Pat, Element, Params}
 use Rattle.swc_grammar.specs.Tokens.{is_rparen, is_dots, is_equals}
 use Rattle.swc_grammar.specs.Clean.{Out, first, sym, run}
-use Rattle.swc_grammar.specs.Words.{◌>>=◌}
-use Rattle.swc_steps.specs.Keys.{expected, ends_params}
-use Rattle.swc_steps.specs.Lists.{eaten, put_before}
+use Rattle.swc_grammar.specs.{Scope.Scope, Words.◌>>=◌}
+use Rattle.swc_steps.specs.{Keys.expected, Keys.ends_params, Lists.eaten, Lists.put_before}
 use Rattle.swc_patterns.specs.Rests.{Stage, going, closing, never, separated_item, rest_node}
-use Rattle.swc_patterns.specs.declared.params.NextParam.{NextParam}
-use Rattle.swc_patterns.specs.declared.params.NextParam.TheVariants as next
+use Rattle.swc_patterns.specs.declared.params.NextParam.{NextParam, NextParam as next}
 
 -- ---- what is before a parameter: the parenthesis that closes the list, which stays, or the end; or the dots of a
 -- rest

@@ -1,24 +1,17 @@
 -- Formal parameters (15.1), each of which is read by itself, whatever comes after the last.
 use Rattle.std.specs.Prelude.{◌≡◌, ◌≤◌, ℕ, Bool, List, Some, Result, MatchResult, OnOk, IfOk}
-use Rattle.std.specs.declared.alloc.Global.{Global}
-use Rattle.std.specs.declared.vec.Vec.{Vec}
+use Rattle.std.specs.{declared.alloc.Global.Global, declared.vec.Vec.Vec}
 use Rattle.swc_context.specs.declared.error.Error.{Error}
-use Rattle.swc_input.specs.declared.token.TokenAndSpan.{TokenAndSpan}
-use Rattle.swc_input.specs.Source.{Model}
-use Rattle.swc_input.specs.Buffer.{to_come}
+use Rattle.swc_input.specs.{declared.token.TokenAndSpan.TokenAndSpan, Source.Model, Buffer.to_come}
 use Rattle.swc_ast.specs.Tree.{Tree, Trees, nil, cons}
-use Rattle.swc_ast.specs.declared.function.Param.{Param}
-use Rattle.swc_ast.specs.declared.spanned.Spanned.{Ghosts}
+use Rattle.swc_ast.specs.{declared.function.Param.Param, declared.spanned.Spanned.Ghosts}
 use Rattle.swc_bodies.specs.Readings.{Hook}
-use Rattle.swc_grammar.specs.Scope.{Scope}
 use Rattle.swc_grammar.specs.Symbols.{Element, Rest, Params}
-use Rattle.swc_grammar.specs.Clean.{sym, run}
-use Rattle.swc_nodes.specs.GrowingNodes.{Grows}
-use Rattle.swc_nodes.specs.declared.node.PatId.{PatId}
+use Rattle.swc_grammar.specs.{Scope.Scope, Clean.sym, Clean.run}
+use Rattle.swc_nodes.specs.{GrowingNodes.Grows, declared.node.PatId.PatId}
 use Rattle.swc_steps.specs.Parsing.{scope, recorded, Loud, On, Unheard}
 use Rattle.swc_steps.specs.declared.productions.Productions.{Productions}
-use Rattle.swc_patterns.specs.Answers.{params_at, params_of}
-use Rattle.swc_patterns.specs.Params.{params_close}
+use Rattle.swc_patterns.specs.{Answers.params_at, Answers.params_of, Params.params_close}
 
 module _ {F C K : Type 0} (hook : Hook F C K) (c : Scope) where
   -- a parameter: an element, or a rest

@@ -1,9 +1,7 @@
 -- Which faults the rests among properties are (14.3.3), in which order.
 use Rattle.std.specs.Prelude.{List, [], ◌∷◌, ◌++◌, if◌then◌else◌, Option, Some, None}
-use Rattle.swc_context.specs.Spans.{in_order}
-use Rattle.swc_context.specs.declared.error.Error.{Error}
 use Rattle.swc_context.specs.declared.error.SyntaxError.TheVariants.{CommaAfterRestElement, DotsWithoutIdentifier, NonLastRestParam}
-use Rattle.swc_context.specs.declared.span.Span.{Span}
+use Rattle.swc_context.specs.{Spans.in_order, declared.error.Error.Error, declared.span.Span.Span}
 use Rattle.swc_ast.specs.Patterns.{holds_ident}
 use Rattle.swc_ast.specs.Tree.{Tree, node, Trees, nil, cons, rest}
 use Rattle.swc_patterns.specs.declared.object.RestProp.{RestProp}

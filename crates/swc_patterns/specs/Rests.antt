@@ -2,17 +2,12 @@
 use Rattle.std.specs.Option.{is_some}
 use Rattle.std.specs.Prelude.{Bool, true, false, List, Option, Some, None}
 use Rattle.swc_context.specs.declared.span.Span.{Span}
-use Rattle.swc_input.specs.declared.token.Token.{Token}
-use Rattle.swc_input.specs.declared.token.TokenAndSpan.{TokenAndSpan}
-use Rattle.swc_ast.specs.Patterns.{rest_p}
+use Rattle.swc_input.specs.{declared.token.Token.Token, declared.token.TokenAndSpan.TokenAndSpan}
 use Rattle.swc_ast.specs.Tree.{Tree, node, nil, dots, span_of}
-use Rattle.swc_ast.specs.Trees.{to}
-use Rattle.swc_grammar.specs.Scope.{Scope}
-use Rattle.swc_grammar.specs.Clean.{Out}
-use Rattle.swc_grammar.specs.Words.{◌>>=◌}
+use Rattle.swc_ast.specs.{Patterns.rest_p, Trees.to}
+use Rattle.swc_grammar.specs.{Scope.Scope, Clean.Out, Words.◌>>=◌}
 use Rattle.swc_steps.specs.Lists.{separated}
-use Rattle.swc_patterns.specs.declared.rest.SeenRest.{SeenRest}
-use Rattle.swc_patterns.specs.declared.rest.SeenRest.TheVariants as seen
+use Rattle.swc_patterns.specs.declared.rest.SeenRest.{SeenRest, SeenRest as seen}
 
 -- what may be read of a list: any item; after a rest only the sign that closes the list; and after a comma there
 -- nothing

@@ -2,17 +2,12 @@
 ghost use Rattle.std.specs.Option.{is_some};
 ghost use Rattle.std.specs.Prelude.{ℕ, ◌≡◌, ◌≤◌, false, not, IfOk, IfSome, OnOk};
 ghost use Rattle.swc_context.specs.Reserved.{is_reserved_word};
-ghost use Rattle.swc_input.specs.Buffer.{context, to_come};
-ghost use Rattle.swc_input.specs.Recordings.{Judges, NotesAll};
-ghost use Rattle.swc_ast.specs.Patterns.{holds_ident};
-ghost use Rattle.swc_ast.specs.Trees.{items_of};
-ghost use Rattle.swc_nodes.specs.GrowingNodes.{Apart};
-ghost use Rattle.swc_nodes.specs.Lists.{pat_props_parts};
-ghost use Rattle.swc_nodes.specs.NodeParts.{pat_prop_parts};
+ghost use Rattle.swc_input.specs.{Buffer.context, Buffer.to_come, Recordings.Judges, Recordings.NotesAll};
+ghost use Rattle.swc_ast.specs.{Patterns.holds_ident, Trees.items_of};
+ghost use Rattle.swc_nodes.specs.{GrowingNodes.Apart, Lists.pat_props_parts, NodeParts.pat_prop_parts};
 ghost use Rattle.swc_steps.specs.Parsing.{Checked, ContinuesAlone, GoesOn};
 ghost use Rattle.swc_patterns.specs.Answers.{pat_itself, pat_at, pat_prop_at, pat_props_at};
-ghost use Rattle.swc_patterns.specs.Objects.{after_pat_key, after_name, bound, object_pat_from, is_rest, props_stage};
-ghost use Rattle.swc_patterns.specs.Objects.{is_value, key_or, rests_checked, last_stage};
+ghost use Rattle.swc_patterns.specs.Objects.{after_pat_key, after_name, bound, object_pat_from, is_rest, props_stage, is_value, key_or, rests_checked, last_stage};
 ghost use Rattle.swc_patterns.specs.RestFaults.{earlier_faults, last_faults, last_refused};
 
 use crate::pat::made;

@@ -2,13 +2,10 @@
 ghost use Rattle.std.specs.Prelude.{◌≡◌, ◌+◌, ◌<◌, ◌≤◌, true, IfOk, OnOk};
 ghost use Rattle.swc_input.specs.Buffer.{to_come};
 ghost use Rattle.swc_ast.specs.Tree.{span_of};
-ghost use Rattle.swc_nodes.specs.GrowingNodes.{first_at, From};
-ghost use Rattle.swc_nodes.specs.NodeParts.{expr_part, pat_part};
-ghost use Rattle.swc_steps.specs.Parsing.{ContinuesAlone, GoesOn};
-ghost use Rattle.swc_steps.specs.Readers.{nothing};
-ghost use Rattle.swc_patterns.specs.Answers.{pat_itself, pat_at};
+ghost use Rattle.swc_nodes.specs.{GrowingNodes.first_at, GrowingNodes.From, NodeParts.expr_part, NodeParts.pat_part};
+ghost use Rattle.swc_steps.specs.{Parsing.ContinuesAlone, Parsing.GoesOn, Readers.nothing};
 ghost use Rattle.swc_patterns.specs.Params.{next_param, param_head, goes_on};
-ghost use Rattle.swc_patterns.specs.Rests.{stage_of};
+ghost use Rattle.swc_patterns.specs.{Answers.pat_itself, Answers.pat_at, Rests.stage_of};
 
 use crate::pat::{made, rest_pat};
 use crate::rest::{SeenRest, check_comma, check_last};

@@ -1,23 +1,13 @@
 // Binding patterns (ECMA-262, 14.3.3): names, array patterns and rests, and initialisers.
-ghost use Rattle.std.specs.Prelude.{ℕ, ◌≡◌, ◌+◌, ◌<◌, ◌≤◌, Some, IfOk, OnOk};
-ghost use Rattle.swc_input.specs.Buffer.{to_come};
-ghost use Rattle.swc_grammar.specs.Names.{may_bind};
-ghost use Rattle.swc_grammar.specs.Words.{word};
+ghost use Rattle.std.specs.Prelude.{ℕ, ◌≡◌, ◌+◌, ◌<◌, ◌≤◌, Some, IfOk, OnOk, Bool, false, Ok, IfErr};
+ghost use Rattle.swc_input.specs.{Buffer.to_come, Buffer.last_position, Kinds.at_token, Recording.no_memory};
+ghost use Rattle.swc_grammar.specs.{Names.may_bind, Words.word, Tokens.is_word};
 ghost use Rattle.swc_nodes.specs.GrowingNodes.{count, end_at, first_at, Apart, From};
-ghost use Rattle.swc_nodes.specs.Lists.{pat_elem_parts};
-ghost use Rattle.swc_nodes.specs.NodeParts.{expr_part, pat_part};
-ghost use Rattle.swc_steps.specs.Parsing.{seen, binding_spelling, tree_of, ContinuesAlone, GoesOn, ParsesAlone};
-ghost use Rattle.swc_steps.specs.Parsing.{Heard, Produces};
+ghost use Rattle.swc_nodes.specs.{Lists.pat_elem_parts, NodeParts.expr_part, NodeParts.pat_part};
+ghost use Rattle.swc_steps.specs.Parsing.{seen, binding_spelling, tree_of, ContinuesAlone, GoesOn, ParsesAlone, Heard, Produces};
 ghost use Rattle.swc_patterns.specs.Answers.{pat_itself, pat_at, pat_elems_at};
-ghost use Rattle.swc_patterns.specs.Arrays.{default_to, pat_kind, plain_pat, next_element, element_head, array_from};
-ghost use Rattle.swc_patterns.specs.Arrays.{is_item, ends_in_hole, without_holes};
-ghost use Rattle.swc_grammar.specs.Tokens.{is_word};
-ghost use Rattle.swc_input.specs.Kinds.{at_token};
-ghost use Rattle.std.specs.Prelude.{Bool, false};
+ghost use Rattle.swc_patterns.specs.Arrays.{default_to, pat_kind, plain_pat, next_element, element_head, array_from, is_item, ends_in_hole, without_holes};
 ghost use Rattle.swc_patterns.specs.Rests.{rest_node, stage_of};
-ghost use Rattle.swc_input.specs.Recording.{no_memory};
-ghost use Rattle.swc_input.specs.Buffer.{last_position};
-ghost use Rattle.std.specs.Prelude.{Ok, IfErr};
 
 use crate::rest::{SeenRest, check_comma, check_last};
 use std::alloc::{AllocError, Global};

@@ -2,8 +2,7 @@
 ghost use Rattle.std.specs.Option.{is_some};
 ghost use Rattle.std.specs.Prelude.{◌≡◌, ◌≢◌, ◌≤◌, true, not, OnOk};
 ghost use Rattle.swc_context.specs.declared.error.SyntaxError.TheVariants.{OutOfMemory};
-ghost use Rattle.swc_input.specs.Buffer.{current, to_come};
-ghost use Rattle.swc_input.specs.Kinds.{at_token};
+ghost use Rattle.swc_input.specs.{Buffer.current, Buffer.to_come, Kinds.at_token};
 ghost use Rattle.swc_grammar.specs.Clean.{no_error};
 ghost use Rattle.swc_steps.specs.Lists.{is_sign_token};
 ghost use Rattle.swc_steps.specs.Parsing.{seen, Checked, ContinuesAlone};

@@ -1,15 +1,11 @@
 -- What a property begins with: how it is read, and by which of its forms.
 use Rattle.std.proofs.Common.{◌≡◌, Bool, Result, Ok, Err, MatchResult, refl, subst}
 use Rattle.swc_context.specs.declared.error.Error.{Error}
-use Rattle.swc_input.specs.declared.buffer.Buffer.{Buffer}
-use Rattle.swc_input.specs.Source.{Model}
+use Rattle.swc_input.specs.{declared.buffer.Buffer.Buffer, Source.Model}
 use Rattle.swc_bodies.specs.Readings.{Hook}
-use Rattle.swc_grammar.specs.Symbols.{Prop}
-use Rattle.swc_grammar.specs.Clean.{sym as at, run}
-use Rattle.swc_primary.specs.declared.object.PropHead.{PropHead}
-use Rattle.swc_primary.specs.declared.object.PropHead.TheVariants as head
+use Rattle.swc_grammar.specs.{Symbols.Prop, Clean.sym as at, Clean.run}
+use Rattle.swc_primary.specs.{declared.object.PropHead.PropHead, declared.object.PropHead.PropHead as head, Begins.Begins}
 use Rattle.swc_steps.specs.Readers.{nothing}
-use Rattle.swc_primary.specs.Begins.{Begins}
 use Rattle.swc_steps.specs.Parsing.{On, Heard, Unheard, Parses}
 use Rattle.swc_steps.proofs.Steps.{here, heard_after, heard_nothing, on_nothing, on_then, unheard_after, unheard_none}
 

@@ -1,15 +1,10 @@
 -- The properties `name = e` of a list, as they are looked at one after another.
-use Rattle.std.proofs.Common.{◌≡◌, ℕ, zero, suc, ◌+◌, ◌<◌, ◌≤◌, Bool, true, false, not, ◌||◌, List, [], ◌∷◌, Option}
-use Rattle.std.proofs.Common.{Some, None, length, take, get_or, refl, sym, ap, subst, ◌∙◌, add-one, arith}
-use Rattle.std.specs.Prelude.{slice_get}
+use Rattle.std.proofs.Common.{◌≡◌, ℕ, zero, suc, ◌+◌, ◌<◌, ◌≤◌, Bool, true, false, not, ◌||◌, List, [], ◌∷◌, Option, Some, None, length, take, get_or, refl, sym, ap, subst, ◌∙◌, add-one, arith}
 use Rattle.std.proofs.lemmas.Option.{slice_get_read}
+use Rattle.std.specs.Prelude.{slice_get}
 use Rattle.swc_ast.specs.declared.prop.AssignProp.{AssignProp}
-use Rattle.swc_input.specs.declared.buffer.Buffer.{Buffer}
-use Rattle.swc_input.specs.Source.{Model}
-use Rattle.swc_nodes.specs.Lists.{is_cover_prop, has_cover}
-use Rattle.swc_nodes.specs.declared.node.ExprId.{ExprId}
-use Rattle.swc_nodes.specs.declared.node.PropNode.{PropNode}
-use Rattle.swc_nodes.specs.declared.node.PropNode.TheVariants as prop
+use Rattle.swc_input.specs.{declared.buffer.Buffer.Buffer, Source.Model}
+use Rattle.swc_nodes.specs.{Lists.is_cover_prop, Lists.has_cover, declared.node.ExprId.ExprId, declared.node.PropNode.PropNode, declared.node.PropNode.PropNode as prop}
 use Rattle.swc_steps.specs.Parsing.{Checks}
 use Rattle.swc_steps.proofs.Steps.{checks_both}
 

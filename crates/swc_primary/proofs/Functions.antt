@@ -1,49 +1,27 @@
 -- The clean parser's steps in the functions of methods (15.4), as the code goes them.
-use Rattle.std.proofs.Common.{◌≡◌, Bool, true, false, not, ◌&&◌, ◌||◌, List, [], ◌∷◌, ◌++◌, Some, None, Result, Ok, Err}
-use Rattle.std.proofs.Common.{ℕ, ◌≤◌, map, length, refl, sym, ap, subst, ◌∙◌, arith}
-use Rattle.std.specs.declared.alloc.Global.{Global}
-use Rattle.std.specs.declared.vec.Vec.{Vec}
-use Rattle.std.specs.Option.{is_some}
-use Rattle.std.specs.Prelude.{Option}
-use Rattle.swc_context.specs.Contexts.{method_block, method_params}
-use Rattle.swc_context.specs.declared.context.Context.{Context}
-use Rattle.swc_context.specs.declared.error.Error.{Error}
-use Rattle.swc_context.specs.declared.span.Span.{Span}
-use Rattle.swc_input.specs.declared.buffer.Buffer.{Buffer}
-use Rattle.swc_input.specs.declared.token.Token.{Token}
-use Rattle.swc_input.specs.declared.token.TokenAndSpan.{TokenAndSpan}
-use Rattle.swc_input.specs.Source.{Model}
+use Rattle.std.proofs.Common.{◌≡◌, Bool, true, false, not, ◌&&◌, ◌||◌, List, [], ◌∷◌, ◌++◌, Some, None, Result, Ok, Err, ℕ, ◌≤◌, map, length, refl, sym, ap, subst, ◌∙◌, arith}
+use Rattle.std.specs.{declared.alloc.Global.Global, declared.vec.Vec.Vec, Option.is_some, Prelude.Option}
+use Rattle.swc_context.specs.{Contexts.method_block, Contexts.method_params, declared.context.Context.Context, declared.error.Error.Error, declared.span.Span.Span}
+use Rattle.swc_input.specs.{declared.buffer.Buffer.Buffer, declared.token.Token.Token, declared.token.TokenAndSpan.TokenAndSpan, Source.Model, Buffer.context}
 use Rattle.swc_ast.specs.Tree.{Tree, node, Trees, nil, cons, trees, function, block as block_kind}
-use Rattle.swc_ast.specs.Parts.{leaf, param_tree}
 use Rattle.swc_ast.specs.Trees.{to, function_e, block_e, params_e, items_of, has_items, is_rest}
-use Rattle.swc_ast.specs.declared.function.Param.{Param}
-use Rattle.swc_ast.specs.declared.spanned.Spanned.{Ghosts}
+use Rattle.swc_ast.specs.{Parts.leaf, Parts.param_tree, declared.function.Param.Param, declared.spanned.Spanned.Ghosts}
 use Rattle.swc_bodies.specs.Readings.{Hook, LawfulHook}
-use Rattle.swc_grammar.specs.Scope.{Scope, in_context}
 use Rattle.swc_grammar.specs.Symbols.{Params, Shell, block}
-use Rattle.swc_grammar.specs.Tokens.{is_lparen, is_rparen}
 use Rattle.swc_grammar.specs.Clean.{Out, and_then, hear_then, sym as at, exec, step, rank_of, run}
-use Rattle.swc_grammar.specs.Words.{◌>>=◌}
+use Rattle.swc_grammar.specs.{Scope.Scope, Scope.in_context, Tokens.is_lparen, Tokens.is_rparen, Words.◌>>=◌}
 use Rattle.swc_grammar.proofs.Bodies.{hears, hears-place, hears-run}
 use Rattle.swc_grammar.proofs.Knot.{knot}
-use Rattle.swc_nodes.specs.Lists.{first_param_pat}
 use Rattle.swc_nodes.specs.NodeParts.{flat, param_parts, pat_part}
 use Rattle.swc_nodes.specs.GrowingNodes.{count, seat_at, Apart, From}
-use Rattle.swc_nodes.proofs.Chains.{chain-bound}
-use Rattle.swc_nodes.proofs.Held.{from-apart}
-use Rattle.swc_nodes.specs.declared.node.PatId.{PatId}
-use Rattle.swc_nodes.specs.declared.nodes.Nodes.{Nodes}
+use Rattle.swc_nodes.specs.{Lists.first_param_pat, declared.node.PatId.PatId, declared.nodes.Nodes.Nodes}
+use Rattle.swc_nodes.proofs.{Chains.chain-bound, Held.from-apart}
 use Rattle.swc_patterns.specs.Answers.{pat_at, params_at, placed}
 use Rattle.swc_patterns.specs.Params.{params_close}
-use Rattle.swc_primary.specs.declared.modifiers.MethodKind.{MethodKind}
-use Rattle.swc_primary.specs.declared.modifiers.MethodKind.TheVariants as kind
-use Rattle.swc_primary.specs.Methods.{async_in, generator_in, accessor_ok, function_ok, just_one}
-use Rattle.swc_primary.specs.Methods.{misses_param, in_params, method_function_node, method_function_of, method_block_by, method_end}
-use Rattle.swc_primary.specs.Methods.{method_close, method_left, method_inside, method_by, method_function}
-use Rattle.swc_steps.specs.Keys.{expected, method_body}
-use Rattle.swc_steps.specs.Lists.{eaten}
-use Rattle.swc_input.specs.Buffer.{context}
+use Rattle.swc_primary.specs.declared.modifiers.MethodKind.{MethodKind, MethodKind as kind}
+use Rattle.swc_primary.specs.Methods.{async_in, generator_in, accessor_ok, function_ok, just_one, misses_param, in_params, method_function_node, method_function_of, method_block_by, method_end, method_close, method_left, method_inside, method_by, method_function}
 use Rattle.swc_steps.specs.Parsing.{scope, Leads, Checks, On, Continues, shell_at}
+use Rattle.swc_steps.specs.{Keys.expected, Keys.method_body, Lists.eaten}
 use Rattle.swc_steps.proofs.Keys.{bind_none, then_calls, token_then, then_token}
 use Rattle.swc_steps.proofs.Lists.{binds, bind_same}
 use Rattle.swc_steps.proofs.Steps.{Reader, leads_then, more_recorded, read_scope}

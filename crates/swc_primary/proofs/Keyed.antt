@@ -2,47 +2,27 @@
 use Rattle.std.specs.Prelude.{◌≡◌, ℕ, Bool, true, false, not, if◌then◌else◌, List, [], ◌∷◌, Option, Some, None}
 use Rattle.std.proofs.Common.{refl, sym, ap, subst, ◌∙◌}
 use Rattle.swc_context.specs.declared.span.Span.{Span}
-use Rattle.swc_input.specs.declared.token.Token.{Token}
-use Rattle.swc_input.specs.declared.token.Token.TheVariants as token
-use Rattle.swc_input.specs.declared.token.TokenAndSpan.{TokenAndSpan}
-use Rattle.swc_ast.specs.Parts.{leaf, prop_name_tree}
-use Rattle.swc_ast.specs.Spans.{prop_name_span}
+use Rattle.swc_input.specs.{declared.token.Token.Token, declared.token.Token.Token as token, declared.token.TokenAndSpan.TokenAndSpan}
 use Rattle.swc_ast.specs.Tree.{Tree, node, Trees, nil, cons, span_of, getter, setter, block}
-use Rattle.swc_ast.specs.Trees.{to, value_e, prop_of, method_e, getter_e, setter_e, getter_ok, items_of, has_items}
-use Rattle.swc_ast.specs.Trees.{behind_first}
-use Rattle.swc_ast.specs.declared.function.Function.{Function}
-use Rattle.swc_ast.specs.declared.prop.PropName.{PropName}
-use Rattle.swc_ast.specs.declared.prop.PropName.TheVariants as prop_name
-use Rattle.swc_ast.specs.declared.spanned.Spanned.{Ghosts}
+use Rattle.swc_ast.specs.Trees.{to, value_e, prop_of, method_e, getter_e, setter_e, getter_ok, items_of, has_items, behind_first}
+use Rattle.swc_ast.specs.{Parts.leaf, Parts.prop_name_tree, Spans.prop_name_span, declared.function.Function.Function, declared.prop.PropName.PropName, declared.prop.PropName.PropName as prop_name, declared.spanned.Spanned.Ghosts}
 use Rattle.swc_bodies.specs.Readings.{Hook, is_async}
-use Rattle.swc_grammar.specs.Scope.{Scope}
 use Rattle.swc_grammar.specs.Symbols.{Assign, Key, AfterKey as Behind, Shell}
 use Rattle.swc_grammar.specs.Tokens.{tk, with_in, is_colon, is_get, is_set, is_star}
 use Rattle.swc_grammar.specs.Grammar.{prop-key, prop-generator, prop-async, prop-async-generator, prop-getter, prop-setter}
 use Rattle.swc_grammar.specs.Clean.{Out, and_then, sym as at, run}
-use Rattle.swc_grammar.specs.Words.{◌>>=◌}
-use Rattle.swc_grammar.proofs.Complete.{last}
-use Rattle.swc_grammar.proofs.Knot.{knot}
-use Rattle.swc_nodes.specs.Lists.{first_param_pat}
+use Rattle.swc_grammar.specs.{Scope.Scope, Words.◌>>=◌}
+use Rattle.swc_grammar.proofs.{Complete.last, Knot.knot}
 use Rattle.swc_nodes.specs.NodeParts.{expr_part, key_parts, prop_parts}
 use Rattle.swc_nodes.specs.GrowingNodes.{tree_at, count, Apart, From, Grows}
-use Rattle.swc_nodes.specs.declared.node.ExprId.{ExprId}
-use Rattle.swc_nodes.specs.declared.node.PatId.{PatId}
-use Rattle.swc_nodes.specs.declared.node.PropNode.{PropNode}
-use Rattle.swc_nodes.specs.declared.nodes.Nodes.{Nodes}
-use Rattle.swc_nodes.proofs.Held.{apart-from}
-use Rattle.swc_nodes.proofs.PatternParts.{setter-apart, setter-parts}
+use Rattle.swc_nodes.specs.{Lists.first_param_pat, declared.node.ExprId.ExprId, declared.node.PatId.PatId, declared.node.PropNode.PropNode, declared.nodes.Nodes.Nodes}
 use Rattle.swc_nodes.proofs.Lists.{apart-later, apart-more, apart-trees, key-same}
-use Rattle.swc_primary.specs.declared.modifiers.MethodKind.{MethodKind}
-use Rattle.swc_primary.specs.declared.modifiers.MethodKind.TheVariants as kind
-use Rattle.swc_steps.specs.Keys.{expected}
-use Rattle.swc_steps.specs.Lists.{eaten}
-use Rattle.swc_primary.specs.Methods.{value_behind, after_colon, after_by, behind_key, of_async, of_generator}
-use Rattle.swc_primary.specs.Methods.{setter_node, method_node, only_first, method_tree, function_ok, misses_by, misses_param}
-use Rattle.swc_primary.specs.Methods.{async_star, modifiers, method_by, method_function, method_behind_key, method_tail}
-use Rattle.swc_steps.specs.Parsing.{tree_of, key_of, key_at, shell_of, shell_at, prop_at}
-use Rattle.swc_steps.specs.Parsing.{prop_of as prop_of_node}
+use Rattle.swc_nodes.proofs.{Held.apart-from, PatternParts.setter-apart, PatternParts.setter-parts}
+use Rattle.swc_primary.specs.declared.modifiers.MethodKind.{MethodKind, MethodKind as kind}
+use Rattle.swc_primary.specs.Methods.{value_behind, after_colon, after_by, behind_key, of_async, of_generator, setter_node, method_node, only_first, method_tree, function_ok, misses_by, misses_param, async_star, modifiers, method_by, method_function, method_behind_key, method_tail}
+use Rattle.swc_steps.specs.Parsing.{tree_of, key_of, key_at, shell_of, shell_at, prop_at, prop_of as prop_of_node}
 use Rattle.swc_steps.specs.Readers.{reading, by_production, inside}
+use Rattle.swc_steps.specs.{Keys.expected, Lists.eaten}
 use Rattle.swc_steps.proofs.Keys.{then_calls, token_then, then_token}
 use Rattle.swc_steps.proofs.Lists.{binds, bind_same, calls}
 

@@ -1,31 +1,16 @@
 -- What is in parentheses, as the items of its list are looked at one after another.
-use Rattle.std.proofs.Common.{◌≡◌, ◌≢◌, ℕ, zero, suc, ◌+◌, ◌<◌, ◌≤◌, Bool, true, false, not, ◌&&◌, ◌||◌, List, []}
-use Rattle.std.proofs.Common.{◌∷◌}
-use Rattle.std.proofs.Common.{Option, Some, None, Result, Ok, Err, OnOk, IfErr, length, take, get_or, refl, sym, ap}
-use Rattle.std.proofs.Common.{subst, ◌∙◌, add-one, arith}
-use Rattle.std.specs.Prelude.{slice_get, is_some as is_given}
+use Rattle.std.proofs.Common.{◌≡◌, ◌≢◌, ℕ, zero, suc, ◌+◌, ◌<◌, ◌≤◌, Bool, true, false, not, ◌&&◌, ◌||◌, List, [], ◌∷◌, Option, Some, None, Result, Ok, Err, OnOk, IfErr, length, take, get_or, refl, sym, ap, subst, ◌∙◌, add-one, arith}
 use Rattle.std.proofs.lemmas.Option.{slice_get-get_or}
-use Rattle.swc_context.specs.declared.error.Error.{Error}
-use Rattle.swc_context.specs.declared.error.SyntaxError.TheVariants.{OutOfMemory}
-use Rattle.swc_context.specs.declared.span.Span.{Span}
-use Rattle.swc_input.specs.declared.buffer.Buffer.{Buffer}
-use Rattle.swc_input.specs.declared.token.TokenAndSpan.{TokenAndSpan}
-use Rattle.swc_input.specs.Recording.{is_some}
-use Rattle.swc_input.specs.Source.{Model}
-use Rattle.swc_ast.specs.Parts.{item_of, item_trees}
-use Rattle.swc_ast.specs.Tree.{Tree}
+use Rattle.std.specs.Prelude.{slice_get, is_some as is_given}
+use Rattle.swc_context.specs.{declared.error.Error.Error, declared.error.SyntaxError.TheVariants.OutOfMemory, declared.span.Span.Span}
+use Rattle.swc_input.specs.{declared.buffer.Buffer.Buffer, declared.token.TokenAndSpan.TokenAndSpan, Recording.is_some, Source.Model}
 use Rattle.swc_ast.specs.Trees.{listed, held_expr, no_cover_in, no_covers, is_spread, no_spread, paren_ok}
-use Rattle.swc_ast.specs.declared.expr.ExprOrSpread.{ExprOrSpread}
-use Rattle.swc_ast.specs.declared.spanned.Spanned.{Ghosts}
-use Rattle.swc_grammar.specs.Scope.{Scope}
-use Rattle.swc_grammar.specs.Clean.{Out}
-use Rattle.swc_nodes.specs.NumberedTrees.{fits}
+use Rattle.swc_ast.specs.{Parts.item_of, Parts.item_trees, Tree.Tree, declared.expr.ExprOrSpread.ExprOrSpread, declared.spanned.Spanned.Ghosts}
+use Rattle.swc_grammar.specs.{Scope.Scope, Clean.Out}
 use Rattle.swc_nodes.specs.NodeParts.{flat, item_parts, expr_part}
 use Rattle.swc_nodes.specs.GrowingNodes.{seat_at, Apart, From}
-use Rattle.swc_nodes.specs.declared.node.ExprId.{ExprId}
-use Rattle.swc_nodes.specs.declared.nodes.Nodes.{Nodes}
-use Rattle.swc_nodes.proofs.Chains.{both_true}
-use Rattle.swc_nodes.proofs.Held.{from-apart, from-down}
+use Rattle.swc_nodes.specs.{NumberedTrees.fits, declared.node.ExprId.ExprId, declared.nodes.Nodes.Nodes}
+use Rattle.swc_nodes.proofs.{Chains.both_true, Held.from-apart, Held.from-down}
 use Rattle.swc_steps.specs.Args.{arrow_free, paren_closed}
 use Rattle.swc_steps.specs.Parsing.{Checks, On, Refuses, Unheard}
 use Rattle.swc_steps.proofs.Args.{paren_closed_splits}

@@ -1,12 +1,9 @@
 -- Parameters that lie where their patterns do: the same among more nodes, and one more of them.
 use Rattle.std.proofs.Common.{◌≡◌, ℕ, List, [], ◌∷◌, ◌++◌, sym, ap, ◌∙◌}
-use Rattle.swc_ast.specs.Tree.{span_of}
-use Rattle.swc_ast.specs.declared.function.Param.{Param}
-use Rattle.swc_ast.specs.declared.spanned.Spanned.{Ghosts}
+use Rattle.swc_ast.specs.{Tree.span_of, declared.function.Param.Param, declared.spanned.Spanned.Ghosts}
 use Rattle.swc_nodes.specs.NodeParts.{flat, param_parts, pat_part}
 use Rattle.swc_nodes.specs.GrowingNodes.{count, tree_at, Apart, From, Grows}
-use Rattle.swc_nodes.specs.declared.node.PatId.{PatId}
-use Rattle.swc_nodes.specs.declared.nodes.Nodes.{Nodes}
+use Rattle.swc_nodes.specs.{declared.node.PatId.PatId, declared.nodes.Nodes.Nodes}
 use Rattle.swc_nodes.proofs.Held.{apart-from}
 use Rattle.swc_nodes.proofs.Lists.{SameTrees, same_first, same_rest, apart-list-more, apart-trees}
 use Rattle.swc_patterns.specs.Answers.{pat_at, placed}

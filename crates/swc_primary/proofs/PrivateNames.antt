@@ -1,19 +1,10 @@
 -- `#` and a name: by themselves, and as the left operand of `in`.
-use Rattle.std.proofs.Common.{◌≡◌, Bool, true, false, not, ◌&&◌, if◌then◌else◌, List, [], ◌∷◌, Option, Some, None}
-use Rattle.std.proofs.Common.{Result, Ok, Err, refl, ap, ◌∙◌}
+use Rattle.std.proofs.Common.{◌≡◌, Bool, true, false, not, ◌&&◌, if◌then◌else◌, List, [], ◌∷◌, Option, Some, None, Result, Ok, Err, refl, ap, ◌∙◌}
 use Rattle.swc_context.specs.declared.error.Error.{Error}
-use Rattle.swc_input.specs.declared.buffer.Buffer.{Buffer}
-use Rattle.swc_input.specs.declared.token.TokenAndSpan.{TokenAndSpan}
-use Rattle.swc_input.specs.Kinds.{at_token, is_hash}
-use Rattle.swc_input.specs.Source.{Model, Laws}
+use Rattle.swc_input.specs.{declared.buffer.Buffer.Buffer, declared.token.TokenAndSpan.TokenAndSpan, Kinds.at_token, Kinds.is_hash, Source.Model, Source.Laws}
 use Rattle.swc_ast.specs.Trees.{to, private_e}
 use Rattle.swc_bodies.specs.Readings.{Hook}
-use Rattle.swc_grammar.specs.Clean.{Out, first}
-use Rattle.swc_grammar.specs.Grammar.{private-expr}
-use Rattle.swc_grammar.specs.Names.{Spelling, may_name}
-use Rattle.swc_grammar.specs.Scope.{Scope}
-use Rattle.swc_grammar.specs.Tokens.{is_in}
-use Rattle.swc_grammar.specs.Words.{◌>>=◌, word}
+use Rattle.swc_grammar.specs.{Clean.Out, Clean.first, Grammar.private-expr, Names.Spelling, Names.may_name, Scope.Scope, Tokens.is_in, Words.◌>>=◌, Words.word}
 use Rattle.swc_steps.specs.Args.{hash_name}
 use Rattle.swc_steps.specs.Parsing.{scope, Checked, Continues, On}
 use Rattle.swc_steps.specs.Readers.{before_in, by_production, nothing, private_operand, reading}

@@ -1,24 +1,11 @@
 -- What a property is, by the token that it begins with and the one after it.
-use Rattle.std.proofs.Common.{◌≡◌, Bool, true, false, List, [], ◌∷◌, Option, Some, None, Result, Ok, Err, IsSome}
-use Rattle.std.proofs.Common.{MatchOption, refl, sym, ap, ◌∙◌}
-use Rattle.swc_context.specs.declared.error.Error.{Error}
-use Rattle.swc_context.specs.declared.span.Span.{Span}
-use Rattle.swc_input.specs.declared.buffer.Buffer.{Buffer}
-use Rattle.swc_input.specs.declared.token.Token.{Token}
-use Rattle.swc_input.specs.declared.token.Token.TheVariants as token
-use Rattle.swc_input.specs.declared.token.TokenAndSpan.{TokenAndSpan}
-use Rattle.swc_input.specs.Plain.{plain_token}
-use Rattle.swc_input.specs.Source.{Model, Laws}
-use Rattle.swc_input.specs.Buffer.{Peeked, current}
-use Rattle.swc_input.specs.Kinds.{at_token}
-use Rattle.swc_input.specs.Laws.{Read-same}
-use Rattle.swc_grammar.specs.Clean.{first, second}
-use Rattle.swc_grammar.specs.Tokens.{tk, is_word}
-use Rattle.swc_grammar.specs.Words.{rest}
-use Rattle.swc_primary.specs.declared.modifiers.Modifier.{Modifier}
-use Rattle.swc_primary.specs.declared.modifiers.PropKind.{PropKind}
-use Rattle.swc_steps.specs.Parsing.{seen, seen_of, Told, Tells}
+use Rattle.std.proofs.Common.{◌≡◌, Bool, true, false, List, [], ◌∷◌, Option, Some, None, Result, Ok, Err, IsSome, MatchOption, refl, sym, ap, ◌∙◌}
+use Rattle.swc_context.specs.{declared.error.Error.Error, declared.span.Span.Span}
+use Rattle.swc_input.specs.{declared.buffer.Buffer.Buffer, declared.token.Token.Token, declared.token.Token.Token as token, declared.token.TokenAndSpan.TokenAndSpan, Plain.plain_token, Source.Model, Source.Laws, Buffer.Peeked, Buffer.current, Kinds.at_token, Laws.Read-same}
+use Rattle.swc_grammar.specs.{Clean.first, Clean.second, Tokens.tk, Tokens.is_word, Words.rest}
 use Rattle.swc_primary.specs.Properties.{by_modifier, kind_at, kind_of, modifier_of, word_kind, sign_kind, prop_kind}
+use Rattle.swc_primary.specs.{declared.modifiers.Modifier.Modifier, declared.modifiers.PropKind.PropKind}
+use Rattle.swc_steps.specs.Parsing.{seen, seen_of, Told, Tells}
 use Rattle.swc_steps.proofs.Ahead.{peeked_first, is_some_none}
 
 pub plain_kind : (m : Modifier) (t : Token) → kind_at m (plain_token t) ≡ kind_at m t

@@ -1,46 +1,25 @@
 -- The clean parser's steps in object literals (13.2.5), as the code goes them.
 use Rattle.std.specs.Prelude.{◌≡◌, Bool, true, false, not, if◌then◌else◌, List, [], ◌∷◌, Option, Some, None}
 use Rattle.std.proofs.Common.{refl, sym, ap, ◌∙◌}
-use Rattle.swc_context.specs.Reserved.{is_reserved_word}
-use Rattle.swc_context.specs.declared.span.Span.{Span}
-use Rattle.swc_input.specs.declared.token.Token.{Token}
-use Rattle.swc_input.specs.declared.token.Token.TheVariants as token
-use Rattle.swc_input.specs.declared.token.TokenAndSpan.{TokenAndSpan}
-use Rattle.swc_input.specs.Kinds.{at_token}
+use Rattle.swc_context.specs.{Reserved.is_reserved_word, declared.span.Span.Span}
+use Rattle.swc_input.specs.{declared.token.Token.Token, declared.token.Token.Token as token, declared.token.TokenAndSpan.TokenAndSpan, Kinds.at_token}
 use Rattle.swc_ast.specs.Tree.{nil, span_of}
-use Rattle.swc_ast.specs.Trees.{to, object_e, listed, items_of, comma_of, spread_prop_e, short_e, cover_e}
-use Rattle.swc_ast.specs.Trees.{ident_e}
+use Rattle.swc_ast.specs.Trees.{to, object_e, listed, items_of, comma_of, spread_prop_e, short_e, cover_e, ident_e}
 use Rattle.swc_bodies.specs.Readings.{Hook, is_async, is_brace}
-use Rattle.swc_grammar.specs.Scope.{Scope, inner}
 use Rattle.swc_grammar.specs.Symbols.{Assign, Primary, Props, PropsTail, Prop, Side}
-use Rattle.swc_grammar.specs.Tokens.{tk, with_in, is_dots, is_equals, is_get, is_set, is_question, is_rbrace, is_star}
-use Rattle.swc_grammar.specs.Tokens.{is_word, ends_prop, follows_key}
-use Rattle.swc_grammar.specs.Grammar.{Production, object-lit, prop-spread, prop-short, prop-cover, prop-key}
-use Rattle.swc_grammar.specs.Grammar.{prop-generator, prop-async, prop-async-generator, prop-getter, prop-setter}
-use Rattle.swc_grammar.specs.Names.{Spelling, may_name}
-use Rattle.swc_grammar.specs.Parts.{any_name}
+use Rattle.swc_grammar.specs.Tokens.{tk, with_in, is_dots, is_equals, is_get, is_set, is_question, is_rbrace, is_star, is_word, ends_prop, follows_key}
+use Rattle.swc_grammar.specs.Grammar.{Production, object-lit, prop-spread, prop-short, prop-cover, prop-key, prop-generator, prop-async, prop-async-generator, prop-getter, prop-setter}
 use Rattle.swc_grammar.specs.Rule.{gives, must, given, symbol, token as token_of, ◌>>=◌ as ◌▸◌, ◌>>◌}
-use Rattle.swc_grammar.specs.Clean.{and_then, first, second, sym as at, exec, Choice, none, pick, chosen, plan}
-use Rattle.swc_grammar.specs.Clean.{primary, prop, prop_word, async_method, run}
+use Rattle.swc_grammar.specs.Clean.{and_then, first, second, sym as at, exec, Choice, none, pick, chosen, plan, primary, prop, prop_word, async_method, run}
 use Rattle.swc_grammar.specs.Words.{◌>>=◌, one, word}
-use Rattle.swc_grammar.proofs.Knot.{knot}
-use Rattle.swc_grammar.proofs.Only.{brace-is, rbrace-is}
-use Rattle.swc_grammar.proofs.Rules.{run_picked}
-use Rattle.swc_primary.specs.declared.modifiers.MethodKind.{MethodKind}
-use Rattle.swc_primary.specs.declared.modifiers.MethodKind.TheVariants as method
-use Rattle.swc_primary.specs.declared.modifiers.Modifier.{Modifier}
-use Rattle.swc_primary.specs.declared.modifiers.Modifier.TheVariants as modifier
-use Rattle.swc_primary.specs.declared.modifiers.PropKind.{PropKind}
-use Rattle.swc_primary.specs.declared.modifiers.PropKind.TheVariants as kind
+use Rattle.swc_grammar.specs.{Scope.Scope, Scope.inner, Names.Spelling, Names.may_name, Parts.any_name}
+use Rattle.swc_grammar.proofs.{Knot.knot, Only.brace-is, Only.rbrace-is, Rules.run_picked}
+use Rattle.swc_primary.specs.Properties.{object_lit_tail, prop_item, spread_prop_tail, open_by, open_name, cover_name, cover_node, cover_tail, modifier_of, by_modifier, word_kind, prop_kind}
+use Rattle.swc_primary.specs.{declared.modifiers.MethodKind.MethodKind, declared.modifiers.MethodKind.MethodKind as method, declared.modifiers.Modifier.Modifier, declared.modifiers.Modifier.Modifier as modifier, declared.modifiers.PropKind.PropKind, declared.modifiers.PropKind.PropKind as kind, Methods.modifiers, Methods.method_tail}
 use Rattle.swc_steps.specs.Readers.{reading, by_production, inside}
 use Rattle.swc_steps.specs.Lists.{eaten, eaten_by, closed, separated, behind}
-use Rattle.swc_primary.specs.Properties.{object_lit_tail, prop_item}
-use Rattle.swc_primary.specs.Properties.{spread_prop_tail, open_by, open_name, cover_name, cover_node, cover_tail}
-use Rattle.swc_primary.specs.Properties.{modifier_of, by_modifier, word_kind, prop_kind}
 use Rattle.swc_steps.specs.Keys.{expected, expected_by}
-use Rattle.swc_primary.specs.Methods.{modifiers, method_tail}
-use Rattle.swc_primary.proofs.Keyed.{generator_splits, async_splits, async_generator_splits, getter_splits}
-use Rattle.swc_primary.proofs.Keyed.{setter_splits}
+use Rattle.swc_primary.proofs.Keyed.{generator_splits, async_splits, async_generator_splits, getter_splits, setter_splits}
 use Rattle.swc_steps.proofs.Steps.{not_true, not_false}
 use Rattle.swc_steps.proofs.Lists.{calls, binds, bind_same, tail_left, list_from, item_more, IsList}
 

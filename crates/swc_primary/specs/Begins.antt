@@ -1,20 +1,12 @@
 -- What a property begins with, and what is left of it, by the clean parser.
 use Rattle.std.specs.Prelude.{Bool, List, Some}
-use Rattle.swc_input.specs.declared.buffer.Buffer.{Buffer}
-use Rattle.swc_input.specs.declared.token.TokenAndSpan.{TokenAndSpan}
-use Rattle.swc_input.specs.Source.{Model}
-use Rattle.swc_ast.specs.Tree.{Tree}
-use Rattle.swc_ast.specs.Trees.{short_e}
+use Rattle.swc_input.specs.{declared.buffer.Buffer.Buffer, declared.token.TokenAndSpan.TokenAndSpan, Source.Model}
+use Rattle.swc_ast.specs.{Tree.Tree, Trees.short_e}
 use Rattle.swc_bodies.specs.Readings.{Hook}
-use Rattle.swc_grammar.specs.Scope.{Scope}
-use Rattle.swc_grammar.specs.Symbols.{Prop}
-use Rattle.swc_grammar.specs.Grammar.{prop-key}
 use Rattle.swc_grammar.specs.Clean.{Out, sym, run}
-use Rattle.swc_primary.specs.declared.object.PropHead.{PropHead}
-use Rattle.swc_primary.specs.declared.object.PropHead.TheVariants as head
+use Rattle.swc_grammar.specs.{Scope.Scope, Symbols.Prop, Grammar.prop-key}
+use Rattle.swc_primary.specs.{declared.object.PropHead.PropHead, declared.object.PropHead.PropHead as head, Properties.spread_prop_tail, Properties.cover_tail, Methods.method_tail}
 use Rattle.swc_steps.specs.Readers.{by_production}
-use Rattle.swc_primary.specs.Properties.{spread_prop_tail, cover_tail}
-use Rattle.swc_primary.specs.Methods.{method_tail}
 use Rattle.swc_steps.specs.Parsing.{ident_spelling, On, Heard}
 
 -- what is left of a property after what it begins with; after a name alone nothing

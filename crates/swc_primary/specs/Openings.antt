@@ -1,31 +1,16 @@
 -- Which primary expression a token begins (13.2), and what opening a literal does to the buffer.
 use Rattle.std.specs.Prelude.{◌≡◌, Bool, true, false, ◌&&◌, if◌then◌else◌, List, Option, Some, None}
-use Rattle.swc_context.specs.Contexts.{view as deciding}
-use Rattle.swc_context.specs.declared.context.Context.{Context}
-use Rattle.swc_context.specs.declared.span.BytePos.{BytePos}
-use Rattle.swc_context.specs.declared.span.Span.{Span}
-use Rattle.swc_context.specs.declared.word.Word.TheVariants as word
-use Rattle.swc_input.specs.declared.buffer.Buffer.{Buffer}
-use Rattle.swc_input.specs.declared.token.Token.{Token}
+use Rattle.swc_context.specs.{Contexts.view as deciding, declared.context.Context.Context, declared.span.BytePos.BytePos, declared.span.Span.Span, declared.word.Word.Word as word, Spans.from_to}
+use Rattle.swc_input.specs.{declared.buffer.Buffer.Buffer, declared.token.Token.Token, declared.token.TokenAndSpan.TokenAndSpan, Source.Model, Buffer.Bumped, Buffer.context, Kinds.at_token, Kinds.is_hash}
 use Rattle.swc_input.specs.declared.token.Token.TheVariants as token
-use Rattle.swc_input.specs.declared.token.TokenAndSpan.{TokenAndSpan}
-use Rattle.swc_input.specs.Source.{Model}
-use Rattle.swc_input.specs.Buffer.{Bumped, context}
-use Rattle.swc_input.specs.Kinds.{at_token, is_hash}
-use Rattle.swc_ast.specs.Tree.{Tree, span_of}
-use Rattle.swc_ast.specs.declared.lit.Lit.{Lit}
-use Rattle.swc_ast.specs.declared.lit.Lit.TheVariants as lit
 use Rattle.swc_ast.specs.Trees.{array_e, object_e, items_of, comma_of}
-use Rattle.swc_context.specs.Spans.{from_to}
+use Rattle.swc_ast.specs.{Tree.Tree, Tree.span_of, declared.lit.Lit.Lit, declared.lit.Lit.Lit as lit}
 use Rattle.swc_bodies.specs.Readings.{is_function, is_async, is_class, is_brace}
 use Rattle.swc_grammar.specs.Scope.{Scope}
 use Rattle.swc_grammar.specs.Tokens.{is_in, is_lparen, is_lbracket, is_backquote, is_this, begins_regex}
 use Rattle.swc_grammar.specs.Clean.{Out, first, is_lit, is_identifier}
 use Rattle.swc_steps.specs.Parsing.{Moves}
-use Rattle.swc_primary.specs.declared.primary.PrimaryKind.{PrimaryKind}
-use Rattle.swc_primary.specs.declared.primary.PrimaryKind.TheVariants as kind
-use Rattle.swc_primary.specs.declared.primary.PlainKind.{PlainKind}
-use Rattle.swc_primary.specs.declared.primary.PlainKind.TheVariants as plain
+use Rattle.swc_primary.specs.{declared.primary.PrimaryKind.PrimaryKind, declared.primary.PrimaryKind.PrimaryKind as kind, declared.primary.PlainKind.PlainKind, declared.primary.PlainKind.PlainKind as plain}
 
 -- which primary expression the token begins, of those that other expressions are in
 abbrev pub primary_kind : Option TokenAndSpan → PrimaryKind

@@ -1,29 +1,15 @@
 -- What the steps of the code read in object literals (13.2.5), by the clean parser.
 use Rattle.std.specs.Prelude.{Bool, if◌then◌else◌, List, Option, Some, None}
-use Rattle.swc_context.specs.Reserved.{is_reserved_word}
-use Rattle.swc_context.specs.declared.span.Span.{Span}
-use Rattle.swc_input.specs.declared.token.Token.{Token}
-use Rattle.swc_input.specs.declared.token.TokenAndSpan.{TokenAndSpan}
-use Rattle.swc_input.specs.Kinds.{at_token}
+use Rattle.swc_context.specs.{Reserved.is_reserved_word, declared.span.Span.Span}
+use Rattle.swc_input.specs.{declared.token.Token.Token, declared.token.TokenAndSpan.TokenAndSpan, Kinds.at_token}
 use Rattle.swc_ast.specs.Tree.{Tree, span_of}
 use Rattle.swc_ast.specs.Trees.{to, object_e, items_of, comma_of, spread_prop_e, cover_e, ident_e}
 use Rattle.swc_bodies.specs.Readings.{Hook, is_async}
-use Rattle.swc_grammar.specs.Scope.{Scope, inner}
-use Rattle.swc_grammar.specs.Symbols.{Props, Prop}
-use Rattle.swc_grammar.specs.Tokens.{is_dots, is_equals, is_get, is_set, is_question, is_rbrace, is_star, is_word}
-use Rattle.swc_grammar.specs.Tokens.{ends_prop, follows_key}
+use Rattle.swc_grammar.specs.Tokens.{is_dots, is_equals, is_get, is_set, is_question, is_rbrace, is_star, is_word, ends_prop, follows_key}
 use Rattle.swc_grammar.specs.Clean.{Out, first, second, sym, run}
-use Rattle.swc_grammar.specs.Names.{Spelling, may_name}
-use Rattle.swc_grammar.specs.Words.{◌>>=◌, word}
-use Rattle.swc_primary.specs.declared.modifiers.MethodKind.{MethodKind}
-use Rattle.swc_primary.specs.declared.modifiers.MethodKind.TheVariants as method
-use Rattle.swc_primary.specs.declared.modifiers.Modifier.{Modifier}
-use Rattle.swc_primary.specs.declared.modifiers.Modifier.TheVariants as modifier
-use Rattle.swc_primary.specs.declared.modifiers.PropKind.{PropKind}
-use Rattle.swc_primary.specs.declared.modifiers.PropKind.TheVariants as kind
-use Rattle.swc_steps.specs.Keys.{expected}
-use Rattle.swc_steps.specs.Readers.{inside}
-use Rattle.swc_steps.specs.Lists.{separated, with_comma}
+use Rattle.swc_grammar.specs.{Scope.Scope, Scope.inner, Symbols.Props, Symbols.Prop, Names.Spelling, Names.may_name, Words.◌>>=◌, Words.word}
+use Rattle.swc_primary.specs.{declared.modifiers.MethodKind.MethodKind, declared.modifiers.MethodKind.MethodKind as method, declared.modifiers.Modifier.Modifier, declared.modifiers.Modifier.Modifier as modifier, declared.modifiers.PropKind.PropKind, declared.modifiers.PropKind.PropKind as kind}
+use Rattle.swc_steps.specs.{Keys.expected, Readers.inside, Lists.separated, Lists.with_comma}
 
 -- a name that isn't reserved where it is, and so may stand for its value too
 abbrev pub open_by : Scope → Spelling × List TokenAndSpan → Out Spelling

@@ -1,11 +1,9 @@
 // What opens array and object literals (ECMA-262, 13.2.4 and 13.2.5), and what is after their lists.
 ghost use Rattle.std.specs.Prelude.{ℕ, ◌≡◌, ◌<◌, true, Some};
-ghost use Rattle.swc_input.specs.Buffer.{context, to_come};
-ghost use Rattle.swc_input.specs.Kinds.{at_token};
+ghost use Rattle.swc_input.specs.{Buffer.context, Buffer.to_come, Kinds.at_token};
 ghost use Rattle.swc_bodies.specs.Readings.{is_brace};
 ghost use Rattle.swc_grammar.specs.Tokens.{is_lbracket, include_in};
-ghost use Rattle.swc_nodes.specs.Lists.{elem_parts, props_parts};
-ghost use Rattle.swc_nodes.specs.GrowingNodes.{Apart};
+ghost use Rattle.swc_nodes.specs.{Lists.elem_parts, Lists.props_parts, GrowingNodes.Apart};
 ghost use Rattle.swc_steps.specs.Parsing.{seen, GoesOn, itself, tree_of, elems_at, props_at};
 ghost use Rattle.swc_primary.specs.Openings.{Opens, array_from, object_from};
 

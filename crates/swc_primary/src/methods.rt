@@ -1,18 +1,14 @@
 // What methods are made of after their keys (ECMA-262, 15.4 to 15.6 and 15.8): parameters, blocks, and properties.
 ghost use Rattle.std.specs.Option.{is_some};
 ghost use Rattle.std.specs.Prelude.{ℕ, ◌≡◌, ◌≢◌, ◌<◌, ◌≤◌, true, not, ◌||◌, IfOk, OnOk, MatchResult};
-ghost use Rattle.swc_context.specs.Contexts.{method_params};
-ghost use Rattle.swc_context.specs.declared.error.SyntaxError.TheVariants.{ParserFailed};
+ghost use Rattle.swc_context.specs.{Contexts.method_params, declared.error.SyntaxError.TheVariants.ParserFailed};
 ghost use Rattle.swc_input.specs.Buffer.{to_come, context};
 ghost use Rattle.swc_nodes.specs.GrowingNodes.{count, Apart, Grows};
-ghost use Rattle.swc_nodes.specs.Lists.{first_param_pat};
-ghost use Rattle.swc_nodes.specs.NodeParts.{flat, param_parts};
+ghost use Rattle.swc_nodes.specs.{Lists.first_param_pat, NodeParts.flat, NodeParts.param_parts};
 ghost use Rattle.swc_patterns.specs.Answers.{params_of, params_at};
 ghost use Rattle.swc_steps.specs.Keys.{method_body};
 ghost use Rattle.swc_steps.specs.Parsing.{Checked, GoesOn, Parses, Tries, by_hook, shell_at};
-ghost use Rattle.swc_primary.specs.Methods.{Opened, NotOpened, async_in, generator_in, accessor_ok, just_one};
-ghost use Rattle.swc_primary.specs.Methods.{begins_rest, misses_param, method_function_of, method_shell, method_close};
-ghost use Rattle.swc_primary.specs.Methods.{method_node, method_behind, getter_behind, setter_behind};
+ghost use Rattle.swc_primary.specs.Methods.{Opened, NotOpened, async_in, generator_in, accessor_ok, just_one, begins_rest, misses_param, method_function_of, method_shell, method_close, method_node, method_behind, getter_behind, setter_behind};
 
 use crate::modifiers::MethodKind;
 use swc_ast::function::{Function, Param};

@@ -2,9 +2,7 @@
 ghost use Rattle.std.specs.Prelude.{◌≡◌, ◌<◌, true, Some, None, IsSome, MatchOption, OnOk};
 ghost use Rattle.swc_input.specs.Buffer.{current, peeked, to_come, Peeked};
 ghost use Rattle.swc_input.specs.Kinds.{at_token};
-ghost use Rattle.swc_grammar.specs.Clean.{first};
-ghost use Rattle.swc_grammar.specs.Words.{rest};
-ghost use Rattle.swc_grammar.specs.Tokens.{is_word};
+ghost use Rattle.swc_grammar.specs.{Clean.first, Words.rest, Tokens.is_word};
 ghost use Rattle.swc_steps.specs.Parsing.{seen, ParsesAlone, Tells};
 ghost use Rattle.swc_primary.specs.Properties.{prop_kind, sign_kind, by_modifier, kind_at, kind_of, modifier_of};
 ghost use Rattle.swc_primary.specs.Methods.{of_async, of_generator, async_star, modifiers};
@@ -80,7 +78,7 @@ impl MethodKind {
     }
 }
 
-/// What the property is that the current token begins, by that token and the one after it. Refused only for want of
+/// What the property is that the current token begins, by that token and the one after it. Refused only when out of
 /// memory.
 pub(crate) fn prop_kind<I: Tokens>(input: &mut Buffer<I>) -> PResult<PropKind>
     ensures tells { Tells I.model prop_kind input.old result input.new }

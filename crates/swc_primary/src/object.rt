@@ -1,23 +1,16 @@
 // Object literals (ECMA-262, 13.2.5): properties and keys.
 ghost use Rattle.std.specs.Prelude.{◌≡◌, ◌<◌, ◌≤◌, true, not, [], Some, IfOk, OnOk, MatchResult};
-ghost use Rattle.swc_context.specs.Reserved.{is_reserved_word};
-ghost use Rattle.swc_input.specs.Buffer.{to_come, context};
-ghost use Rattle.swc_input.specs.Plain.{plain_token};
-ghost use Rattle.swc_context.specs.Spans.{from_to};
-ghost use Rattle.swc_ast.specs.Parts.{ident_tree};
-ghost use Rattle.swc_ast.specs.Tree.{span_of};
+ghost use Rattle.swc_context.specs.{Reserved.is_reserved_word, Spans.from_to};
+ghost use Rattle.swc_input.specs.{Buffer.to_come, Buffer.context, Plain.plain_token};
 ghost use Rattle.swc_ast.specs.Trees.{to, cover_e, spread_prop_e};
-ghost use Rattle.swc_grammar.specs.Symbols.{Prop};
-ghost use Rattle.swc_grammar.specs.Clean.{sym, run};
+ghost use Rattle.swc_ast.specs.{Parts.ident_tree, Tree.span_of};
+ghost use Rattle.swc_grammar.specs.{Symbols.Prop, Clean.sym, Clean.run};
 ghost use Rattle.swc_nodes.specs.NodeParts.{expr_part, key_parts, prop_parts, one_expr};
 ghost use Rattle.swc_nodes.specs.GrowingNodes.{first_at, end_at, From};
 ghost use Rattle.swc_steps.specs.Readers.{nothing};
-ghost use Rattle.swc_primary.specs.Properties.{open_name, cover_name};
-ghost use Rattle.swc_primary.specs.Begins.{Begins};
 ghost use Rattle.swc_steps.specs.Keys.{is_key_lit, literal_key, plain_key, key_close};
-ghost use Rattle.swc_primary.specs.Methods.{value_behind};
-ghost use Rattle.swc_steps.specs.Parsing.{Refuses, Checked, Tries, Acts, ParsesAlone, Unheard, Produces, tree_of};
-ghost use Rattle.swc_steps.specs.Parsing.{key_of, key_at, ident_spelling, prop_at};
+ghost use Rattle.swc_steps.specs.Parsing.{Refuses, Checked, Tries, Acts, ParsesAlone, Unheard, Produces, tree_of, key_of, key_at, ident_spelling, prop_at};
+ghost use Rattle.swc_primary.specs.{Properties.open_name, Properties.cover_name, Begins.Begins, Methods.value_behind};
 
 use crate::modifiers::{
     MethodKind, PropKind, is_word, modifier_here, parse_modifiers, prop_kind, questioned_kind,

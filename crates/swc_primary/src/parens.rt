@@ -3,11 +3,8 @@ ghost use Rattle.std.specs.Prelude.{length, ◌≡◌, ◌≢◌, ◌≤◌, tru
 ghost use Rattle.swc_ast.specs.Parts.{item_trees};
 ghost use Rattle.swc_ast.specs.Trees.{no_cover_in, no_covers, no_spread, paren_ok};
 ghost use Rattle.swc_context.specs.declared.error.SyntaxError.TheVariants.{OutOfMemory};
-ghost use Rattle.swc_input.specs.Recording.{is_some};
-ghost use Rattle.swc_input.specs.Buffer.{state_of, to_come};
-ghost use Rattle.swc_nodes.specs.Lists.{is_cover_prop, has_cover};
-ghost use Rattle.swc_nodes.specs.NodeParts.{expr_part, args_parts};
-ghost use Rattle.swc_nodes.specs.GrowingNodes.{Apart, From};
+ghost use Rattle.swc_input.specs.{Recording.is_some, Buffer.state_of, Buffer.to_come};
+ghost use Rattle.swc_nodes.specs.{Lists.is_cover_prop, Lists.has_cover, NodeParts.expr_part, NodeParts.args_parts, GrowingNodes.Apart, GrowingNodes.From};
 ghost use Rattle.swc_steps.specs.Args.{arrow_free};
 ghost use Rattle.swc_steps.specs.Parsing.{Checked, Checks, ContinuesAlone, Refuses, tree_of, args_at};
 

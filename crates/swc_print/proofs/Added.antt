@@ -1,14 +1,11 @@
 -- The numbers among pieces that are put together.
 use Rattle.std.proofs.Common.{◌≡◌, ℕ, zero, suc, ◌+◌, ◌<◌, List, [], ◌∷◌, ◌++◌, length, take, get_or, reverse, Result, Ok, Err, OnOk, refl, sym, ap, ◌∙◌, append_assoc, add-one}
+use Rattle.std.proofs.{lemmas.List.append-nil, lemmas.List.reverse-append, lemmas.Option.slice_get_read}
 use Rattle.std.specs.Prelude.{slice_get}
-use Rattle.std.proofs.lemmas.List.{append-nil, reverse-append}
-use Rattle.std.proofs.lemmas.Option.{slice_get_read}
 use Rattle.swc_nodes.specs.NodeParts.{Part, flat, if_some}
 use Rattle.swc_nodes.specs.Weights.{ats}
 use Rattle.swc_nodes.proofs.Weighed.{ats-append}
-use Rattle.swc_print.specs.Numbers.{numbers}
-use Rattle.swc_print.specs.declared.pieces.Piece.{Piece}
-use Rattle.swc_print.specs.declared.pieces.Piece.TheVariants as piece
+use Rattle.swc_print.specs.{Numbers.numbers, declared.pieces.Piece.Piece, declared.pieces.Piece.Piece as piece}
 
 pub numbers-append : (xs ys : List Piece) → numbers (xs ++ ys) ≡ numbers xs ++ numbers ys
 numbers-append [] ys = refl

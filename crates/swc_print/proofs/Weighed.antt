@@ -4,15 +4,12 @@ use Rattle.std.proofs.lemmas.List.Elements.{All-append, All-take, All-same, All-
 use Rattle.std.proofs.lemmas.List.Sums.{sum_by-append, sum_by_push}
 use Rattle.std.proofs.lemmas.List.Sorted.{sum_by-IsPermutation, All-permutation, IsPermutation-reverse}
 use Rattle.std.proofs.lemmas.List.{append-nil, take-append-drop, take_at}
-use Rattle.swc_ast.specs.declared.spanned.Spanned.{Ghosts}
+use Rattle.swc_ast.specs.{declared.spanned.Spanned.Ghosts, declared.expr.Tpl.Tpl}
 use Rattle.swc_nodes.specs.NodeParts.{Part, slots, flat, one_expr, expr_part}
 use Rattle.swc_nodes.specs.GrowingNodes.{count, seat_at, Stood}
-use Rattle.swc_nodes.specs.declared.node.Node.{Node}
-use Rattle.swc_nodes.specs.declared.node.Node.TheVariants as n
-use Rattle.swc_nodes.specs.declared.node.ExprId.{ExprId}
-use Rattle.swc_ast.specs.declared.expr.Tpl.{Tpl}
-use Rattle.swc_nodes.specs.declared.nodes.Nodes.{Nodes}
 use Rattle.swc_nodes.specs.Weights.{ats, weight, left_over, AreNumbers}
+use Rattle.swc_nodes.specs.{declared.node.Node.Node, declared.node.ExprId.ExprId, declared.nodes.Nodes.Nodes}
+use Rattle.swc_nodes.specs.declared.node.Node.TheVariants as n
 use Rattle.swc_nodes.proofs.Weighed.{ats-append, parts_lighter, parts_numbers}
 use Rattle.swc_print.specs.Numbers.{shown, tpl_shown}
 

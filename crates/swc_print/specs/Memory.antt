@@ -1,7 +1,5 @@
 -- The refusal when out of memory.
-use Rattle.swc_context.specs.declared.error.Error.{Error}
-use Rattle.swc_context.specs.declared.error.SyntaxError.TheVariants.{OutOfMemory}
-use Rattle.swc_context.specs.declared.span.BytePos.{BytePos}
+use Rattle.swc_context.specs.{declared.error.Error.Error, declared.error.SyntaxError.TheVariants.OutOfMemory, declared.span.BytePos.BytePos}
 
 abbrev start : BytePos
 start = record { 0 = 0 }

@@ -1,14 +1,9 @@
 -- The numbers of nodes, among pieces of text and among the parts of a node.
 use Rattle.std.specs.Prelude.{◌≡◌, ℕ, Bool, true, false, List, [], ◌∷◌, ◌++◌, Result, OnOk, length, take}
 use Rattle.swc_ast.specs.declared.expr.Tpl.{Tpl}
-use Rattle.swc_nodes.specs.declared.node.ExprId.{ExprId}
 use Rattle.swc_nodes.specs.NodeParts.{Part, slots, one_expr, flat}
-use Rattle.swc_nodes.specs.Weights.{ats}
-use Rattle.swc_nodes.specs.declared.node.Node.{Node}
-use Rattle.swc_nodes.specs.declared.node.Node.TheVariants as n
-use Rattle.swc_print.specs.declared.pieces.Pieces.{Pieces}
-use Rattle.swc_print.specs.declared.pieces.Piece.{Piece}
-use Rattle.swc_print.specs.declared.pieces.Piece.TheVariants as piece
+use Rattle.swc_nodes.specs.{declared.node.ExprId.ExprId, Weights.ats, declared.node.Node.Node, declared.node.Node.Node as n}
+use Rattle.swc_print.specs.{declared.pieces.Pieces.Pieces, declared.pieces.Piece.Piece, declared.pieces.Piece.Piece as piece}
 
 abbrev pub numbers : List Piece → List ℕ
 numbers [] = []

@@ -1,7 +1,6 @@
-// What stands in lists: the items of arrays and arguments, parameters and properties.
+// What is in lists: the items of arrays and arguments, parameters and properties.
 ghost use Rattle.std.specs.Prelude.{◌≡◌, ◌++◌, ◌∷◌, [], OnOk};
-ghost use Rattle.swc_nodes.specs.NodeParts.{one_expr, one_pat, if_some, item_parts, param_parts, prop_parts};
-ghost use Rattle.swc_nodes.specs.NodeParts.{pat_prop_parts, key_parts, flat};
+ghost use Rattle.swc_nodes.specs.NodeParts.{one_expr, one_pat, if_some, item_parts, param_parts, prop_parts, pat_prop_parts, key_parts, flat};
 ghost use Rattle.swc_nodes.specs.Weights.{ats};
 ghost use Rattle.swc_print.specs.Numbers.{Lays, numbers};
 

@@ -1,7 +1,6 @@
 // The pieces of members, calls, templates, arrow functions and `yield`.
 ghost use Rattle.std.specs.Prelude.{◌++◌, slice_get};
-ghost use Rattle.swc_nodes.specs.NodeParts.{one_expr, one_pat, if_some, flat, item_parts, args_parts, member_parts};
-ghost use Rattle.swc_nodes.specs.NodeParts.{super_parts, callee_parts, base_parts, body_parts};
+ghost use Rattle.swc_nodes.specs.NodeParts.{one_expr, one_pat, if_some, flat, item_parts, args_parts, member_parts, super_parts, callee_parts, base_parts, body_parts};
 ghost use Rattle.swc_print.specs.Numbers.{Lays, tpl_shown};
 
 use crate::items::put_list;

@@ -7,7 +7,7 @@ use std::alloc::AllocError;
 /// A piece of the text of a node.
 #[derive(Clone, Copy)]
 pub enum Piece<'a> {
-    /// It stands as it is.
+    /// It is written as it is.
     Text(&'a str),
     /// The number of tokens that a value of the hook kept, as `<3>`.
     Count(usize),
@@ -21,7 +21,7 @@ pub enum Piece<'a> {
 #[derive(Drop)]
 pub struct Pieces<'a> {
     pub out: String,
-    /// The pieces from the node's first part on. What stands before it is written at once.
+    /// The pieces from the node's first part on. What is before it is written at once.
     pub waiting: Vec<Piece<'a>>,
 }
 

@@ -2,8 +2,7 @@
 ghost use Rattle.std.specs.Prelude.{◌≡◌, ◌++◌, ◌<◌, [], OnOk, IfOk, IfErr, length, reverse};
 ghost use Rattle.std.specs.Option.{option_to_list};
 ghost use Rattle.swc_nodes.specs.GrowingNodes.{count};
-ghost use Rattle.swc_print.specs.Numbers.{numbers};
-ghost use Rattle.swc_print.specs.Memory.{want_of_memory};
+ghost use Rattle.swc_print.specs.{Numbers.numbers, Memory.want_of_memory};
 
 use crate::kinds::put_node;
 use crate::pieces::{Piece, Pieces};
@@ -40,8 +39,7 @@ impl Kept for TokenBody {
 /// A node with parts is its name and the parts in parentheses, as `Bin(+, a, Call(f, [b]))`; names,
 /// literals and `this` are as they are written; a hole, or a part that isn't there, is `-`.
 pub trait PrintNodes {
-    ghost use Rattle.swc_nodes.specs.declared.node.ExprId.{ExprId};
-    ghost use Rattle.swc_nodes.specs.declared.node.PatId.{PatId};
+    ghost use Rattle.swc_nodes.specs.{declared.node.ExprId.ExprId, declared.node.PatId.PatId};
 
     ghost has_expr: { Self → ExprId → Type 0 };
 
@@ -60,8 +58,7 @@ pub trait PrintNodes {
 
 impl<F: Spanned + Drop + Kept, C: Spanned + Drop + Kept, K: Spanned + Drop + Kept> PrintNodes
     for Nodes<F, C, K> {
-    ghost use Rattle.swc_nodes.specs.NodeParts.{expr_part, pat_part};
-    ghost use Rattle.swc_nodes.specs.GrowingNodes.{From};
+    ghost use Rattle.swc_nodes.specs.{NodeParts.expr_part, NodeParts.pat_part, GrowingNodes.From};
 
     ghost has_expr = { λ ns id. From 0 ns (expr_part id) };
 

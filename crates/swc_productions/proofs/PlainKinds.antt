@@ -1,4 +1,4 @@
--- A name, a literal or `this` begins a primary expression in which no other stands.
+-- A name, a literal or `this` begins a primary expression that has no other in it.
 use Rattle.std.proofs.Common.{◌≡◌, Option, Some, None, true, false, refl}
 use Rattle.swc_bodies.specs.Readings.{is_brace}
 use Rattle.swc_grammar.specs.Tokens.{is_lparen, is_lbracket, is_backquote}

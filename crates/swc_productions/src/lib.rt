@@ -1,4 +1,4 @@
-//! The productions: what calls itself back, over heads and tails that don't.
+//! The productions: what calls itself back, over what comes before and after these calls in crates below.
 #![tactic(auto)]
 
 pub mod pieces;

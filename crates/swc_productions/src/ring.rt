@@ -231,7 +231,7 @@ macro_rules! held {
 
 /// A primary expression (ECMA-262, 13.2): expressions in parentheses (13.2.9), as a list like that of arguments has
 /// them; an array literal (13.2.4), among whose elements `in` counts as an operator; an object literal (13.2.5); a
-/// template without a tag (13.2.8); or one in which no other expression stands. No colon of a conditional is expected
+/// template without a tag (13.2.8); or one with no other expression in it. No colon of a conditional is expected
 /// in a literal. The context is that from before, also after a refusal.
 #[cycle(productions)]
 pub fn parse_primary_expr<I: Tokens, B: Bodies<I>>(
@@ -273,7 +273,7 @@ pub fn parse_primary_expr<I: Tokens, B: Bodies<I>>(
 }
 
 /// The elements of an array literal (ECMA-262, 13.2.4), a comma after each, which may be missing after the last one,
-/// and the bracket that closes the literal. A comma where an element would stand is a hole (`None`).
+/// and the bracket that closes the literal. A comma where an element would be is a hole (`None`).
 #[cycle(productions)]
 fn parse_elements<I: Tokens, B: Bodies<I>>(
     p: &mut Productions<I, B>,
@@ -319,7 +319,7 @@ pub fn parse_expr_or_spread<I: Tokens, B: Bodies<I>>(
     }
 }
 
-/// A left-hand side (ECMA-262, 13.3). What stands before its first call is read as a member expression, but for
+/// A left-hand side (ECMA-262, 13.3). What is before its first call is read as a member expression, but for
 /// `super` and `import`: there no `<` and no `>` belong to a type. The context is that from before, also after a
 /// refusal.
 #[cycle(productions)]
@@ -498,7 +498,7 @@ pub fn parse_object_prop<I: Tokens, B: Bodies<I>>(
 }
 
 /// The function of a method (ECMA-262, 15.4 to 15.6 and 15.8), after its key at `key`: parameters, which are read in a
-/// context of their own, and a block. Nothing stood before the key where the method is of no kind. The context is that
+/// context of their own, and a block. Nothing was before the key where the method is of no kind. The context is that
 /// from before, also after a refusal.
 #[cycle(productions)]
 fn parse_method<I: Tokens, B: Bodies<I>>(
@@ -696,7 +696,7 @@ fn parse_super<I: Tokens, B: Bodies<I>>(
 // ---- Binary and unary operators, `++`, `--` and `await` (ECMA-262, 13.4 to 13.13 and 15.8)
 
 /// Binary operators of any precedence (ECMA-262, 13.13). Where the left operand was refused before an operator, that
-/// is recorded, and reading goes on there; elsewhere the refusal stands, and so does out of memory.
+/// is recorded, and reading goes on there; elsewhere the refusal is the answer, and so is out of memory.
 #[cycle(productions)]
 #[inline(never)]
 pub fn parse_bin_expr<I: Tokens, B: Bodies<I>>(
@@ -717,7 +717,7 @@ pub fn parse_bin_expr<I: Tokens, B: Bodies<I>>(
 }
 
 /// Reads on where the left operand of a binary operator, which begins at `first`, was refused, if an operator follows:
-/// that is recorded, and `Invalid` stands in for the operand. Elsewhere the refusal stands, and so does out of memory.
+/// that is recorded, and `Invalid` stands in for the operand. Elsewhere the refusal is the answer, and so is out of memory.
 #[cycle(productions)]
 #[inline(never)]
 fn recover_operators<I: Tokens, B: Bodies<I>>(
@@ -846,7 +846,7 @@ pub fn parse_unary_expr<I: Tokens, B: Bodies<I>>(
 }
 
 /// A unary expression (ECMA-262, 13.5) that begins with a name, a literal or `this`: a left-hand side, and `++` or `--`
-/// after it on the same line. Where nothing goes on with what stands before its first call, that is all of it. The
+/// after it on the same line. Where nothing goes on with what is before its first call, that is all of it. The
 /// context is that from before, also after a refusal.
 #[cycle(productions)]
 fn parse_plain_operand<I: Tokens, B: Bodies<I>>(
@@ -979,7 +979,7 @@ fn parse_yield_expr<I: Tokens, B: Bodies<I>>(
 
 /// An assignment expression that `yield` doesn't begin (ECMA-262, 13.15): an arrow function (15.3 and 15.9); or what
 /// binary operators join, a conditional or an assignment. After an arrow function with parameters in parentheses and a
-/// block operators are read on, which is recorded as `TS1005`, and once more where no semicolon may are after them.
+/// block operators are read on, which is recorded as `TS1005`, and once more where no semicolon may come after them.
 /// Where the left operand was refused before an operator, or an operand after such a function, that is recorded, and
 /// reading goes on there, with `Invalid` in place of all that was read before.
 #[cycle(productions)]
@@ -1055,7 +1055,7 @@ fn parse_arrow_or_operand<I: Tokens, B: Bodies<I>>(
 
 /// What an assignment expression begins with, where that may be an arrow function (ECMA-262, 15.3 and 15.9): the
 /// function; or an expression in parentheses, or a call of `async` (13.3.8), or in the head of a `for await` `async`
-/// before `of`, after which links may stand. Elsewhere nothing is read.
+/// before `of`, after which links may come. Elsewhere nothing is read.
 #[cycle(productions)]
 fn parse_arrow_or_base<I: Tokens, B: Bodies<I>>(
     p: &mut Productions<I, B>,
@@ -1225,7 +1225,7 @@ pub fn parse_binding_element<I: Tokens, B: Bodies<I>>(
 }
 
 /// The elements of an array pattern (ECMA-262, 14.3.3), a comma after each, which may be missing after the last one,
-/// and the bracket that closes the pattern. A comma where an element would stand is a hole (`None`).
+/// and the bracket that closes the pattern. A comma where an element would be is a hole (`None`).
 #[cycle(productions)]
 fn parse_pat_elements<I: Tokens, B: Bodies<I>>(
     p: &mut Productions<I, B>,
@@ -1264,7 +1264,7 @@ fn parse_pat_elements<I: Tokens, B: Bodies<I>>(
     }
 }
 
-/// The properties of an object pattern (ECMA-262, 14.3.3), and rests among them, wherever they stand, a comma after
+/// The properties of an object pattern (ECMA-262, 14.3.3), and rests among them, wherever they are, a comma after
 /// each, which may be missing after the last one, and the brace that closes the pattern.
 #[cycle(productions)]
 fn parse_pat_props<I: Tokens, B: Bodies<I>>(

@@ -1,17 +1,11 @@
 -- The token after the current one: whether it is `function`, on the same line.
-use Rattle.std.proofs.Common.{◌≡◌, Bool, true, false, not, ◌&&◌, List, [], ◌∷◌, ◌++◌, Option, Some, None, IsSome}
-use Rattle.std.proofs.Common.{MatchOption, refl, sym, ap, subst, ◌∙◌}
-use Rattle.swc_input.specs.declared.buffer.Buffer.{Buffer}
-use Rattle.swc_input.specs.declared.token.Token.{Token}
-use Rattle.swc_input.specs.declared.token.Token.TheVariants as token
-use Rattle.swc_input.specs.declared.token.TokenAndSpan.{TokenAndSpan}
-use Rattle.swc_input.specs.Plain.{plain, plain_token}
+use Rattle.std.proofs.Common.{◌≡◌, Bool, true, false, not, ◌&&◌, List, [], ◌∷◌, ◌++◌, Option, Some, None, IsSome, MatchOption, refl, sym, ap, subst, ◌∙◌}
 use Rattle.swc_input.specs.Source.{Model, Laws, given_one}
 use Rattle.swc_input.specs.Buffer.{Still, Peeked, Future, current, held}
 use Rattle.swc_input.specs.Laws.{Read-same, Read-then, Future-before, Known-after}
+use Rattle.swc_input.specs.{declared.buffer.Buffer.Buffer, declared.token.Token.Token, declared.token.Token.Token as token, declared.token.TokenAndSpan.TokenAndSpan, Plain.plain, Plain.plain_token}
 use Rattle.swc_bodies.specs.Readings.{is_function, is_function_here}
-use Rattle.swc_grammar.specs.Clean.{first}
-use Rattle.swc_grammar.specs.Words.{rest}
+use Rattle.swc_grammar.specs.{Clean.first, Words.rest}
 use Rattle.swc_steps.specs.Parsing.{seen_of, Told}
 
 plain_function : (t : Token) → is_function (plain_token t) ≡ is_function t

@@ -2,29 +2,19 @@
 use Rattle.std.specs.Prelude.{◌≡◌, Bool, true, false, not, ◌||◌, if◌then◌else◌, List, [], ◌∷◌, Option, Some, None}
 use Rattle.std.proofs.Common.{refl, sym, ap, ◌∙◌}
 use Rattle.swc_context.specs.declared.span.Span.{Span}
-use Rattle.swc_input.specs.declared.token.Token.{Token}
-use Rattle.swc_input.specs.declared.token.Token.TheVariants as token
-use Rattle.swc_input.specs.declared.token.TokenAndSpan.{TokenAndSpan}
-use Rattle.swc_input.specs.Kinds.{at_token}
+use Rattle.swc_input.specs.{declared.token.Token.Token, declared.token.Token.Token as token, declared.token.TokenAndSpan.TokenAndSpan, Kinds.at_token}
 use Rattle.swc_ast.specs.Tree.{Tree, nil, span_of}
-use Rattle.swc_ast.specs.Trees.{listed, items_of, put_first, has_items, comma_ok, behind_comma, to, seq_of, held_exprs}
-use Rattle.swc_ast.specs.Trees.{paren_ok, paren_e}
+use Rattle.swc_ast.specs.Trees.{listed, items_of, put_first, has_items, comma_ok, behind_comma, to, seq_of, held_exprs, paren_ok, paren_e}
 use Rattle.swc_bodies.specs.Readings.{Hook}
-use Rattle.swc_grammar.specs.Scope.{Scope}
-use Rattle.swc_grammar.specs.Rule.{sees}
-use Rattle.swc_grammar.specs.Arrows.{is_arrow}
 use Rattle.swc_grammar.specs.Symbols.{Args, ArgsTail, Item}
 use Rattle.swc_grammar.specs.Tokens.{tk, with_in, is_rparen, import_comma_ok, is_lparen}
 use Rattle.swc_grammar.specs.Clean.{Out, and_then, first, sym as at, run, no_arrow}
-use Rattle.swc_grammar.specs.Words.{◌>>=◌}
-use Rattle.swc_grammar.proofs.Knot.{knot}
-use Rattle.swc_grammar.proofs.Only.{rparen-is}
-use Rattle.swc_steps.specs.Args.{args_inside, arg_item, last_by, last_comma, comma_behind, separated_args, paren_of}
-use Rattle.swc_steps.specs.Args.{paren_expr_tail, paren_closed, arrow_free}
+use Rattle.swc_grammar.specs.{Scope.Scope, Rule.sees, Arrows.is_arrow, Words.◌>>=◌, Grammar.paren-expr}
+use Rattle.swc_grammar.proofs.{Knot.knot, Only.rparen-is}
+use Rattle.swc_steps.specs.Args.{args_inside, arg_item, last_by, last_comma, comma_behind, separated_args, paren_of, paren_expr_tail, paren_closed, arrow_free}
 use Rattle.swc_steps.specs.Lists.{eaten, closed, separated, behind}
 use Rattle.swc_steps.specs.Readers.{reading, by_production_apart}
 use Rattle.swc_steps.proofs.Lists.{calls, bind_same, tail_left, list_from, item_more, IsList}
-use Rattle.swc_grammar.specs.Grammar.{paren-expr}
 
 pub neither : (a b : Bool) → (a || b) ≡ false → (a ≡ false) × (b ≡ false)
 neither true b h = absurd cc

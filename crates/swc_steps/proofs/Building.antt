@@ -2,16 +2,13 @@
 use Rattle.std.proofs.Common.{◌≡◌, ℕ, ◌≤◌, ◌∷◌, ◌++◌, List, Result, Ok, Err, IfOk, ap, subst, arith}
 use Rattle.std.specs.declared.alloc.AllocError.{AllocError}
 use Rattle.swc_context.specs.declared.error.Error.{Error}
-use Rattle.swc_ast.specs.Tree.{Tree}
-use Rattle.swc_ast.specs.declared.spanned.Spanned.{Ghosts}
+use Rattle.swc_ast.specs.{Tree.Tree, declared.spanned.Spanned.Ghosts}
 use Rattle.swc_nodes.specs.NodeParts.{Part, expr_part, one_expr}
 use Rattle.swc_nodes.specs.GrowingNodes.{count, seat_at, first_at, Apart, From, Grows, Made}
-use Rattle.swc_nodes.specs.declared.node.ExprId.{ExprId}
-use Rattle.swc_nodes.specs.declared.nodes.Nodes.{Nodes}
+use Rattle.swc_nodes.specs.{declared.node.ExprId.ExprId, declared.nodes.Nodes.Nodes}
 use Rattle.swc_nodes.proofs.Chains.{both_true, fitting, chain-cons, chain-down}
 use Rattle.swc_nodes.proofs.Held.{apart-from, from-down, from_self}
-use Rattle.swc_nodes.proofs.Lists.{apart-more}
-use Rattle.swc_nodes.proofs.Standing.{grows-none}
+use Rattle.swc_nodes.proofs.{Lists.apart-more, Standing.grows-none}
 use Rattle.swc_steps.specs.Parsing.{tree_of}
 
 module _ {F C K : Type 0} {fg : Ghosts F} {cg : Ghosts C} {kg : Ghosts K} where

@@ -1,18 +1,10 @@
 -- Faults that are recorded in the buffer: which, and in which order.
-use Rattle.std.proofs.Common.{◌≡◌, ◌<◌, ◌≤◌, Bool, true, false, not, List, [], ◌∷◌, ◌++◌, length, Option, Some, None}
-use Rattle.std.proofs.Common.{Result, Ok, Err, IsOk, IfErr, OnOk, refl, sym, ap, subst, ◌∙◌, arith, length-append}
-use Rattle.swc_context.specs.declared.error.Error.{Error}
-use Rattle.swc_context.specs.declared.span.BytePos.{BytePos}
+use Rattle.std.proofs.Common.{◌≡◌, ◌<◌, ◌≤◌, Bool, true, false, not, List, [], ◌∷◌, ◌++◌, length, Option, Some, None, Result, Ok, Err, IsOk, IfErr, OnOk, refl, sym, ap, subst, ◌∙◌, arith, length-append}
+use Rattle.swc_context.specs.{declared.error.Error.Error, declared.span.BytePos.BytePos}
 use Rattle.swc_input.specs.Buffer.{Lives, Read, ReadSome, current, last_position, state_of}
-use Rattle.swc_input.specs.Kinds.{at_token}
-use Rattle.swc_input.specs.Plain.{plain_token}
 use Rattle.swc_input.specs.Recording.{error_here, error_in, error_list, is_fit, is_silent, is_some, no_memory, Recorded}
-use Rattle.swc_input.specs.Recordings.{NotesAll, RecordsAll}
 use Rattle.swc_input.specs.Source.{Keeps, Laws, Model}
-use Rattle.swc_input.specs.declared.buffer.Buffer.{Buffer}
-use Rattle.swc_input.specs.declared.token.Token.{Token}
-use Rattle.swc_input.specs.declared.token.Token.TheVariants as token
-use Rattle.swc_input.specs.declared.token.TokenAndSpan.{TokenAndSpan}
+use Rattle.swc_input.specs.{Kinds.at_token, Plain.plain_token, Recordings.NotesAll, Recordings.RecordsAll, declared.buffer.Buffer.Buffer, declared.token.Token.Token, declared.token.Token.Token as token, declared.token.TokenAndSpan.TokenAndSpan}
 use Rattle.swc_grammar.specs.Clean.{no_error}
 use Rattle.swc_steps.specs.Parsing.{Checked, Forgoes, Leads, Loud, recorded, seen_of}
 use Rattle.swc_steps.proofs.Steps.{loud_after}

@@ -1,38 +1,21 @@
 -- Where what was read begins and ends: it holds nothing that was refused, so that its place says it.
-use Rattle.std.proofs.Common.{◌≡◌, ℕ, suc, Bool, true, false, ◌&&◌, if◌then◌else◌, List, [], ◌∷◌, ◌++◌, Option, Some}
-use Rattle.std.proofs.Common.{None, map, length, ◌≤◌, refl, sym, ap, subst, ◌∙◌, arith}
+use Rattle.std.proofs.Common.{◌≡◌, ℕ, suc, Bool, true, false, ◌&&◌, if◌then◌else◌, List, [], ◌∷◌, ◌++◌, Option, Some, None, map, length, ◌≤◌, refl, sym, ap, subst, ◌∙◌, arith}
 use Rattle.std.specs.Prelude.{slice_index_or}
-use Rattle.swc_context.specs.Spans.{from_to}
-use Rattle.swc_context.specs.declared.span.BytePos.{BytePos}
-use Rattle.swc_context.specs.declared.span.Span.{Span}
+use Rattle.swc_context.specs.{Spans.from_to, declared.span.BytePos.BytePos, declared.span.Span.Span}
 use Rattle.swc_input.specs.declared.token.TokenAndSpan.{TokenAndSpan}
-use Rattle.swc_ast.specs.Parts.{item_of, item_tree}
 use Rattle.swc_ast.specs.Tree.{Tree, node, Trees, trees, invalid, span_of}
-use Rattle.swc_ast.specs.Trees.{is_valid, are_valid, ends_in_invalid, begins_in_invalid, unary_e, update_e, bin_e}
-use Rattle.swc_ast.specs.Trees.{cond_e, to, last_place, seq_e, seq_of, paren_e, paren_ok}
-use Rattle.swc_ast.specs.declared.expr.ExprOrSpread.{ExprOrSpread}
-use Rattle.swc_ast.specs.declared.spanned.Spanned.{Ghosts}
+use Rattle.swc_ast.specs.Trees.{is_valid, are_valid, ends_in_invalid, begins_in_invalid, unary_e, update_e, bin_e, cond_e, to, last_place, seq_e, seq_of, paren_e, paren_ok}
+use Rattle.swc_ast.specs.{Parts.item_of, Parts.item_tree, declared.expr.ExprOrSpread.ExprOrSpread, declared.spanned.Spanned.Ghosts}
 use Rattle.swc_bodies.specs.Readings.{Hook, LawfulHook}
-use Rattle.swc_grammar.specs.Clean.{run, sym as at}
-use Rattle.swc_grammar.specs.Scope.{Scope}
-use Rattle.swc_grammar.specs.Symbols.{Symbol, Args}
-use Rattle.swc_grammar.specs.Tokens.{with_in}
-use Rattle.swc_grammar.proofs.Good.{valid}
-use Rattle.swc_grammar.proofs.Sound.{sound}
-use Rattle.swc_nodes.specs.Lists.{seq_between}
-use Rattle.swc_nodes.specs.NumberedTrees.{fits, chain}
+use Rattle.swc_grammar.specs.{Clean.run, Clean.sym as at, Scope.Scope, Symbols.Symbol, Symbols.Args, Tokens.with_in}
+use Rattle.swc_grammar.proofs.{Good.valid, Sound.sound}
 use Rattle.swc_nodes.specs.NodeParts.{Part, flat, one_expr, expr_part, args_parts}
 use Rattle.swc_nodes.specs.GrowingNodes.{count, seat_at, start_at, end_at, first_start, last_end, Apart, From, Grows}
-use Rattle.swc_nodes.specs.declared.node.ExprId.{ExprId}
-use Rattle.swc_nodes.specs.declared.nodes.Nodes.{Nodes}
-use Rattle.swc_nodes.proofs.Chains.{both_true, true_both}
+use Rattle.swc_nodes.specs.{Lists.seq_between, NumberedTrees.fits, NumberedTrees.chain, declared.node.ExprId.ExprId, declared.nodes.Nodes.Nodes}
 use Rattle.swc_nodes.proofs.Edges.{start-clean, end-clean, start-later}
-use Rattle.swc_nodes.proofs.Held.{from-apart, tree-later}
-use Rattle.swc_nodes.proofs.Sequences.{held-trees, held-parts}
-use Rattle.swc_steps.specs.Readers.{begun_if}
+use Rattle.swc_nodes.proofs.{Chains.both_true, Chains.true_both, Held.from-apart, Held.tree-later, Sequences.held-trees, Sequences.held-parts}
 use Rattle.swc_steps.specs.Args.{paren_of, paren_from, paren_closed, args_inside}
-use Rattle.swc_steps.specs.Parsing.{tree_of, args_at}
-use Rattle.swc_steps.specs.declared.tokens.Listed.{Listed}
+use Rattle.swc_steps.specs.{Readers.begun_if, Parsing.tree_of, Parsing.args_at, declared.tokens.Listed.Listed}
 use Rattle.swc_steps.proofs.Args.{inside_args}
 
 -- ---- a tree that holds nothing that was refused neither begins nor ends in such a place

@@ -1,46 +1,22 @@
 -- The clean parser's steps in keys and in the functions of methods, as the code goes them.
-use Rattle.std.specs.Prelude.{◌≡◌, Bool, true, false, ◌&&◌, ◌||◌, if◌then◌else◌, List, [], ◌∷◌, ◌++◌, Some, None, Result}
-use Rattle.std.specs.Prelude.{Ok, Err, IfOk}
+use Rattle.std.specs.Prelude.{◌≡◌, Bool, true, false, ◌&&◌, ◌||◌, if◌then◌else◌, List, [], ◌∷◌, ◌++◌, Some, None, Result, Ok, Err, IfOk}
 use Rattle.std.proofs.Common.{refl, sym, ap, ◌∙◌, arith}
-use Rattle.swc_context.specs.Contexts.{method_block}
-use Rattle.swc_context.specs.declared.error.Error.{Error}
-use Rattle.swc_context.specs.declared.span.Span.{Span}
-use Rattle.swc_input.specs.declared.buffer.Buffer.{Buffer}
-use Rattle.swc_input.specs.declared.token.Token.{Token}
-use Rattle.swc_input.specs.declared.token.Token.TheVariants as token
-use Rattle.swc_input.specs.declared.token.TokenAndSpan.{TokenAndSpan}
-use Rattle.swc_input.specs.Buffer.{context}
-use Rattle.swc_input.specs.Kinds.{at_token}
-use Rattle.swc_input.specs.Source.{Model}
-use Rattle.swc_ast.specs.Parts.{prop_name_tree}
-use Rattle.swc_ast.specs.Tree.{Tree}
-use Rattle.swc_ast.specs.declared.prop.PropName.TheVariants as prop_name
-use Rattle.swc_ast.specs.declared.prop.PropName.{PropName}
-use Rattle.swc_ast.specs.declared.spanned.Spanned.{Ghosts}
-use Rattle.swc_ast.specs.Trees.{to, computed_e}
+use Rattle.swc_context.specs.{Contexts.method_block, declared.error.Error.Error, declared.span.Span.Span}
+use Rattle.swc_input.specs.{declared.buffer.Buffer.Buffer, declared.token.Token.Token, declared.token.Token.Token as token, declared.token.TokenAndSpan.TokenAndSpan, Buffer.context, Kinds.at_token, Source.Model}
+use Rattle.swc_ast.specs.{Parts.prop_name_tree, Tree.Tree, declared.prop.PropName.PropName as prop_name, declared.prop.PropName.PropName, declared.spanned.Spanned.Ghosts, Trees.to, Trees.computed_e}
 use Rattle.swc_bodies.specs.Readings.{Hook, LawfulHook, begins, begins_function, is_function_here, is_function, is_async, is_brace, is_class}
-use Rattle.swc_grammar.specs.Scope.{Scope}
 use Rattle.swc_grammar.specs.Rule.{gives, take, check}
-use Rattle.swc_grammar.specs.Symbols.{Assign, Key}
 use Rattle.swc_grammar.specs.Tokens.{tk, with_in, is_word, is_lbracket, is_rbracket}
-use Rattle.swc_grammar.specs.Names.{may_name}
 use Rattle.swc_grammar.specs.Clean.{Out, and_then, first, no_error, sym as at, exec, run}
-use Rattle.swc_grammar.specs.Words.{◌>>=◌, word}
+use Rattle.swc_grammar.specs.{Scope.Scope, Symbols.Assign, Symbols.Key, Names.may_name, Words.◌>>=◌, Words.word}
 use Rattle.swc_grammar.proofs.Knot.{knot}
-use Rattle.swc_steps.specs.Keys.{expected_by, expected, is_key_lit, plain_key, key_close, computed_key, key_by}
+use Rattle.swc_steps.specs.Keys.{expected_by, expected, is_key_lit, plain_key, key_close, computed_key, key_by, named_key, literal_key, plain_key_tree, key_plain, method_body}
+use Rattle.swc_steps.specs.Parsing.{Parses, Produces, tree_of, key_of, key_at}
+use Rattle.swc_steps.specs.{Lists.eaten_by, Lists.eaten, declared.productions.Productions.Productions, Readers.inside}
 use Rattle.swc_steps.proofs.Making as m
 use Rattle.swc_steps.proofs.Steps as s
-use Rattle.swc_steps.specs.Keys.{named_key, literal_key, plain_key_tree, key_plain, method_body}
-use Rattle.swc_steps.specs.Lists.{eaten_by, eaten}
-use Rattle.swc_steps.specs.Parsing.{Parses, Produces, tree_of, key_of, key_at}
-use Rattle.swc_steps.specs.declared.productions.Productions.{Productions}
-use Rattle.swc_steps.specs.Readers.{inside}
-use Rattle.swc_nodes.specs.NodeParts.{key_parts}
-use Rattle.swc_nodes.specs.NumberedTrees.{chain}
-use Rattle.swc_nodes.specs.GrowingNodes.{count, seat_at}
-use Rattle.swc_nodes.specs.declared.node.ExprId.{ExprId}
-use Rattle.swc_nodes.proofs.Lists.{apart-none}
-use Rattle.swc_nodes.proofs.Standing.{grows-same}
+use Rattle.swc_nodes.specs.{NodeParts.key_parts, NumberedTrees.chain, GrowingNodes.count, GrowingNodes.seat_at, declared.node.ExprId.ExprId}
+use Rattle.swc_nodes.proofs.{Lists.apart-none, Standing.grows-same}
 
 -- what a call read, and what is run after it
 pub then_calls : {A B : Type 0} (o : Out A) (k f : A → List TokenAndSpan → Out B)

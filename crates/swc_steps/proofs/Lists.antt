@@ -2,27 +2,18 @@
 use Rattle.std.specs.Prelude.{◌≡◌, Bool, true, false, List, [], ◌∷◌, Option, Some, None}
 use Rattle.std.proofs.Common.{refl, sym, ap, ◌∙◌}
 use Rattle.swc_context.specs.declared.span.Span.{Span}
-use Rattle.swc_input.specs.declared.token.Token.{Token}
-use Rattle.swc_input.specs.declared.token.Token.TheVariants as token
-use Rattle.swc_input.specs.declared.token.TokenAndSpan.{TokenAndSpan}
-use Rattle.swc_input.specs.Kinds.{at_token}
+use Rattle.swc_input.specs.{declared.token.Token.Token, declared.token.Token.Token as token, declared.token.TokenAndSpan.TokenAndSpan, Kinds.at_token}
 use Rattle.swc_ast.specs.Tree.{Tree, Trees, nil, cons, span_of}
-use Rattle.swc_bodies.specs.Readings.{Hook}
-use Rattle.swc_grammar.specs.Scope.{Scope}
-use Rattle.swc_grammar.specs.Symbols.{Assign, Primary, Elements, ElementsTail, Item}
-use Rattle.swc_grammar.specs.Tokens.{tk, with_in, is_comma, is_dots, is_lbracket, is_rbracket}
-use Rattle.swc_grammar.specs.Grammar.{array-lit}
-use Rattle.swc_grammar.specs.Clean.{Out, and_then, first, sym as at, primary, run}
-use Rattle.swc_grammar.specs.Words.{◌>>=◌}
-use Rattle.swc_grammar.proofs.Knot.{knot}
-use Rattle.swc_grammar.proofs.Only.{lbracket-is, rbracket-is}
-use Rattle.swc_grammar.proofs.Rules.{run_picked}
-use Rattle.swc_steps.specs.Readers.{reading, by_production}
-use Rattle.swc_steps.specs.Lists.{eaten, eaten_by, closed, separated, separated_by, behind, put_before, with_comma}
-use Rattle.swc_steps.specs.Lists.{or_elided, elided_by, left_behind, left_from, left_by, elements_inside, array_lit_tail}
-use Rattle.swc_steps.specs.Lists.{element, element_item}
 use Rattle.swc_ast.specs.Parts.{item_of}
 use Rattle.swc_ast.specs.Trees.{to, array_e, listed, items_of, comma_of, put_first, trees_append}
+use Rattle.swc_bodies.specs.Readings.{Hook}
+use Rattle.swc_grammar.specs.Symbols.{Assign, Primary, Elements, ElementsTail, Item}
+use Rattle.swc_grammar.specs.Tokens.{tk, with_in, is_comma, is_dots, is_lbracket, is_rbracket}
+use Rattle.swc_grammar.specs.Clean.{Out, and_then, first, sym as at, primary, run}
+use Rattle.swc_grammar.specs.{Scope.Scope, Grammar.array-lit, Words.◌>>=◌}
+use Rattle.swc_grammar.proofs.{Knot.knot, Only.lbracket-is, Only.rbracket-is, Rules.run_picked}
+use Rattle.swc_steps.specs.Readers.{reading, by_production}
+use Rattle.swc_steps.specs.Lists.{eaten, eaten_by, closed, separated, separated_by, behind, put_before, with_comma, or_elided, elided_by, left_behind, left_from, left_by, elements_inside, array_lit_tail, element, element_item}
 use Rattle.swc_nodes.proofs.Lists.{trees_append-assoc, trees_append-nil}
 
 pub eaten_not : (f : Token → Bool) (x : Scope) (ts : List TokenAndSpan) → at_token f (first ts) ≡ false

@@ -1,13 +1,7 @@
 -- The loop in which a list is read, one turn after another.
-use Rattle.std.proofs.Common.{◌≡◌, ℕ, Bool, List, [], ◌∷◌, ◌++◌, Option, Some, None, MatchOption, map, refl, sym, ap}
-use Rattle.std.proofs.Common.{subst, ◌∙◌, arith}
-use Rattle.swc_context.specs.declared.error.Error.{Error}
-use Rattle.swc_context.specs.declared.span.BytePos.{BytePos}
-use Rattle.swc_context.specs.declared.span.Span.{Span}
-use Rattle.swc_input.specs.declared.buffer.Buffer.{Buffer}
-use Rattle.swc_input.specs.declared.token.Token.{Token}
-use Rattle.swc_input.specs.Source.{Model, Laws}
-use Rattle.swc_input.specs.Recording.{no_memory}
+use Rattle.std.proofs.Common.{◌≡◌, ℕ, Bool, List, [], ◌∷◌, ◌++◌, Option, Some, None, MatchOption, map, refl, sym, ap, subst, ◌∙◌, arith}
+use Rattle.swc_context.specs.{declared.error.Error.Error, declared.span.BytePos.BytePos, declared.span.Span.Span}
+use Rattle.swc_input.specs.{declared.buffer.Buffer.Buffer, declared.token.Token.Token, Source.Model, Source.Laws, Recording.no_memory}
 use Rattle.swc_ast.specs.Tree.{Tree, Trees, nil, cons, trees}
 use Rattle.swc_ast.specs.Trees.{hole_e, listed, trees_append}
 use Rattle.swc_ast.specs.declared.spanned.Spanned.{Ghosts}
@@ -16,14 +10,11 @@ use Rattle.swc_nodes.specs.NodeParts.{Part, flat}
 use Rattle.swc_nodes.specs.GrowingNodes.{count, tree_at, Apart, Grows}
 use Rattle.swc_nodes.proofs.Lists.{SameTrees, apart-none, apart-list-more, list-more}
 use Rattle.swc_nodes.proofs.Standing.{grows-same, grows-then}
-use Rattle.swc_steps.specs.declared.productions.Productions.{Productions}
 use Rattle.swc_steps.specs.Lists.{eaten, with_comma, or_elided, left_behind, left_from}
-use Rattle.swc_steps.specs.Loops.{ItemsRead}
 use Rattle.swc_steps.specs.Parsing.{On, Heard, Unheard}
+use Rattle.swc_steps.specs.{declared.productions.Productions.Productions, Loops.ItemsRead}
 use Rattle.swc_steps.proofs.Lists.{IsList, list_first, list_splits, with_comma_splits, elided_splits, left_splits}
-use Rattle.swc_steps.proofs.Steps.{Reader, give, on_here, on_then, on_to, on_call, on_within_call, heard_after, heard_call}
-use Rattle.swc_steps.proofs.Steps.{heard_more, unheard_after, unheard_call, unheard_memory, forgoes_later, forgoes_here}
-use Rattle.swc_steps.proofs.Steps.{leads_then, eats_none, eats_some}
+use Rattle.swc_steps.proofs.Steps.{Reader, give, on_here, on_then, on_to, on_call, on_within_call, heard_after, heard_call, heard_more, unheard_after, unheard_call, unheard_memory, forgoes_later, forgoes_here, leads_then, eats_none, eats_some}
 
 -- where a sign was looked for from b to c, and perhaps taken
 abbrev pub Looked : {S : Type 0} → Model S → Bool → (Token → Bool) → Buffer S → Option Span → Buffer S → Type 0

@@ -1,32 +1,18 @@
 -- Productions: what is read, and the nodes that were made.
-use Rattle.std.proofs.Common.{◌≡◌, ◌≢◌, ℕ, Bool, ◌≤◌, Some, Result, Ok, Err, IfOk, IfErr, IsErrAnd}
-use Rattle.std.proofs.Common.{List, ap, subst}
+use Rattle.std.proofs.Common.{◌≡◌, ◌≢◌, ℕ, Bool, ◌≤◌, Some, Result, Ok, Err, IfOk, IfErr, IsErrAnd, List, ap, subst}
 use Rattle.std.specs.declared.alloc.AllocError.{AllocError}
-use Rattle.swc_context.specs.declared.error.Error.{Error}
-use Rattle.swc_context.specs.declared.error.SyntaxError.{SyntaxError}
-use Rattle.swc_context.specs.declared.error.SyntaxError.TheVariants.{OutOfMemory}
-use Rattle.swc_context.specs.declared.span.BytePos.{BytePos}
-use Rattle.swc_input.specs.declared.buffer.Buffer.{Buffer}
-use Rattle.swc_input.specs.declared.token.TokenAndSpan.{TokenAndSpan}
-use Rattle.swc_input.specs.Source.{Model}
-use Rattle.swc_input.specs.Recording.{no_memory}
-use Rattle.swc_ast.specs.Tree.{Tree}
-use Rattle.swc_ast.specs.declared.spanned.Spanned.{Ghosts}
-use Rattle.swc_grammar.specs.Scope.{Scope}
-use Rattle.swc_grammar.specs.Clean.{Out}
-use Rattle.swc_grammar.specs.Words.{◌>>=◌}
-use Rattle.swc_nodes.specs.NodeParts.{expr_part}
+use Rattle.swc_context.specs.{declared.error.Error.Error, declared.error.SyntaxError.SyntaxError, declared.error.SyntaxError.TheVariants.OutOfMemory, declared.span.BytePos.BytePos}
+use Rattle.swc_input.specs.{declared.buffer.Buffer.Buffer, declared.token.TokenAndSpan.TokenAndSpan, Source.Model, Recording.no_memory}
+use Rattle.swc_ast.specs.{Tree.Tree, declared.spanned.Spanned.Ghosts}
+use Rattle.swc_grammar.specs.{Scope.Scope, Clean.Out, Words.◌>>=◌}
 use Rattle.swc_nodes.specs.GrowingNodes.{first_at, From, Grows, Made}
-use Rattle.swc_nodes.specs.declared.node.ExprId.{ExprId}
-use Rattle.swc_nodes.specs.declared.nodes.Nodes.{Nodes}
+use Rattle.swc_nodes.specs.{NodeParts.expr_part, declared.node.ExprId.ExprId, declared.nodes.Nodes.Nodes}
 use Rattle.swc_nodes.proofs.Held.{first_kept, from-down, tree-later}
 use Rattle.swc_nodes.proofs.Standing.{grows-then}
 use Rattle.swc_steps.specs.declared.productions.Productions.{Productions}
-use Rattle.swc_steps.specs.Parsing.{On, Heard, Unheard, Parses, Continues, Produces, GoesOn, Recovers, itself}
-use Rattle.swc_steps.specs.Parsing.{tree_of}
+use Rattle.swc_steps.specs.Parsing.{On, Heard, Unheard, Parses, Continues, Produces, GoesOn, Recovers, itself, tree_of}
 use Rattle.swc_steps.proofs.Building.{made_tree, made_from}
-use Rattle.swc_steps.proofs.Steps.{Reader, lower, less, node_parses, node_continues, parses_after, parses_call}
-use Rattle.swc_steps.proofs.Steps.{parses_call_read, continues_after, continues_of, give}
+use Rattle.swc_steps.proofs.Steps.{Reader, lower, less, node_parses, node_continues, parses_after, parses_call, parses_call_read, continues_after, continues_of, give}
 
 -- what an answer holds is weakened, and what is held of the answer that came
 pub if_held : {T : Type 0} {P Q : T → Type 0} → ((x : T) → P x → Q x) → (r : Result T Error) → IfOk r P → IfOk r Q

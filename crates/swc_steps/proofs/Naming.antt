@@ -1,44 +1,21 @@
 -- The calls on names: what they answer is what the clean readers of names read.
-use Rattle.std.proofs.Common.{IsSome, ◌≡◌, ◌≢◌, ◌≤◌, ◌<◌, ℕ, Bool, true, false, ◌||◌, not, ◌&&◌, if◌then◌else◌, List}
-use Rattle.std.proofs.Common.{[], ◌∷◌, ◌++◌, Option, Some, None, Result, Ok, Err, OnOk, length, refl, sym, ap, subst}
-use Rattle.std.proofs.Common.{◌∙◌, arith, length-append, codes}
-use Rattle.swc_context.specs.Reserved.{strict_names}
-use Rattle.swc_context.specs.Texts.{is_text, is_one_of}
-use Rattle.swc_context.specs.Words.{word_text}
-use Rattle.swc_context.specs.declared.context.Context.{Context}
-use Rattle.swc_context.specs.declared.error.Error.{Error}
-use Rattle.swc_context.specs.declared.error.SyntaxError.{SyntaxError}
+use Rattle.std.proofs.Common.{IsSome, ◌≡◌, ◌≢◌, ◌≤◌, ◌<◌, ℕ, Bool, true, false, ◌||◌, not, ◌&&◌, if◌then◌else◌, List, [], ◌∷◌, ◌++◌, Option, Some, None, Result, Ok, Err, OnOk, length, refl, sym, ap, subst, ◌∙◌, arith, length-append, codes}
+use Rattle.swc_context.specs.{Reserved.strict_names, Texts.is_text, Texts.is_one_of, Words.word_text, declared.context.Context.Context, declared.error.Error.Error, declared.error.SyntaxError.SyntaxError, declared.span.Span.Span, declared.word.Keyword.Keyword as keyword, declared.word.Word.Word, declared.word.Word.Word as written, Contexts.view as deciding}
 use Rattle.swc_context.specs.declared.error.SyntaxError.TheVariants as kind
-use Rattle.swc_context.specs.declared.span.Span.{Span}
-use Rattle.swc_context.specs.declared.word.Keyword.TheVariants as keyword
-use Rattle.swc_context.specs.declared.word.Word.{Word}
-use Rattle.swc_context.specs.declared.word.Word.TheVariants as written
-use Rattle.swc_input.specs.declared.buffer.Buffer.{Buffer}
-use Rattle.swc_input.specs.declared.token.Token.{Token}
-use Rattle.swc_input.specs.declared.token.Token.TheVariants as token
-use Rattle.swc_input.specs.declared.token.TokenAndSpan.{TokenAndSpan}
-use Rattle.swc_input.specs.Plain.{plain_token}
 use Rattle.swc_input.specs.Source.{Model, Laws, recorded_in}
 use Rattle.swc_input.specs.Buffer.{Read, Lives, Looked, current, source, to_come, context}
 use Rattle.swc_input.specs.Laws.{held_some, Looked-served, Read-same, Recorded-read}
 use Rattle.swc_input.specs.Recording.{is_fit, is_silent, error_list, error_here, Recorded, Refused}
-use Rattle.swc_input.specs.Kinds.{at_token}
-use Rattle.swc_grammar.specs.Scope.{Scope}
+use Rattle.swc_input.specs.{declared.buffer.Buffer.Buffer, declared.token.Token.Token, declared.token.Token.Token as token, declared.token.TokenAndSpan.TokenAndSpan, Plain.plain_token, Kinds.at_token}
 use Rattle.swc_grammar.specs.Names.{Spelling, spelling, spelled, may_refer}
-use Rattle.swc_grammar.specs.Tokens.{may_be_reference, ref_ok}
 use Rattle.swc_grammar.specs.Clean.{Out, first, no_error}
 use Rattle.swc_grammar.specs.Words.{rest, one, word_by, word}
-use Rattle.swc_ident.specs.Naming.{Judges, fault_at, place_here, Notes, none-noted, now-silent, now-recorded}
-use Rattle.swc_ident.specs.Naming.{later-ignored, later-noted, Passed, Spoken, Named, Unnamed, no_memory, not_fit}
-use Rattle.swc_ident.specs.Naming.{no_word, refused_word, Names}
-use Rattle.swc_ident.specs.Verdicts.{Fault, Verdict, now, in_modules, is_word, taken, taken_with, unless, name_of_any}
-use Rattle.swc_ident.specs.Verdicts.{ident_verdict, reference_verdict, binding_verdict, binding_faults, and_then}
+use Rattle.swc_grammar.specs.{Scope.Scope, Tokens.may_be_reference, Tokens.ref_ok}
+use Rattle.swc_ident.specs.Naming.{Judges, fault_at, place_here, Notes, none-noted, now-silent, now-recorded, later-ignored, later-noted, Passed, Spoken, Named, Unnamed, no_memory, not_fit, no_word, refused_word, Names}
+use Rattle.swc_ident.specs.Verdicts.{Fault, Verdict, now, in_modules, is_word, taken, taken_with, unless, name_of_any, ident_verdict, reference_verdict, binding_verdict, binding_faults, and_then}
 use Rattle.swc_steps.specs.Parsing.{seen, seen_of, scope, recorded, Leads, Here, On, Heard, Unheard, Parses}
-use Rattle.swc_steps.proofs.Steps.{Reader, here, read_scope, parses_after, on_took, leads_then, refuses_later}
-use Rattle.swc_steps.proofs.Steps.{refused, required, on_seen, on_then, heard_after, heard_first, unheard_after}
-use Rattle.swc_steps.proofs.Steps.{unheard_at, unheard_memory, unheard_unfit, lower, on_looked, looked_again}
+use Rattle.swc_steps.proofs.Steps.{Reader, here, read_scope, parses_after, on_took, leads_then, refuses_later, refused, required, on_seen, on_then, heard_after, heard_first, unheard_after, unheard_at, unheard_memory, unheard_unfit, lower, on_looked, looked_again}
 use Rattle.swc_steps.proofs.Words.{none_counts, is_taken, is_clean, reference-table}
-use Rattle.swc_context.specs.Contexts.{view as deciding}
 
 -- a call never refuses a word as the parser's own failure, and looks at no flag that decides nothing
 pub record Honest (judge : Judges) : Type 0 where

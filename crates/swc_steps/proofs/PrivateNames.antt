@@ -1,41 +1,22 @@
 -- Private names: what the call answers, and where it ends, is what the clean reader of a `#` and a name reads.
-use Rattle.std.proofs.Common.{◌≡◌, ◌≢◌, ℕ, Bool, true, false, if◌then◌else◌, List, [], Option, Some, None, refl, sym}
-use Rattle.std.proofs.Common.{ap, ◌∙◌}
+use Rattle.std.proofs.Common.{◌≡◌, ◌≢◌, ℕ, Bool, true, false, if◌then◌else◌, List, [], Option, Some, None, refl, sym, ap, ◌∙◌}
 use Rattle.std.proofs.lemmas.Bool.{eq-eqb, ne_eqb}
-use Rattle.swc_context.specs.Spans.{between}
-use Rattle.swc_context.specs.declared.error.Error.{Error}
-use Rattle.swc_context.specs.declared.error.SyntaxError.{SyntaxError}
+use Rattle.swc_context.specs.{Spans.between, declared.error.Error.Error, declared.error.SyntaxError.SyntaxError, declared.error.Wanted.Wanted, declared.span.BytePos.BytePos, declared.span.Span.Span}
 use Rattle.swc_context.specs.declared.error.SyntaxError.TheVariants as kind
-use Rattle.swc_context.specs.declared.error.Wanted.{Wanted}
-use Rattle.swc_context.specs.declared.span.BytePos.{BytePos}
-use Rattle.swc_context.specs.declared.span.Span.{Span}
 use Rattle.swc_context.proofs.Spans.{same_position}
-use Rattle.swc_input.specs.declared.buffer.Buffer.{Buffer}
-use Rattle.swc_input.specs.declared.token.Token.{Token}
+use Rattle.swc_input.specs.{declared.buffer.Buffer.Buffer, declared.token.Token.Token, declared.token.TokenAndSpan.TokenAndSpan, Plain.plain_token, Source.Model, Source.Laws, Buffer.current, Buffer.last_position, Recording.Refused, Recording.unfit, Kinds.at_token, Kinds.is_hash}
 use Rattle.swc_input.specs.declared.token.Token.TheVariants as token
-use Rattle.swc_input.specs.declared.token.TokenAndSpan.{TokenAndSpan}
-use Rattle.swc_input.specs.Plain.{plain_token}
-use Rattle.swc_input.specs.Source.{Model, Laws}
-use Rattle.swc_input.specs.Buffer.{current, last_position}
-use Rattle.swc_input.specs.Recording.{Refused, unfit}
-use Rattle.swc_input.proofs.Ends.{past_end}
-use Rattle.swc_input.proofs.Refusals.{unfit-kind}
-use Rattle.swc_input.specs.Kinds.{at_token, is_hash}
+use Rattle.swc_input.proofs.{Ends.past_end, Refusals.unfit-kind}
 use Rattle.swc_ast.specs.Trees.{to}
-use Rattle.swc_grammar.specs.Scope.{Scope}
 use Rattle.swc_grammar.specs.Names.{Spelling, spelling, may_name}
-use Rattle.swc_grammar.specs.Clean.{Out, first}
 use Rattle.swc_grammar.specs.Words.{◌>>=◌, rest, begins_at, word}
-use Rattle.swc_ident.specs.Naming.{fault_at, Hashed, Private, Unprivate, no_memory_either, no_hash, apart, no_name}
-use Rattle.swc_ident.specs.Naming.{expects, Named, Notes, none-noted}
+use Rattle.swc_grammar.specs.{Scope.Scope, Clean.Out, Clean.first}
+use Rattle.swc_ident.specs.Naming.{fault_at, Hashed, Private, Unprivate, no_memory_either, no_hash, apart, no_name, expects, Named, Notes, none-noted}
 use Rattle.swc_ident.specs.Verdicts.{name_of_any}
 use Rattle.swc_steps.specs.Args.{hash_by, hash_name}
 use Rattle.swc_steps.specs.Parsing.{seen, seen_of, Refuses, Here, On, Heard, Unheard}
-use Rattle.swc_steps.proofs.Steps.{Reader, refused, here_refused, on_seen, on_took, on_then, on_call, last_was, heard_after}
-use Rattle.swc_steps.proofs.Steps.{heard_first, heard_answer, unheard_after, unheard_at, unheard_looked}
-use Rattle.swc_steps.proofs.Steps.{unheard_memory, on_looked}
-use Rattle.swc_steps.proofs.Naming.{goes, stops, here_at, honest-name, heard_name, refused_here, unheard_name}
-use Rattle.swc_steps.proofs.Naming.{was_there}
+use Rattle.swc_steps.proofs.Steps.{Reader, refused, here_refused, on_seen, on_took, on_then, on_call, last_was, heard_after, heard_first, heard_answer, unheard_after, unheard_at, unheard_looked, unheard_memory, on_looked}
+use Rattle.swc_steps.proofs.Naming.{goes, stops, here_at, honest-name, heard_name, refused_here, unheard_name, was_there}
 
 -- a name, after the `#` at s
 abbrev named : Span → Spelling × List TokenAndSpan → Out (Spelling × BytePos)

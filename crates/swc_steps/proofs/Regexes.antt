@@ -1,38 +1,21 @@
 -- Regular expressions: the hints to a lexer, and what is read, a step at a time.
-use Rattle.std.specs.Prelude.{nat_eq, if◌then◌else◌}
-use Rattle.std.specs.List.{list_any}
-use Rattle.std.proofs.Common.{◌≡◌, ℕ, Bool, true, false, ◌&&◌, List, [], ◌∷◌, Option, Some, None, MatchOption, length}
-use Rattle.std.proofs.Common.{refl, sym, ap, ◌∙◌, arith}
-use Rattle.swc_context.specs.declared.span.BytePos.{BytePos}
-use Rattle.swc_context.specs.declared.span.Span.{Span}
-use Rattle.swc_input.specs.declared.buffer.Buffer.{Buffer}
-use Rattle.swc_input.specs.declared.token.Token.{Token}
-use Rattle.swc_input.specs.declared.token.Token.TheVariants as token
-use Rattle.swc_input.specs.declared.token.TokenAndSpan.{TokenAndSpan}
-use Rattle.swc_input.specs.Plain.{plain}
-use Rattle.swc_input.specs.Kinds.{at_token}
+use Rattle.std.specs.{Prelude.nat_eq, Prelude.if◌then◌else◌, List.list_any}
+use Rattle.std.proofs.Common.{◌≡◌, ℕ, Bool, true, false, ◌&&◌, List, [], ◌∷◌, Option, Some, None, MatchOption, length, refl, sym, ap, ◌∙◌, arith}
+use Rattle.swc_context.specs.{declared.span.BytePos.BytePos, declared.span.Span.Span, declared.operator.AssignOp.AssignOp as assign, declared.operator.BinOpToken.BinOpToken as sign}
 use Rattle.swc_input.specs.Source.{Model, Laws, Hinted}
 use Rattle.swc_input.specs.Buffer.{Took, Still, Lives, Bumped, current, source, held, with_source}
-use Rattle.swc_input.specs.Laws.{Took-then, keeps_same}
-use Rattle.swc_ast.specs.declared.lit.Lit.TheVariants as lit
-use Rattle.swc_ast.specs.declared.lit.Regex.{Regex}
-use Rattle.swc_ast.specs.Parts.{lit_tree}
-use Rattle.swc_ast.specs.Tree.{Tree, span_of}
+use Rattle.swc_input.specs.{declared.buffer.Buffer.Buffer, declared.token.Token.Token, declared.token.Token.Token as token, declared.token.TokenAndSpan.TokenAndSpan, Plain.plain, Kinds.at_token, Laws.Took-then, Laws.keeps_same}
 use Rattle.swc_ast.specs.Trees.{to, at_place, regex_e}
-use Rattle.swc_context.specs.declared.operator.AssignOp.TheVariants as assign
-use Rattle.swc_context.specs.declared.operator.BinOpToken.TheVariants as sign
+use Rattle.swc_ast.specs.{declared.lit.Lit.Lit as lit, declared.lit.Regex.Regex, Parts.lit_tree, Tree.Tree, Tree.span_of}
 use Rattle.swc_bodies.specs.Readings.{Hook}
-use Rattle.swc_grammar.specs.Scope.{Scope}
 use Rattle.swc_grammar.specs.Rule.{gives, given, one as one_of, ◌>>=◌ as ◌▸◌}
-use Rattle.swc_grammar.specs.Symbols.{Primary}
 use Rattle.swc_grammar.specs.Parts.{regex_of, is_flag, repeated, flags_ok}
 use Rattle.swc_grammar.specs.Tokens.{tk, is_slash, is_regex, begins_regex}
 use Rattle.swc_grammar.specs.Clean.{first, sym as at, plan, exec, run}
+use Rattle.swc_grammar.specs.{Scope.Scope, Symbols.Primary, Words.◌>>=◌, Words.one}
 use Rattle.swc_grammar.proofs.Knot.{knot}
-use Rattle.swc_grammar.specs.Words.{◌>>=◌, one}
 use Rattle.swc_steps.specs.Parsing.{scope, On}
-use Rattle.swc_steps.specs.Regexes.{regex_in, regex_alone, regex_tail, from_slash, regex_text, regex_made, regex_expr}
-use Rattle.swc_steps.specs.Regexes.{SkipsSlash}
+use Rattle.swc_steps.specs.Regexes.{regex_in, regex_alone, regex_tail, from_slash, regex_text, regex_made, regex_expr, SkipsSlash}
 use Rattle.swc_steps.proofs.Steps.{read_scope, Reader}
 
 -- ---- hints

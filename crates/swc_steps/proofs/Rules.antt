@@ -1,59 +1,30 @@
 -- What the clean parser reads, a step at a time, as the code goes it.
-use Rattle.std.proofs.Common.{◌≡◌, ℕ, suc, ◌≤◌, ◌<◌, Bool, true, false, not, codes, ◌||◌, ◌&&◌, if◌then◌else◌, List}
-use Rattle.std.proofs.Common.{[], ◌∷◌, Option, Some, None, refl, sym, ap, ◌∙◌, arith}
-use Rattle.std.specs.Prelude.{nat_le, nat_lt}
+use Rattle.std.proofs.Common.{◌≡◌, ℕ, suc, ◌≤◌, ◌<◌, Bool, true, false, not, codes, ◌||◌, ◌&&◌, if◌then◌else◌, List, [], ◌∷◌, Option, Some, None, refl, sym, ap, ◌∙◌, arith}
 use Rattle.std.proofs.lemmas.Bool.{le-leb, lt-leb}
-use Rattle.swc_context.specs.Operators.{precedence_of}
-use Rattle.swc_context.specs.Texts.{is_text}
-use Rattle.swc_context.specs.declared.atom.Atom.{Atom}
-use Rattle.swc_context.specs.Words.{word_text}
-use Rattle.swc_context.specs.declared.context.Context.{Context}
-use Rattle.swc_context.specs.declared.operator.BinaryOp.{BinaryOp}
-use Rattle.swc_context.specs.declared.operator.UnaryOp.{UnaryOp}
-use Rattle.swc_context.specs.declared.span.BytePos.{BytePos}
-use Rattle.swc_context.specs.declared.span.Span.{Span}
-use Rattle.swc_context.specs.declared.word.Keyword.TheVariants as keyword
-use Rattle.swc_context.specs.declared.word.Word.{Word}
-use Rattle.swc_context.specs.declared.word.Word.TheVariants as written
-use Rattle.swc_input.specs.declared.token.Token.{Token}
-use Rattle.swc_input.specs.declared.token.Token.TheVariants as token
-use Rattle.swc_input.specs.declared.token.TokenAndSpan.{TokenAndSpan}
-use Rattle.swc_input.specs.Plain.{plain}
-use Rattle.swc_input.specs.Kinds.{at_token, is_hash}
+use Rattle.std.specs.Prelude.{nat_le, nat_lt}
+use Rattle.swc_context.specs.{Operators.precedence_of, Texts.is_text, declared.atom.Atom.Atom, Words.word_text, declared.context.Context.Context, declared.operator.BinaryOp.BinaryOp, declared.operator.UnaryOp.UnaryOp, declared.span.BytePos.BytePos, declared.span.Span.Span, declared.word.Keyword.Keyword as keyword, declared.word.Word.Word, declared.word.Word.Word as written}
+use Rattle.swc_input.specs.{declared.token.Token.Token, declared.token.Token.Token as token, declared.token.TokenAndSpan.TokenAndSpan, Plain.plain, Kinds.at_token, Kinds.is_hash}
 use Rattle.swc_ast.specs.Tree.{Tree, span_of}
-use Rattle.swc_ast.specs.Trees.{to, ident_e, this_e, fn_e, class_e, private_e, unary_e, bin_e, is_logical}
-use Rattle.swc_ast.specs.Trees.{is_nullish_op, nullish_ok, exp_ok, delete_ok, min_right, left_ok}
+use Rattle.swc_ast.specs.Trees.{to, ident_e, this_e, fn_e, class_e, private_e, unary_e, bin_e, is_logical, is_nullish_op, nullish_ok, exp_ok, delete_ok, min_right, left_ok}
 use Rattle.swc_grammar.specs.Scope.{Scope, inner}
 use Rattle.swc_grammar.specs.Rule.{gives, take, check, peek, peek_two, read, given, sees, sees_two, ◌>>=◌ as ◌▸◌}
 use Rattle.swc_grammar.specs.Arrows.{async_name, goes_on_async, of_arrow}
-use Rattle.swc_bodies.specs.Readings.{Hook, LawfulHook, begins, begins_function, is_class, is_function, is_async}
-use Rattle.swc_bodies.specs.Readings.{is_brace, is_function_here}
 use Rattle.swc_grammar.specs.Symbols.{Assign, Level, Unary, Primary, Literal, Template, Side, function, class}
-use Rattle.swc_grammar.specs.Tokens.{is_backquote, is_slash, is_regex, begins_regex, with_in, is_reference}
-use Rattle.swc_grammar.specs.Tokens.{is_strict_word, ref_ok, is_put_off, prefix_of, is_lparen, is_this, is_lbracket}
-use Rattle.swc_grammar.specs.Tokens.{is_update, is_await, tk, is_in}
+use Rattle.swc_grammar.specs.Tokens.{is_backquote, is_slash, is_regex, begins_regex, with_in, is_reference, is_strict_word, ref_ok, is_put_off, prefix_of, is_lparen, is_this, is_lbracket, is_update, is_await, tk, is_in}
 use Rattle.swc_grammar.specs.Names.{Spelling, spelling, may_refer, may_name, spelled, is_joined}
 use Rattle.swc_grammar.specs.Parts.{reference, any_name, lit_of, with_place, prefix_here, private_ok}
-use Rattle.swc_grammar.specs.Grammar.{ident-expr, this-expr, primary-literal, fn-expr, class-expr, paren-expr}
-use Rattle.swc_grammar.specs.Grammar.{unary-op, private-expr, primary-template, async-ident}
-use Rattle.swc_grammar.specs.Clean.{Out, and_then, hear_then, first, sym as at, climb, plan, exec, is_lit}
-use Rattle.swc_grammar.specs.Clean.{is_identifier, no_error, operator_at, prefix_at, pick, chosen, step, begins_private, links, updates, Plan, private_operand as private_plan}
-use Rattle.swc_grammar.specs.Clean.{primary, bin_op as bin_op_plan, turn as turn_plan, turned as turned_plan, run}
+use Rattle.swc_grammar.specs.Grammar.{ident-expr, this-expr, primary-literal, fn-expr, class-expr, paren-expr, unary-op, private-expr, primary-template, async-ident}
+use Rattle.swc_grammar.specs.Clean.{Out, and_then, hear_then, first, sym as at, climb, plan, exec, is_lit, is_identifier, no_error, operator_at, prefix_at, pick, chosen, step, begins_private, links, updates, Plan, private_operand as private_plan, primary, bin_op as bin_op_plan, turn as turn_plan, turned as turned_plan, run}
 use Rattle.swc_grammar.specs.Words.{◌>>=◌, rest, one, word}
-use Rattle.swc_grammar.proofs.Answers.{both}
+use Rattle.swc_bodies.specs.Readings.{Hook, LawfulHook, begins, begins_function, is_class, is_function, is_async, is_brace, is_function_here}
 use Rattle.swc_grammar.proofs.Bodies.{hears, hears-place, hears-run}
 use Rattle.swc_grammar.proofs.Complete.{last, lit-picks, fn-picks, class-picks, private-refused}
-use Rattle.swc_grammar.proofs.Knot.{knot}
-use Rattle.swc_grammar.proofs.Levels.{right-low}
 use Rattle.swc_grammar.proofs.Only.{backquote-is, hash-is, lparen-is, this-is}
-use Rattle.swc_grammar.proofs.Rules.{exec-bind, run_picked}
-use Rattle.swc_steps.proofs.Lists.{calls}
+use Rattle.swc_grammar.proofs.{Answers.both, Knot.knot, Levels.right-low, Rules.exec-bind, Rules.run_picked}
+use Rattle.swc_steps.proofs.{Lists.calls, Steps.Inner.inner_is}
 use Rattle.swc_steps.specs.Args.{hash_by, hash_name}
-use Rattle.swc_steps.proofs.Steps.Inner.{inner_is}
 use Rattle.swc_steps.specs.Parsing.{is_strict, is_strict_in, begins_async, seen_of}
-use Rattle.swc_steps.specs.Readers.{reading, by_production, by_production_apart, named_expr, inside}
-use Rattle.swc_steps.specs.Readers.{private_expr_tail, unary_op_tail, unary_op_node}
-use Rattle.swc_steps.specs.Readers.{unary_op, turn, bin_op, bin_op_node, turned, go_on, operand, private_operand, before_in, behind_operand, is_private_here}
+use Rattle.swc_steps.specs.Readers.{reading, by_production, by_production_apart, named_expr, inside, private_expr_tail, unary_op_tail, unary_op_node, unary_op, turn, bin_op, bin_op_node, turned, go_on, operand, private_operand, before_in, behind_operand, is_private_here}
 
 error_no : (t : Token) → no_error t ≡ false → is_lit t ≡ false
 error_no (token.Error e) h = refl

@@ -1,15 +1,7 @@
 -- Tests of signs.
 use Rattle.std.proofs.Common.{◌≡◌, Bool, true, Option, Some, None, refl, sym, ap, ◌∙◌}
-use Rattle.swc_input.specs.declared.token.Token.{Token}
-use Rattle.swc_input.specs.declared.token.Token.TheVariants as token
-use Rattle.swc_input.specs.declared.token.TokenAndSpan.{TokenAndSpan}
-use Rattle.swc_input.specs.Buffer.{token_of}
-use Rattle.swc_input.specs.Kinds.{at_token}
-use Rattle.swc_input.specs.Plain.{plain_token}
-use Rattle.swc_steps.specs.declared.tokens.Sign.{Sign}
-use Rattle.swc_steps.specs.declared.tokens.Sign.TheVariants as sign
-use Rattle.swc_steps.specs.Lists.{is_sign_token}
-use Rattle.swc_steps.specs.Parsing.{seen_of}
+use Rattle.swc_input.specs.{declared.token.Token.Token, declared.token.Token.Token as token, declared.token.TokenAndSpan.TokenAndSpan, Buffer.token_of, Kinds.at_token, Plain.plain_token}
+use Rattle.swc_steps.specs.{declared.tokens.Sign.Sign, declared.tokens.Sign.Sign as sign, Lists.is_sign_token, Parsing.seen_of}
 
 -- where the boxes of an error lie doesn't count
 plain_sign : (s : Sign) (t : Token) → is_sign_token s (plain_token t) ≡ is_sign_token s t

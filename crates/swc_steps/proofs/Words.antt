@@ -1,20 +1,10 @@
 -- The words that a call on names takes with no fault that counts are those that the grammar takes.
-use Rattle.std.proofs.Common.{◌≡◌, ℕ, Bool, true, false, not, ◌&&◌, ◌||◌, if◌then◌else◌, codes, List, [], ◌∷◌, ◌++◌}
-use Rattle.std.proofs.Common.{Option, Some, None, refl, sym, ap, ◌∙◌}
+use Rattle.std.proofs.Common.{◌≡◌, ℕ, Bool, true, false, not, ◌&&◌, ◌||◌, if◌then◌else◌, codes, List, [], ◌∷◌, ◌++◌, Option, Some, None, refl, sym, ap, ◌∙◌}
 use Rattle.std.specs.Cmp.Lexicographic.{same_text}
 use Rattle.swc_context.specs.Reserved.{strict_reserved, strict_binding_words, strict_names}
-use Rattle.swc_context.specs.Texts.{is_text, is_one_of}
-use Rattle.swc_context.specs.Words.{word_text}
-use Rattle.swc_context.specs.declared.context.Context.{Context}
-use Rattle.swc_context.specs.declared.error.SyntaxError.{SyntaxError}
-use Rattle.swc_context.specs.declared.error.SyntaxError.TheVariants as kind
-use Rattle.swc_context.specs.declared.word.Keyword.TheVariants as keyword
-use Rattle.swc_context.specs.declared.word.Word.{Word}
-use Rattle.swc_context.specs.declared.word.Word.TheVariants as word
-use Rattle.swc_grammar.specs.Names.{may_bind}
-use Rattle.swc_grammar.specs.Tokens.{is_reference, ref_ok}
-use Rattle.swc_ident.specs.Verdicts.{Fault, now, in_modules, Verdict, taken, taken_with, unless, ident_verdict}
-use Rattle.swc_ident.specs.Verdicts.{reference_verdict, binding_verdict, binding_faults}
+use Rattle.swc_context.specs.{Texts.is_text, Texts.is_one_of, Words.word_text, declared.context.Context.Context, declared.error.SyntaxError.SyntaxError, declared.error.SyntaxError.SyntaxError as kind, declared.word.Keyword.Keyword as keyword, declared.word.Word.Word, declared.word.Word.Word as word}
+use Rattle.swc_grammar.specs.{Names.may_bind, Tokens.is_reference, Tokens.ref_ok}
+use Rattle.swc_ident.specs.Verdicts.{Fault, now, in_modules, Verdict, taken, taken_with, unless, ident_verdict, reference_verdict, binding_verdict, binding_faults}
 
 -- whether a fault counts, as it is recorded: one of modules waits elsewhere
 abbrev pub counts : Bool → Fault → Bool

@@ -1,19 +1,15 @@
 -- What the steps of the code read in arguments (13.3.8) and in parentheses (13.2.9), by the clean parser.
 use Rattle.std.specs.Prelude.{Bool, true, false, not, ◌&&◌, if◌then◌else◌, List, Option, Some, None}
-use Rattle.swc_context.specs.declared.span.BytePos.{BytePos}
-use Rattle.swc_context.specs.declared.span.Span.{Span}
-use Rattle.swc_input.specs.declared.token.TokenAndSpan.{TokenAndSpan}
-use Rattle.swc_input.specs.Kinds.{at_token, is_hash}
+use Rattle.swc_context.specs.{declared.span.BytePos.BytePos, declared.span.Span.Span}
+use Rattle.swc_input.specs.{declared.token.TokenAndSpan.TokenAndSpan, Kinds.at_token, Kinds.is_hash}
 use Rattle.swc_ast.specs.Tree.{Tree, span_of}
 use Rattle.swc_ast.specs.Trees.{to, items_of, seq_of, held_exprs, paren_ok, paren_e}
 use Rattle.swc_bodies.specs.Readings.{Hook}
-use Rattle.swc_grammar.specs.Parts.{import_args_ok}
-use Rattle.swc_grammar.specs.Scope.{Scope}
-use Rattle.swc_grammar.specs.Symbols.{Args, Item}
 use Rattle.swc_grammar.specs.Tokens.{with_in, is_rparen, import_comma_ok}
 use Rattle.swc_grammar.specs.Clean.{Out, first, sym, run, no_arrow}
 use Rattle.swc_grammar.specs.Names.{Spelling, spelling, may_name}
 use Rattle.swc_grammar.specs.Words.{◌>>=◌, rest, begins_at, word}
+use Rattle.swc_grammar.specs.{Parts.import_args_ok, Scope.Scope, Symbols.Args, Symbols.Item}
 use Rattle.swc_steps.specs.Lists.{separated, with_comma}
 use Rattle.swc_nodes.specs.Lists.{seq_between}
 

@@ -1,25 +1,15 @@
 -- What the steps of the code read in keys and in the functions of methods, by the clean parser.
 use Rattle.std.specs.Prelude.{Bool, true, false, List, Option, Some, None}
-use Rattle.swc_context.specs.Contexts.{method_block}
-use Rattle.swc_context.specs.declared.span.Span.{Span}
-use Rattle.swc_input.specs.declared.token.Token.{Token}
-use Rattle.swc_input.specs.declared.token.Token.TheVariants as token
-use Rattle.swc_input.specs.declared.token.TokenAndSpan.{TokenAndSpan}
-use Rattle.swc_input.specs.Kinds.{at_token}
-use Rattle.swc_ast.specs.Parts.{prop_name_tree}
-use Rattle.swc_ast.specs.Tree.{Tree}
-use Rattle.swc_ast.specs.declared.prop.PropName.TheVariants as prop_name
+use Rattle.swc_context.specs.{Contexts.method_block, declared.span.Span.Span}
+use Rattle.swc_input.specs.{declared.token.Token.Token, declared.token.Token.Token as token, declared.token.TokenAndSpan.TokenAndSpan, Kinds.at_token}
 use Rattle.swc_ast.specs.Trees.{to, computed_e, hole_e}
-use Rattle.swc_ast.specs.declared.prop.PropName.{PropName}
+use Rattle.swc_ast.specs.{Parts.prop_name_tree, Tree.Tree, declared.prop.PropName.PropName as prop_name, declared.prop.PropName.PropName}
 use Rattle.swc_nodes.specs.declared.node.ExprId.{ExprId}
 use Rattle.swc_bodies.specs.Readings.{Hook}
-use Rattle.swc_grammar.specs.Scope.{Scope}
 use Rattle.swc_grammar.specs.Tokens.{is_word, is_rparen, is_rbracket}
-use Rattle.swc_grammar.specs.Names.{Spelling, may_name}
-use Rattle.swc_grammar.specs.Clean.{Out, first}
 use Rattle.swc_grammar.specs.Words.{◌>>=◌, rest, one, word}
-use Rattle.swc_steps.specs.Lists.{eaten}
-use Rattle.swc_steps.specs.Readers.{inside}
+use Rattle.swc_grammar.specs.{Scope.Scope, Names.Spelling, Names.may_name, Clean.Out, Clean.first}
+use Rattle.swc_steps.specs.{Lists.eaten, Readers.inside}
 
 -- a token that passes a test, which has to come first, by its place
 abbrev pub expected_by : Option Span → List TokenAndSpan → Out Span

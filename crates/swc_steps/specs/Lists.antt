@@ -1,26 +1,14 @@
 -- What the steps of the code read in lists, by the clean parser.
 use Rattle.std.specs.Prelude.{ℕ, Bool, true, false, if◌then◌else◌, List, ◌∷◌, Option, Some, None}
-use Rattle.swc_context.specs.declared.span.Span.{Span}
-use Rattle.swc_context.specs.declared.word.Word.TheVariants as word
-use Rattle.swc_context.specs.Texts.{is_text}
-use Rattle.swc_input.specs.declared.token.Token.{Token}
-use Rattle.swc_input.specs.declared.token.Token.TheVariants as token
-use Rattle.swc_input.specs.declared.token.TokenAndSpan.{TokenAndSpan}
-use Rattle.swc_input.specs.Kinds.{at_token, is_hash}
+use Rattle.swc_context.specs.{declared.span.Span.Span, declared.word.Word.Word as word, Texts.is_text}
+use Rattle.swc_input.specs.{declared.token.Token.Token, declared.token.Token.Token as token, declared.token.TokenAndSpan.TokenAndSpan, Kinds.at_token, Kinds.is_hash}
 use Rattle.swc_ast.specs.Tree.{Tree, Trees, nil, cons, span_of}
 use Rattle.swc_ast.specs.Trees.{to, array_e, hole_e, listed, items_of, comma_of, behind_comma, trees_append}
 use Rattle.swc_bodies.specs.Readings.{Hook, is_async, is_function, is_class, is_brace}
-use Rattle.swc_grammar.specs.Scope.{Scope}
-use Rattle.swc_grammar.specs.Arrows.{is_arrow}
-use Rattle.swc_grammar.specs.Symbols.{Elements, Item}
-use Rattle.swc_grammar.specs.Tokens.{is_dot, is_target, is_super, is_import, is_meta, is_source, with_in, is_comma}
-use Rattle.swc_grammar.specs.Tokens.{is_dots, is_lparen, is_rparen, is_lbracket, is_rbracket, is_rbrace, is_equals}
-use Rattle.swc_grammar.specs.Tokens.{is_colon, is_star, is_get, is_set, is_question, is_backquote, is_dollar_brace}
-use Rattle.swc_grammar.specs.Tokens.{is_new}
+use Rattle.swc_grammar.specs.Tokens.{is_dot, is_target, is_super, is_import, is_meta, is_source, with_in, is_comma, is_dots, is_lparen, is_rparen, is_lbracket, is_rbracket, is_rbrace, is_equals, is_colon, is_star, is_get, is_set, is_question, is_backquote, is_dollar_brace, is_new}
 use Rattle.swc_grammar.specs.Clean.{Out, first, sym, run}
-use Rattle.swc_grammar.specs.Words.{◌>>=◌}
-use Rattle.swc_steps.specs.declared.tokens.Sign.{Sign}
-use Rattle.swc_steps.specs.declared.tokens.Sign.TheVariants as sign
+use Rattle.swc_grammar.specs.{Scope.Scope, Arrows.is_arrow, Symbols.Elements, Symbols.Item, Words.◌>>=◌}
+use Rattle.swc_steps.specs.declared.tokens.Sign.{Sign, Sign as sign}
 
 -- the word, which is no keyword
 abbrev pub is_named : List ℕ → Token → Bool

@@ -1,18 +1,12 @@
 -- The loop in which a list is read.
 use Rattle.std.specs.Prelude.{◌≤◌, Bool, List, Option}
 use Rattle.swc_context.specs.declared.span.Span.{Span}
-use Rattle.swc_input.specs.declared.token.TokenAndSpan.{TokenAndSpan}
-use Rattle.swc_input.specs.Source.{Model}
-use Rattle.swc_input.specs.Buffer.{to_come}
-use Rattle.swc_ast.specs.Tree.{Tree, Trees}
-use Rattle.swc_ast.specs.declared.spanned.Spanned.{Ghosts}
-use Rattle.swc_grammar.specs.Scope.{Scope}
-use Rattle.swc_grammar.specs.Clean.{Out}
+use Rattle.swc_input.specs.{declared.token.TokenAndSpan.TokenAndSpan, Source.Model, Buffer.to_come}
+use Rattle.swc_ast.specs.{Tree.Tree, Tree.Trees, declared.spanned.Spanned.Ghosts}
+use Rattle.swc_grammar.specs.{Scope.Scope, Clean.Out}
 use Rattle.swc_nodes.specs.NodeParts.{Part}
 use Rattle.swc_nodes.specs.GrowingNodes.{count, Apart, Grows}
-use Rattle.swc_steps.specs.declared.productions.Productions.{Productions}
-use Rattle.swc_steps.specs.Lists.{left_behind}
-use Rattle.swc_steps.specs.Parsing.{On}
+use Rattle.swc_steps.specs.{declared.productions.Productions.Productions, Lists.left_behind, Parsing.On}
 
 -- From p to q: of a list that `all` reads, items were read, and the comma after the last of them. Their parts lie apart
 -- among nodes that were appended, and what is left is read at q.

@@ -1,59 +1,19 @@
 -- What parsing calls do to the buffer, and which clean reading each answers.
-use Rattle.std.specs.Prelude.{◌≡◌, ◌≢◌, ℕ, ◌≤◌, ◌<◌, Bool, true, false, List, [], ◌∷◌, ◌++◌, Option, Some, None}
-use Rattle.std.specs.Prelude.{Result, MatchResult, MatchOption, OnOk, IfOk, IfErr, length, ◌&&◌}
-use Rattle.swc_context.specs.declared.context.Context.{Context}
-use Rattle.swc_context.specs.declared.context.Syntax.{Syntax}
-use Rattle.swc_context.specs.declared.error.Error.{Error}
-use Rattle.swc_context.specs.declared.error.SyntaxError.{SyntaxError}
-use Rattle.swc_context.specs.declared.error.SyntaxError.TheVariants.{OutOfMemory, ParserFailed}
-use Rattle.swc_context.specs.declared.operator.BinaryOp.{BinaryOp}
-use Rattle.swc_context.specs.declared.span.BytePos.{BytePos}
-use Rattle.swc_context.specs.declared.span.Span.{Span}
-use Rattle.swc_context.specs.declared.word.Keyword.TheVariants as keyword
-use Rattle.swc_context.specs.declared.word.Word.{Word}
-use Rattle.swc_context.specs.declared.word.Word.TheVariants as word
-use Rattle.swc_input.specs.declared.buffer.Buffer.{Buffer}
-use Rattle.swc_input.specs.declared.token.Token.{Token}
-use Rattle.swc_input.specs.declared.token.Token.TheVariants as token
-use Rattle.swc_input.specs.declared.token.TokenAndSpan.{TokenAndSpan}
-use Rattle.swc_input.specs.Plain.{plain}
-use Rattle.swc_input.specs.Source.{Model, Laws}
+use Rattle.std.specs.Prelude.{◌≡◌, ◌≢◌, ℕ, ◌≤◌, ◌<◌, Bool, true, false, List, [], ◌∷◌, ◌++◌, Option, Some, None, Result, MatchResult, MatchOption, OnOk, IfOk, IfErr, length, ◌&&◌}
+use Rattle.swc_context.specs.{declared.context.Context.Context, declared.context.Syntax.Syntax, declared.error.Error.Error, declared.error.SyntaxError.SyntaxError, declared.error.SyntaxError.TheVariants.OutOfMemory, declared.error.SyntaxError.TheVariants.ParserFailed, declared.operator.BinaryOp.BinaryOp, declared.span.BytePos.BytePos, declared.span.Span.Span, declared.word.Keyword.Keyword as keyword, declared.word.Word.Word, declared.word.Word.Word as word, Contexts.view as deciding}
 use Rattle.swc_input.specs.Buffer.{Took, Read, Lives, Served, Still, Looked, Future, Known, context, to_come}
-use Rattle.swc_input.specs.Recording.{is_silent}
-use Rattle.swc_input.specs.Kinds.{at_token}
-use Rattle.swc_ast.specs.declared.ident.BindingIdent.{BindingIdent}
-use Rattle.swc_ast.specs.declared.ident.Ident.{Ident}
-use Rattle.swc_ast.specs.declared.ident.IdentName.{IdentName}
-use Rattle.swc_ast.specs.declared.ident.PrivateName.{PrivateName}
-use Rattle.swc_ast.specs.declared.lit.Lit.{Lit}
+use Rattle.swc_input.specs.{declared.buffer.Buffer.Buffer, declared.token.Token.Token, declared.token.TokenAndSpan.TokenAndSpan, Plain.plain, Source.Model, Source.Laws, Recording.is_silent, Kinds.at_token}
+use Rattle.swc_input.specs.declared.token.Token.TheVariants as token
 use Rattle.swc_ast.specs.Parts.{lit_tree, item_tree, item_trees, prop_name_tree, member_prop_tree, function_tree}
-use Rattle.swc_ast.specs.Tree.{Tree}
-use Rattle.swc_ast.specs.Trees.{listed}
-use Rattle.swc_ast.specs.declared.expr.ExprOrSpread.{ExprOrSpread}
-use Rattle.swc_ast.specs.declared.expr.MemberProp.{MemberProp}
-use Rattle.swc_ast.specs.declared.function.Function.{Function}
-use Rattle.swc_ast.specs.declared.prop.PropName.{PropName}
-use Rattle.swc_ast.specs.declared.spanned.Spanned.{Ghosts}
-use Rattle.swc_grammar.specs.Scope.{Scope}
-use Rattle.swc_grammar.specs.Parts.{lit_of}
+use Rattle.swc_ast.specs.{declared.ident.BindingIdent.BindingIdent, declared.ident.Ident.Ident, declared.ident.IdentName.IdentName, declared.ident.PrivateName.PrivateName, declared.lit.Lit.Lit, Tree.Tree, Trees.listed, declared.expr.ExprOrSpread.ExprOrSpread, declared.expr.MemberProp.MemberProp, declared.function.Function.Function, declared.prop.PropName.PropName, declared.spanned.Spanned.Ghosts}
 use Rattle.swc_grammar.specs.Clean.{Out, no_error, first}
+use Rattle.swc_grammar.specs.{Scope.Scope, Parts.lit_of, Words.rest, Names.Spelling, Names.spelling, Tokens.is_strict_word}
 use Rattle.swc_bodies.specs.Readings.{Reading, is_async, is_function_here}
-use Rattle.swc_grammar.specs.Words.{rest}
-use Rattle.swc_grammar.specs.Names.{Spelling, spelling}
-use Rattle.swc_grammar.specs.Tokens.{is_strict_word}
 use Rattle.swc_nodes.specs.Lists.{elem_parts, elem_trees, props_parts, props_trees}
-use Rattle.swc_nodes.specs.NodeParts.{expr_part, flat, args_parts, key_parts, member_parts}
-use Rattle.swc_nodes.specs.NodeParts.{param_parts, prop_parts}
+use Rattle.swc_nodes.specs.NodeParts.{expr_part, flat, args_parts, key_parts, member_parts, param_parts, prop_parts}
 use Rattle.swc_nodes.specs.GrowingNodes.{tree_at, count, From, Apart, Grows}
-use Rattle.swc_nodes.specs.declared.node.ExprId.{ExprId}
-use Rattle.swc_nodes.specs.declared.node.PatId.{PatId}
-use Rattle.swc_nodes.specs.declared.node.PropNode.{PropNode}
-use Rattle.swc_nodes.specs.declared.nodes.Nodes.{Nodes}
-use Rattle.swc_steps.specs.Lists.{eaten}
-use Rattle.swc_steps.specs.declared.tokens.Listed.{Listed}
-use Rattle.swc_steps.specs.declared.productions.Productions.{Productions}
-use Rattle.swc_context.specs.Contexts.{view as deciding}
-use Rattle.swc_nodes.specs.NodeTree.{prop_of as prop_tree}
+use Rattle.swc_nodes.specs.{declared.node.ExprId.ExprId, declared.node.PatId.PatId, declared.node.PropNode.PropNode, declared.nodes.Nodes.Nodes, NodeTree.prop_of as prop_tree}
+use Rattle.swc_steps.specs.{Lists.eaten, declared.tokens.Listed.Listed, declared.productions.Productions.Productions}
 
 -- out of memory
 abbrev pub is_memory : SyntaxError → Bool

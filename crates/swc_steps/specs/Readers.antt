@@ -1,28 +1,17 @@
 -- What the steps of the code read, by the clean parser: right-hand sides of productions, and what is left of them
 -- after their first parts.
 use Rattle.std.specs.Prelude.{ℕ, List, Option, Some, None, Bool, true, false, not, ◌&&◌, if◌then◌else◌}
-use Rattle.swc_context.specs.declared.operator.BinaryOp.{BinaryOp}
-use Rattle.swc_context.specs.declared.operator.UnaryOp.{UnaryOp}
-use Rattle.swc_context.specs.declared.span.Span.{Span}
-use Rattle.swc_input.specs.declared.token.TokenAndSpan.{TokenAndSpan}
-use Rattle.swc_input.specs.Kinds.{at_token, is_hash}
+use Rattle.swc_context.specs.{declared.operator.BinaryOp.BinaryOp, declared.operator.UnaryOp.UnaryOp, declared.span.Span.Span, Spans.from_to, declared.span.BytePos.BytePos}
+use Rattle.swc_input.specs.{declared.token.TokenAndSpan.TokenAndSpan, Kinds.at_token, Kinds.is_hash}
 use Rattle.swc_ast.specs.Tree.{Tree, span_of, node}
 use Rattle.swc_ast.specs.Trees.{to, ident_e, private_e, unary_e, bin_e, delete_ok, nullish_ok}
-use Rattle.swc_grammar.specs.Scope.{Scope, inner}
 use Rattle.swc_grammar.specs.Rule.{gives, check, ◌>>=◌, ◌>>◌, symbol, one, must}
-use Rattle.swc_bodies.specs.Readings.{Hook}
 use Rattle.swc_grammar.specs.Symbols.{Symbol, Expr, Assign, Unary, Answer, Side}
-use Rattle.swc_grammar.specs.Tokens.{with_in, is_in}
-use Rattle.swc_grammar.specs.Parts.{any_name}
-use Rattle.swc_grammar.specs.Grammar.{Production}
-use Rattle.swc_grammar.specs.Clean.{Out, first, sym, links, updates, climb, Plan, plan, exec, operator_at, run, apart}
-use Rattle.swc_grammar.specs.Clean.{bin_op as bin_op_plan}
-use Rattle.swc_grammar.specs.Clean.{turn as turn_plan, turned as turned_plan}
-use Rattle.swc_grammar.specs.Names.{Spelling, may_refer}
+use Rattle.swc_grammar.specs.Clean.{Out, first, sym, links, updates, climb, Plan, plan, exec, operator_at, run, apart, bin_op as bin_op_plan, turn as turn_plan, turned as turned_plan}
 use Rattle.swc_grammar.specs.Words.{rest, word, ◌>>=◌ as ◌▸◌}
-use Rattle.swc_context.specs.Spans.{from_to}
+use Rattle.swc_grammar.specs.{Scope.Scope, Scope.inner, Tokens.with_in, Tokens.is_in, Parts.any_name, Grammar.Production, Names.Spelling, Names.may_refer}
+use Rattle.swc_bodies.specs.Readings.{Hook}
 use Rattle.swc_steps.specs.Args.{hash_name}
-use Rattle.swc_context.specs.declared.span.BytePos.{BytePos}
 
 -- nothing, of any list: what is read where a fault is always recorded
 abbrev pub nothing : {A : Type 0} → Scope → List TokenAndSpan → Out A

@@ -1,23 +1,10 @@
 -- What is read of regular expressions (ECMA-262, 12.9.5 and 13.2.7), and what the hints do by which a lexer reads them.
 use Rattle.std.specs.Prelude.{◌≡◌, if◌then◌else◌, List, [], ◌∷◌, Option, Some, None}
 use Rattle.swc_context.specs.declared.span.Span.{Span}
-use Rattle.swc_input.specs.declared.buffer.Buffer.{Buffer}
-use Rattle.swc_input.specs.declared.token.Token.{Token}
-use Rattle.swc_input.specs.declared.token.Token.TheVariants as token
-use Rattle.swc_input.specs.declared.token.TokenAndSpan.{TokenAndSpan}
-use Rattle.swc_input.specs.Plain.{plain}
-use Rattle.swc_input.specs.Source.{Model}
-use Rattle.swc_input.specs.Buffer.{Read, Lives}
-use Rattle.swc_ast.specs.declared.lit.Lit.TheVariants as lit
-use Rattle.swc_ast.specs.declared.lit.Regex.{Regex}
-use Rattle.swc_ast.specs.Parts.{lit_tree}
-use Rattle.swc_ast.specs.Tree.{Tree}
-use Rattle.swc_ast.specs.Trees.{to}
-use Rattle.swc_grammar.specs.Scope.{Scope}
-use Rattle.swc_grammar.specs.Clean.{Out, first}
-use Rattle.swc_grammar.specs.Parts.{flags_ok}
-use Rattle.swc_grammar.specs.Tokens.{is_slash}
+use Rattle.swc_input.specs.{declared.buffer.Buffer.Buffer, declared.token.Token.Token, declared.token.Token.Token as token, declared.token.TokenAndSpan.TokenAndSpan, Plain.plain, Source.Model, Buffer.Read, Buffer.Lives}
+use Rattle.swc_ast.specs.{declared.lit.Lit.Lit as lit, declared.lit.Regex.Regex, Parts.lit_tree, Tree.Tree, Trees.to}
 use Rattle.swc_grammar.specs.Words.{◌>>=◌, rest, one}
+use Rattle.swc_grammar.specs.{Scope.Scope, Clean.Out, Clean.first, Parts.flags_ok, Tokens.is_slash}
 
 -- the regular expression that a token is
 abbrev pub regex_in : Token → Span → Option Regex

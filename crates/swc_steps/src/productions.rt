@@ -1,16 +1,11 @@
 // What all productions are on: the buffer, the nodes and the hook.
-ghost use Rattle.std.specs.Prelude.{◌≡◌, ◌++◌, ◌∷◌, [], true, false, None, Some, Ok, IfOk, IfErr, OnOk, IsSome};
-ghost use Rattle.std.specs.Prelude.{MatchOption};
-ghost use Rattle.swc_input.specs.Buffer.{current, context, state_of, previous, last_position, Looked};
-ghost use Rattle.swc_input.specs.Buffer.{source as source_of, with_source};
-ghost use Rattle.swc_input.specs.Recording.{no_memory};
-ghost use Rattle.swc_input.specs.Kinds.{at_token};
-ghost use Rattle.swc_grammar.specs.Tokens.{is_ref};
-ghost use Rattle.swc_steps.specs.Keys.{is_key_lit};
-ghost use Rattle.swc_steps.specs.Parsing.{is_strict, is_strict_in, seen, Looks};
+ghost use Rattle.std.specs.Prelude.{◌≡◌, ◌++◌, ◌∷◌, [], true, false, None, Some, Ok, IfOk, IfErr, OnOk, IsSome, MatchOption};
 ghost use Rattle.std.specs.Borrow.{sem, follows};
-ghost use Rattle.swc_steps.specs.contracts.productions.Productions.{the_row};
-ghost use Rattle.swc_input.specs.contracts.buffer.Buffer.{the_row as buffer_row};
+ghost use Rattle.swc_input.specs.Buffer.{current, context, state_of, previous, last_position, Looked, source as source_of, with_source};
+ghost use Rattle.swc_input.specs.{Recording.no_memory, Kinds.at_token, contracts.buffer.Buffer.the_row as buffer_row};
+ghost use Rattle.swc_grammar.specs.Tokens.{is_ref};
+ghost use Rattle.swc_steps.specs.Parsing.{is_strict, is_strict_in, seen, Looks};
+ghost use Rattle.swc_steps.specs.{Keys.is_key_lit, contracts.productions.Productions.the_row};
 
 use std::alloc::{AllocError, Global};
 use swc_bodies::bodies::Bodies;
@@ -59,7 +54,7 @@ impl<I: Tokens, B: Bodies<I>> Drop for Productions<I, B> {
 }
 
 impl<I: Tokens, B: Bodies<I>> Productions<I, B> {
-    /// The nodes. The rest is let go.
+    /// The nodes. The rest is dropped.
     pub fn into_nodes(self) -> NodesOf<B>
         ensures { result ≡ self.nodes }
     {

@@ -1,16 +1,12 @@
 // Expressions (ECMA-262, 13).
 ghost use Rattle.std.specs.Prelude.{◌≡◌, ◌<◌, ◌≤◌, true, not, ◌&&◌, None, Some, OnOk, IsSome, Bool};
-ghost use Rattle.swc_input.specs.Buffer.{current, to_come};
-ghost use Rattle.swc_input.specs.Plain.{plain_token};
-ghost use Rattle.swc_input.specs.Kinds.{at_token};
+ghost use Rattle.swc_input.specs.{Buffer.current, Buffer.to_come, Plain.plain_token, Kinds.at_token, Recording.is_some};
 ghost use Rattle.swc_grammar.specs.Tokens.{begins_regex, is_slash, is_regex};
-ghost use Rattle.swc_grammar.specs.Parts.{is_flag, flags_ok};
-ghost use Rattle.swc_grammar.specs.Words.{rest};
+ghost use Rattle.swc_grammar.specs.{Parts.is_flag, Parts.flags_ok, Words.rest};
 ghost use Rattle.swc_nodes.specs.GrowingNodes.{count};
 ghost use Rattle.swc_steps.specs.Parsing.{seen, ParsesAlone, Produces, Checked, itself, tree_of, Heard};
 ghost use Rattle.swc_steps.specs.Regexes.{regex_expr, regex_in, regex_alone, regex_text};
 ghost use Rattle.swc_context.specs.declared.span.Span.{Span};
-ghost use Rattle.swc_input.specs.Recording.{is_some};
 ghost use Rattle.swc_grammar.specs.Parts as parts;
 ghost use Rattle.swc_steps.specs.Regexes as regexes;
 

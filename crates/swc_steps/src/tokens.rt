@@ -1,24 +1,13 @@
 // The steps that productions take, on a buffer.
-ghost use Rattle.std.specs.Prelude.{◌≡◌, ◌≢◌, ◌<◌, ◌≤◌, true, false, not, None, IfErr, IfOk, OnOk, IsSome, Ok, Some};
-ghost use Rattle.std.specs.Prelude.{MatchOption};
+ghost use Rattle.std.specs.Prelude.{◌≡◌, ◌≢◌, ◌<◌, ◌≤◌, true, false, not, None, IfErr, IfOk, OnOk, IsSome, Ok, Some, MatchOption};
 ghost use Rattle.swc_context.specs.declared.error.SyntaxError.TheVariants.{OutOfMemory, ParserFailed};
-ghost use Rattle.swc_input.specs.declared.token.Token.{Token};
-ghost use Rattle.swc_input.specs.Buffer.{current, peeked, last_position, state_of, to_come, Bumped, Peeked, context};
-ghost use Rattle.swc_input.specs.Buffer.{Still, Lives};
-ghost use Rattle.swc_input.specs.Recording.{no_memory};
-ghost use Rattle.swc_input.specs.Kinds.{at_token};
+ghost use Rattle.swc_input.specs.Buffer.{current, peeked, last_position, state_of, to_come, Bumped, Peeked, context, Still, Lives};
+ghost use Rattle.swc_input.specs.{declared.token.Token.Token, Recording.no_memory, Kinds.at_token};
 ghost use Rattle.swc_bodies.specs.Readings.{at_function, is_async, is_function, is_function_here};
-ghost use Rattle.swc_grammar.specs.Tokens.{may_be_reference};
-ghost use Rattle.swc_grammar.specs.Clean.{no_error};
-ghost use Rattle.swc_grammar.specs.Names.{may_name, may_refer};
-ghost use Rattle.swc_grammar.specs.Words.{rest, word};
-ghost use Rattle.swc_steps.specs.Parsing.{is_memory, ident_spelling, name_spelling, private_spelling, seen, recorded};
-ghost use Rattle.swc_steps.specs.Parsing.{Loud, Moves, Refuses, Tries, ParsesAlone, ContinuesAlone, Eats, Looks};
-ghost use Rattle.swc_steps.specs.Parsing.{Fits, Checked, Tells, begins_async, breaks_at};
-ghost use Rattle.swc_steps.specs.Keys.{expected};
-ghost use Rattle.swc_steps.specs.Args.{hash_name};
-ghost use Rattle.swc_steps.specs.Regexes.{SkipsSlash};
+ghost use Rattle.swc_grammar.specs.{Tokens.may_be_reference, Clean.no_error, Names.may_name, Names.may_refer, Words.rest, Words.word};
+ghost use Rattle.swc_steps.specs.Parsing.{is_memory, ident_spelling, name_spelling, private_spelling, seen, recorded, Loud, Moves, Refuses, Tries, ParsesAlone, ContinuesAlone, Eats, Looks, Fits, Checked, Tells, begins_async, breaks_at};
 ghost use Rattle.swc_steps.specs.Lists.{is_named, is_sign_token, separated, closed};
+ghost use Rattle.swc_steps.specs.{Keys.expected, Args.hash_name, Regexes.SkipsSlash};
 
 use std::alloc::Global;
 use swc_ast::ident::{Ident, IdentName, PrivateName};
@@ -146,7 +135,7 @@ pub fn bump<I: Tokens>(input: &mut Buffer<I>) -> Token
     input.bump()
 }
 
-/// Consumes the current token and lets it go.
+/// Consumes the current token and drops it.
 #[inline(never)]
 pub fn skip<I: Tokens>(input: &mut Buffer<I>)
     requires { IsSome (current input.old) }

@@ -1,4 +1,4 @@
--- Tokens of a part of a text may be moved to where it stands in the whole, and stay in their order.
+-- Tokens of a part of a text may be moved to where it is in the whole, and stay in their order.
 use Rattle.std.proofs.Common.{◌≡◌, ℕ, ◌+◌, ◌-◌, Bool, true, false, if◌then◌else◌, IsTrue, slice_range, drop, length-drop, ◌<◌, ◌≤◌, ◌^◌, List, [], ◌∷◌, Ok, Err, IsFalse, length, map, refl, sym, ◌∙◌, inl, arith}
 use Rattle.std.proofs.lemmas.List.Elements.{All-from_recursion, recursion_from_All}
 use Rattle.std.proofs.lemmas.List.{length-take}

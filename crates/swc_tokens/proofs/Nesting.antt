@@ -81,7 +81,7 @@ unfolding is_text
 is_text_part (token.Template _ _) is = refl
 is_text_part _ is = cc
 
--- where a delimiter is read next, one stands
+-- where a delimiter is read next, there is one
 pub delimiter_there : (source : List ℕ) (before brackets : List Open) (here behind : Next) (low high : ℕ) (t : Token) → Turns before here (part_of t) brackets behind → Spells source low high t → behind ≡ reads.Delimiter → EndsText source high
 delimiter_there source before brackets here behind low high t turn spelled is =
     text_ends source low high t spelled (is_text_part t (text_before before brackets here behind (part_of t) turn is))

@@ -8,7 +8,7 @@ use Rattle.swc_context.specs.declared.error.SyntaxError.{Lex, OutOfMemory}
 abbrev pub between : ℕ → ℕ → Span
 between low high = record { lo = record { 0 = low }; hi = record { 0 = high } }
 
--- the fault of what stands at a place
+-- the fault of what is at a place
 abbrev pub lex_fault : Span → Error
 lex_fault place = record { span = place; kind = Lex }
 

@@ -1,4 +1,4 @@
--- Tokens of a part of a text: those of the part, moved to where it stands in the whole.
+-- Tokens of a part of a text: those of the part, moved to where it is in the whole.
 use Rattle.std.specs.Prelude.{◌≡◌, ℕ, ◌+◌, ◌<◌, ◌^◌, ◌⊎◌, List, Err, length, map}
 use Rattle.std.specs.Str.{IsAscii}
 use Rattle.swc_context.specs.declared.span.Span.{Span}

@@ -14,7 +14,7 @@ pub record HasPlace (t : TokenAndSpan) : Type 0 where
   pub forward : t.span.lo.0 ≤ t.span.hi.0
   pub nonempty : IsFalse (is_text t.token) → t.span.lo.0 < t.span.hi.0
 
--- each of the tokens has a place, they stand one after the other, and all between two positions
+-- each of the tokens has a place, they come one after the other, and all between two positions
 unfoldable pub InOrder : ℕ → List TokenAndSpan → ℕ → Type 0
 InOrder low [] high = low ≤ high
 InOrder low (t ∷ ts) high = (low ≤ t.span.lo.0) × HasPlace t × InOrder t.span.hi.0 ts high
@@ -29,7 +29,7 @@ unfoldable pub is_error : Token → Bool
 is_error (token.Error _) = true
 is_error _ = false
 
--- whether a token may stand outside of templates: no fault, no text of a template and no `${`
+-- whether a token may be outside of templates: no fault, no text of a template and no `${`
 unfoldable pub is_free : Token → Bool
 is_free (token.Error _) = false
 is_free (token.Template _ _) = false

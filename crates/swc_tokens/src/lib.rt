@@ -42,11 +42,11 @@ pub const MAX_LEN: usize = 4_294_967_295;
 ///
 /// Read are blanks and comments (12.2 to 12.4), which are no tokens, words without escapes (12.7),
 /// signs and operators (12.8), numbers (12.9.3), strings (12.9.4), regular expressions (12.9.5) and
-/// templates (12.9.6). A token is marked as after a line break where one stands between it and the
+/// templates (12.9.6). A token is marked as after a line break where one is between it and the
 /// token before it, also one within a comment.
 ///
 /// A template is a `BackQuote`, a `Template` and either a `BackQuote` or a `DollarLBrace`; after
-/// this stand tokens up to the `RBrace` that closes it, and then a `Template` again. The text of a
+/// this come tokens up to the `RBrace` that closes it, and then a `Template` again. The text of a
 /// `Template` may be empty, as no other token may. Its `raw` is as it is written, an LF included,
 /// and its `cooked` is what it means, or `Lex` at the backslash of its first escape that isn't read:
 /// the rest of the text is read all the same.
@@ -125,7 +125,7 @@ pub fn read_tokens_at(alloc: Global, text: &[u8], start: BytePos) -> PResult<Vec
     }
 }
 
-/// Where the first byte above 127 stands.
+/// Where the first byte above 127 is.
 fn first_beyond_ascii(text: &[u8]) -> Option<usize>
     ensures value { result ≡ position (λ byte. nat_lt 127 byte) text.now }
     ensures inside { IfSome result (λ at. at < length text.now) }

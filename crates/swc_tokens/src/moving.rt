@@ -1,4 +1,4 @@
-// Tokens moved from a part of a text to where they stand in the whole.
+// Tokens moved from a part of a text to where they are in the whole.
 ghost use Rattle.std.specs.Prelude.{◌≡◌, map};
 ghost use Rattle.std.specs.List.{All};
 ghost use Rattle.swc_tokens.specs.Moved as moved;

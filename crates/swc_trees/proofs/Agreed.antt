@@ -2,11 +2,8 @@
 use Rattle.std.proofs.Common.{◌≡◌, ℕ, List, [], ◌∷◌, ◌++◌, refl, sym, ap, ◌∙◌, append_assoc}
 use Rattle.swc_ast.specs.Tree.{Tree, nil, cons, trees}
 use Rattle.swc_ast.specs.declared.spanned.Spanned.{Ghosts}
-use Rattle.swc_nodes.specs.NodeParts.{Part, flat}
-use Rattle.swc_nodes.specs.NodeTree.{node_tree, marked_tree}
 use Rattle.swc_nodes.specs.GrowingNodes.{seat_at, tree_at, bare_at, node_seat}
-use Rattle.swc_nodes.specs.declared.node.Node.{Node}
-use Rattle.swc_nodes.specs.declared.nodes.Nodes.{Nodes}
+use Rattle.swc_nodes.specs.{NodeParts.Part, NodeParts.flat, NodeTree.node_tree, NodeTree.marked_tree, declared.node.Node.Node, declared.nodes.Nodes.Nodes}
 use Rattle.swc_nodes.proofs.Unmarked.{unmarked-node}
 use Rattle.swc_trees.specs.Moving.{AreGiven}
 

@@ -1,15 +1,11 @@
 -- Trees take the place of the numbers from the last part on: what is left of the list is enough for the parts before it.
 use Rattle.std.proofs.Common.{◌≡◌, ℕ, ◌+◌, ◌<◌, List, [], ◌∷◌, ◌++◌, map, reverse, length, Option, Some, None, Result, Ok, Err, IfOk, refl, sym, ap, subst, ◌∙◌, arith, append_assoc}
 use Rattle.std.proofs.lemmas.List.{append-nil, append_cancel_right, length-append, length-map, map-append, reverse-append}
-use Rattle.std.specs.Option.{option_to_list}
-use Rattle.std.specs.declared.alloc.AllocError.{AllocError}
-use Rattle.std.specs.declared.alloc.Global.{Global}
-use Rattle.std.specs.declared.boxed.Box.{Box}
+use Rattle.std.specs.{Option.option_to_list, declared.alloc.AllocError.AllocError, declared.alloc.Global.Global, declared.boxed.Box.Box}
 use Rattle.swc_context.specs.declared.span.Span.{Span}
 use Rattle.swc_ast.specs.Tree.{Tree}
-use Rattle.swc_nodes.specs.NodeTree.{node_tree}
 use Rattle.swc_nodes.specs.NodeParts.{Part, slots, flat}
-use Rattle.swc_nodes.specs.declared.node.Node.{Node}
+use Rattle.swc_nodes.specs.{NodeTree.node_tree, declared.node.Node.Node}
 use Rattle.swc_trees.specs.Building.{Kind, part_kind, built_kind, built_tree, Offers, Assembled}
 use Rattle.swc_trees.specs.declared.built.Built.{Built}
 use Rattle.swc_trees.proofs.Agreed.{flat-append}

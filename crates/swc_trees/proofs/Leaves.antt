@@ -1,37 +1,17 @@
 -- The trees of the other values: those that hold no list.
 use Rattle.std.proofs.Common.{◌≡◌, Bool, Option, rules}
-use Rattle.std.specs.declared.alloc.Global.{Global}
-use Rattle.std.specs.declared.boxed.Box.{Box}
-use Rattle.swc_context.specs.declared.operator.AssignOp.{AssignOp}
-use Rattle.swc_context.specs.declared.operator.BinaryOp.{BinaryOp}
-use Rattle.swc_context.specs.declared.operator.UnaryOp.{UnaryOp}
-use Rattle.swc_context.specs.declared.operator.UpdateOp.{UpdateOp}
-use Rattle.swc_context.specs.declared.span.Span.{Span}
+use Rattle.std.specs.{declared.alloc.Global.Global, declared.boxed.Box.Box}
+use Rattle.swc_context.specs.{declared.operator.AssignOp.AssignOp, declared.operator.BinaryOp.BinaryOp, declared.operator.UnaryOp.UnaryOp, declared.operator.UpdateOp.UpdateOp, declared.span.Span.Span}
 use Rattle.swc_ast.proofs.Equations.{map_map}
-use Rattle.swc_ast.specs.declared.expr.AssignTarget.{AssignTarget}
-use Rattle.swc_ast.specs.declared.expr.AssignTarget.TheFolds.{the_lemmas}
-use Rattle.swc_ast.specs.declared.expr.Expr.{Expr}
-use Rattle.swc_ast.specs.declared.expr.Expr.TheVariants as expr
-use Rattle.swc_ast.specs.declared.expr.Invalid.{Invalid}
-use Rattle.swc_ast.specs.declared.expr.MetaPropExpr.{MetaPropExpr}
-use Rattle.swc_ast.specs.declared.expr.ParenExpr.{ParenExpr}
-use Rattle.swc_ast.specs.declared.expr.ThisExpr.{ThisExpr}
-use Rattle.swc_ast.specs.declared.ident.BindingIdent.{BindingIdent}
-use Rattle.swc_ast.specs.declared.ident.Ident.{Ident}
-use Rattle.swc_ast.specs.declared.ident.PrivateName.{PrivateName}
-use Rattle.swc_ast.specs.declared.lit.Lit.{Lit}
-use Rattle.swc_ast.specs.declared.pat.ObjectPatProp.TheVariants as pat_prop
-use Rattle.swc_ast.specs.declared.pat.Pat.{Pat}
-use Rattle.swc_ast.specs.declared.pat.Pat.TheVariants as pat
-use Rattle.swc_ast.specs.declared.pat.RestPat.{RestPat}
-use Rattle.swc_ast.specs.declared.prop.AssignProp.{AssignProp}
-use Rattle.swc_ast.specs.declared.prop.Prop.{Prop}
-use Rattle.swc_ast.specs.declared.prop.Prop.TheVariants as prop
-use Rattle.swc_ast.specs.declared.prop.PropOrSpread.TheVariants as item
-use Rattle.swc_ast.specs.declared.prop.SpreadElement.{SpreadElement}
 use Rattle.swc_ast.specs.Parts.{leaf, or_hole, ident_tree, binding_tree, private_tree, lit_tree, paren_tree, rest_tree, cover_tree, spread_tree}
 use Rattle.swc_ast.specs.Tree.{Tree, this, fun, class, meta, invalid, unary, update, bin, assign, cond, await, yield, default, pat_expr, binding_prop, shorthand, node, nil, cons, span_of}
 use Rattle.swc_ast.specs.TreeOf.{expr_tree, pat_tree, pat_prop_tree, prop_tree, prop_or_spread_tree, target_tree, boxed_tree}
+use Rattle.swc_ast.specs.{declared.expr.AssignTarget.AssignTarget, declared.expr.AssignTarget.TheFolds.the_lemmas, declared.expr.Expr.Expr, declared.expr.Invalid.Invalid, declared.expr.MetaPropExpr.MetaPropExpr, declared.expr.ParenExpr.ParenExpr, declared.expr.ThisExpr.ThisExpr, declared.ident.BindingIdent.BindingIdent, declared.ident.Ident.Ident, declared.ident.PrivateName.PrivateName, declared.lit.Lit.Lit, declared.pat.Pat.Pat, declared.pat.RestPat.RestPat, declared.prop.AssignProp.AssignProp, declared.prop.Prop.Prop, declared.prop.SpreadElement.SpreadElement}
+use Rattle.swc_ast.specs.declared.expr.Expr.TheVariants as expr
+use Rattle.swc_ast.specs.declared.pat.ObjectPatProp.TheVariants as pat_prop
+use Rattle.swc_ast.specs.declared.pat.Pat.TheVariants as pat
+use Rattle.swc_ast.specs.declared.prop.Prop.TheVariants as prop
+use Rattle.swc_ast.specs.declared.prop.PropOrSpread.TheVariants as item
 
 module _ (F C K : Type 0) (fun_at : F → Span) (class_at : C → Span) (block_at : K → Span) where
   abbrev E : Type 0

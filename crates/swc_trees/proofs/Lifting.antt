@@ -3,29 +3,19 @@
 use Rattle.std.proofs.Common.{◌≡◌, ℕ, suc, ◌<◌, ◌≤◌, true, List, [], ◌∷◌, ◌++◌, map, reverse, length, Ok, refl, sym, ap, subst, ◌∙◌, arith}
 use Rattle.std.proofs.lemmas.Bool.{le-leb}
 use Rattle.std.proofs.lemmas.List.{append_cancel_right, length-map, map-append, reverse-append}
-use Rattle.std.specs.declared.alloc.Global.{Global}
-use Rattle.std.specs.declared.vec.Vec.{Vec}
+use Rattle.std.specs.{declared.alloc.Global.Global, declared.vec.Vec.Vec}
 use Rattle.swc_context.specs.declared.span.Span.{Span}
-use Rattle.swc_ast.specs.Tree.{Tree}
-use Rattle.swc_ast.specs.declared.spanned.Spanned.{Ghosts}
-use Rattle.swc_nodes.specs.NodeTree.{node_tree}
+use Rattle.swc_ast.specs.{Tree.Tree, declared.spanned.Spanned.Ghosts}
 use Rattle.swc_nodes.specs.NumberedTrees.{Seat, floor, fits, chain}
 use Rattle.swc_nodes.specs.NodeParts.{Part, form, view_ok, slots}
 use Rattle.swc_nodes.specs.GrowingNodes.{count, seat_at, bare_at, first_at, Apart, Grows, Left, Popped}
-use Rattle.swc_nodes.specs.Walking.{part_of}
-use Rattle.swc_nodes.specs.declared.apart.PartId.{PartId}
-use Rattle.swc_nodes.specs.declared.node.Node.{Node}
-use Rattle.swc_nodes.specs.declared.nodes.Nodes.{Nodes}
+use Rattle.swc_nodes.specs.{NodeTree.node_tree, Walking.part_of, declared.apart.PartId.PartId, declared.node.Node.Node, declared.nodes.Nodes.Nodes}
 use Rattle.swc_nodes.proofs.Chains.{both_true, fitting, chain-cons, chain-bound, chain-first, chain-second, chain-both, chain-same, floor-both, floor-under}
 use Rattle.swc_nodes.proofs.Held.{from-apart}
 use Rattle.swc_nodes.proofs.Standing.{grows-same, grows-then, seat-later}
 use Rattle.swc_trees.specs.Building.{part_kind, built_kind, built_tree, AreFor, Offers, Assembled}
-use Rattle.swc_trees.specs.Lifting.{IsOf, Reads}
-use Rattle.swc_trees.specs.Moving.{AreGiven, TakesOut}
-use Rattle.swc_trees.specs.declared.built.Built.{Built}
-use Rattle.swc_trees.specs.declared.taking.Lifted.{Lifted}
-use Rattle.swc_trees.proofs.Agreed.{bare-same, bare-node}
-use Rattle.swc_trees.proofs.Assembled.{kinds-long, split-even}
+use Rattle.swc_trees.specs.{Lifting.IsOf, Lifting.Reads, Moving.AreGiven, Moving.TakesOut, declared.built.Built.Built, declared.taking.Lifted.Lifted}
+use Rattle.swc_trees.proofs.{Agreed.bare-same, Agreed.bare-node, Assembled.kinds-long, Assembled.split-even}
 
 -- ---- parts that are due
 

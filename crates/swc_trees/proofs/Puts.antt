@@ -2,37 +2,20 @@
 use Rattle.std.proofs.Common.{◌≡◌, ℕ, suc, ◌+◌, ◌<◌, ◌≤◌, true, List, [], ◌∷◌, ◌++◌, map, length, get_or, Result, Ok, Err, IfOk, refl, sym, ap, subst, ◌∙◌, arith, append_assoc}
 use Rattle.std.proofs.lemmas.List.{map-append, length-append, length-map}
 use Rattle.std.proofs.Math.Seq.{get_or-append_seam}
-use Rattle.std.specs.Result.{IsErr}
-use Rattle.std.specs.declared.alloc.AllocError.{AllocError}
-use Rattle.std.specs.declared.alloc.Global.{Global}
-use Rattle.std.specs.declared.boxed.Box.{Box}
-use Rattle.std.specs.declared.vec.Vec.{Vec}
+use Rattle.std.specs.{Result.IsErr, declared.alloc.AllocError.AllocError, declared.alloc.Global.Global, declared.boxed.Box.Box, declared.vec.Vec.Vec}
 use Rattle.swc_context.specs.declared.span.Span.{Span}
 use Rattle.swc_ast.specs.Parts.{no_tree, item_tree, args_tree}
 use Rattle.swc_ast.specs.Tree.{Tree, args, node, no_span, trees}
-use Rattle.swc_ast.specs.declared.expr.Expr.{Expr}
-use Rattle.swc_ast.specs.declared.expr.ExprOrSpread.{ExprOrSpread}
-use Rattle.swc_ast.specs.declared.spanned.Spanned.{Ghosts}
+use Rattle.swc_ast.specs.{declared.expr.Expr.Expr, declared.expr.ExprOrSpread.ExprOrSpread, declared.spanned.Spanned.Ghosts}
 use Rattle.swc_nodes.specs.Renumbering.{given, with_given, Renumbered}
-use Rattle.swc_nodes.specs.NumberedTrees.{chain}
 use Rattle.swc_nodes.specs.NodeParts.{Part, View, slots, args_parts}
 use Rattle.swc_nodes.specs.GrowingNodes.{count, seat_at, tree_at, Apart, Grows, Made}
-use Rattle.swc_nodes.specs.declared.node.ExprId.{ExprId}
-use Rattle.swc_nodes.specs.declared.node.Node.{Node}
-use Rattle.swc_nodes.specs.declared.nodes.Nodes.{Nodes}
-use Rattle.swc_nodes.specs.declared.renumbering.Numbers.{Numbers}
-use Rattle.swc_nodes.proofs.Chains.{both_true, chain-bound}
-use Rattle.swc_nodes.proofs.Held.{from-apart}
-use Rattle.swc_nodes.proofs.Renumbered.{given-all}
-use Rattle.swc_nodes.proofs.Standing.{seat-later}
-use Rattle.swc_trees.proofs.Agreed.{agrees-self}
-use Rattle.swc_trees.proofs.Splits.{split-one}
-use Rattle.swc_trees.proofs.Lighter.{weights, parts-lighter}
-use Rattle.swc_trees.proofs.Weights.{weight, weight_of}
-use Rattle.swc_trees.specs.Building.{built_tree}
+use Rattle.swc_nodes.specs.{NumberedTrees.chain, declared.node.ExprId.ExprId, declared.node.Node.Node, declared.nodes.Nodes.Nodes, declared.renumbering.Numbers.Numbers}
+use Rattle.swc_nodes.proofs.{Chains.both_true, Chains.chain-bound, Held.from-apart, Renumbered.given-all, Standing.seat-later}
+use Rattle.swc_trees.proofs.{Agreed.agrees-self, Splits.split-one, Lighter.weights, Lighter.parts-lighter, Weights.weight, Weights.weight_of}
 use Rattle.swc_trees.specs.Moving.{Agrees, IsNode, PutsIn, boxed_in}
 use Rattle.swc_trees.specs.Splitting.{part, built_view, places, numbered, AreAt, SplitsTo}
-use Rattle.swc_trees.specs.declared.built.Built.{Built}
+use Rattle.swc_trees.specs.{Building.built_tree, declared.built.Built.Built}
 
 -- numbers from 0 on, as the list has them: the one at its place
 given-here : (ids : Numbers) (pre : List ℕ) (i : ℕ) (is : List ℕ) → ids.from ≡ 0 → ids.ids.items ≡ pre ++ i ∷ is →

@@ -1,23 +1,15 @@
 -- A node's tree is put together from those of its parts, which were taken out.
 use Rattle.std.proofs.Common.{◌≡◌, ℕ, ◌+◌, List, [], ◌∷◌, map, length, Result, Ok, Err, IfOk, refl, sym, ap, subst, ◌∙◌, arith}
-use Rattle.std.specs.declared.alloc.AllocError.{AllocError}
-use Rattle.std.specs.declared.alloc.Global.{Global}
-use Rattle.std.specs.declared.vec.Vec.{Vec}
 use Rattle.std.proofs.lemmas.List.{length-append}
+use Rattle.std.specs.{declared.alloc.AllocError.AllocError, declared.alloc.Global.Global, declared.vec.Vec.Vec}
 use Rattle.swc_context.specs.declared.span.Span.{Span}
-use Rattle.swc_ast.specs.Tree.{Tree}
-use Rattle.swc_ast.specs.declared.spanned.Spanned.{Ghosts}
-use Rattle.swc_nodes.specs.NumberedTrees.{floor}
-use Rattle.swc_nodes.specs.NodeParts.{Part}
+use Rattle.swc_ast.specs.{Tree.Tree, declared.spanned.Spanned.Ghosts}
 use Rattle.swc_nodes.specs.GrowingNodes.{count, seat_at, bare_at, Apart, Left}
-use Rattle.swc_nodes.specs.declared.nodes.Nodes.{Nodes}
-use Rattle.swc_nodes.proofs.Chains.{floor-under}
-use Rattle.swc_nodes.proofs.Standing.{grows-same}
+use Rattle.swc_nodes.specs.{NumberedTrees.floor, NodeParts.Part, declared.nodes.Nodes.Nodes}
+use Rattle.swc_nodes.proofs.{Chains.floor-under, Standing.grows-same}
 use Rattle.swc_trees.specs.Building.{part_kind, built_kind, AreFor, Stand, Offers, Assembled}
-use Rattle.swc_trees.specs.Moving.{TakesOut}
-use Rattle.swc_trees.specs.declared.built.Built.{Built}
-use Rattle.swc_trees.proofs.Assembled.{kinds-long}
-use Rattle.swc_trees.proofs.Agreed.{agrees-self}
+use Rattle.swc_trees.specs.{Moving.TakesOut, declared.built.Built.Built}
+use Rattle.swc_trees.proofs.{Assembled.kinds-long, Agreed.agrees-self}
 
 pub if_ok-as : {Y E : Type 0} (P Q : Y → Type 0) (r : Result Y E) → ((y : Y) → P y → Q y) → IfOk r P → IfOk r Q
 if_ok-as P Q (Ok y) f h = f y h

@@ -2,30 +2,21 @@
 use Rattle.std.proofs.Common.{◌≡◌, ℕ, suc, ◌+◌, ◌<◌, ◌≤◌, true, List, [], ◌∷◌, ◌++◌, map, take, drop, length, reverse, Result, Ok, refl, sym, ap, subst, ◌∙◌, arith}
 use Rattle.std.proofs.lemmas.Bool.{le-leb}
 use Rattle.std.proofs.lemmas.List.{map-append, length-append, length-map, length-take-le, length-drop, reverse-append, take-append-drop, take-map, drop-map, take_at, drop_at}
-use Rattle.std.specs.declared.alloc.Global.{Global}
-use Rattle.std.specs.declared.vec.Vec.{Vec}
+use Rattle.std.specs.{declared.alloc.Global.Global, declared.vec.Vec.Vec}
 use Rattle.swc_context.specs.declared.span.Span.{Span}
-use Rattle.swc_ast.specs.Tree.{Tree}
-use Rattle.swc_ast.specs.declared.spanned.Spanned.{Ghosts}
-use Rattle.swc_nodes.specs.NodeTree.{marked_tree}
+use Rattle.swc_ast.specs.{Tree.Tree, declared.spanned.Spanned.Ghosts}
 use Rattle.swc_nodes.specs.Renumbering.{given, with_given, Renumbered}
-use Rattle.swc_nodes.specs.NumberedTrees.{floor, chain}
 use Rattle.swc_nodes.specs.NodeParts.{Part, View, slots, form, view_ok}
 use Rattle.swc_nodes.specs.GrowingNodes.{count, seat_at, tree_at, Apart, Grows, Added}
-use Rattle.swc_nodes.specs.declared.node.Node.{Node}
-use Rattle.swc_nodes.specs.declared.nodes.Nodes.{Nodes}
-use Rattle.swc_nodes.specs.declared.renumbering.Numbers.{Numbers}
+use Rattle.swc_nodes.specs.{NodeTree.marked_tree, NumberedTrees.floor, NumberedTrees.chain, declared.node.Node.Node, declared.nodes.Nodes.Nodes, declared.renumbering.Numbers.Numbers}
 use Rattle.swc_nodes.proofs.Chains.{chain-first, chain-second, chain-both, chain-same, chain-up, floor-under}
 use Rattle.swc_nodes.proofs.Held.{added-made, apart-from}
 use Rattle.swc_nodes.proofs.Standing.{grows-same, grows-then, seat-later}
 use Rattle.swc_trees.proofs.Agreed.{agrees-self}
 use Rattle.swc_trees.proofs.Puts.{numbered-append, places-given, are-given, agrees-before}
-use Rattle.swc_trees.specs.Building.{built_tree}
 use Rattle.swc_trees.specs.Moving.{AreGiven, IsNode, PutsIn}
-use Rattle.swc_trees.specs.Shells.{Closes, Reads}
 use Rattle.swc_trees.specs.Splitting.{part, built_view, places, numbered, AreAt, SplitsTo}
-use Rattle.swc_trees.specs.declared.built.Built.{Built}
-use Rattle.swc_trees.specs.declared.putting.Shell.{Shell}
+use Rattle.swc_trees.specs.{Building.built_tree, Shells.Closes, Shells.Reads, declared.built.Built.Built, declared.putting.Shell.Shell}
 
 -- ---- the nodes are made
 

@@ -2,24 +2,14 @@
 use Rattle.std.proofs.Common.{◌≡◌, ℕ, suc, ◌+◌, ◌<◌, ◌≤◌, ◌≢◌, List, [], ◌∷◌, ◌++◌, map, take, length, get_or, true, Result, Ok, Err, Option, refl, sym, ap, subst, ◌∙◌, arith, append_assoc, rules}
 use Rattle.std.proofs.lemmas.List.{append-nil, map-append, length-append, take_more, take_all, get_or-set_other, length-set}
 use Rattle.std.proofs.Math.ListN.{set}
-use Rattle.std.specs.declared.alloc.AllocError.{AllocError}
-use Rattle.std.specs.declared.alloc.Global.{Global}
-use Rattle.std.specs.declared.boxed.Box.{Box}
-use Rattle.std.specs.declared.vec.Vec.{Vec}
+use Rattle.std.specs.{declared.alloc.AllocError.AllocError, declared.alloc.Global.Global, declared.boxed.Box.Box, declared.vec.Vec.Vec}
 use Rattle.swc_context.specs.declared.span.Span.{Span}
-use Rattle.swc_ast.specs.Tree.{Tree}
-use Rattle.swc_ast.specs.declared.expr.AssignTarget.TheFolds.{the_lemmas}
+use Rattle.swc_ast.specs.{Tree.Tree, declared.expr.AssignTarget.TheFolds.the_lemmas, declared.expr.Expr.Expr, declared.expr.SimpleAssignTarget.SimpleAssignTarget, declared.pat.ObjectPatProp.ObjectPatProp, declared.pat.Pat.Pat}
 use Rattle.swc_ast.specs.declared.expr.AssignTarget.TheVariants as target
-use Rattle.swc_ast.specs.declared.expr.Expr.{Expr}
-use Rattle.swc_ast.specs.declared.expr.SimpleAssignTarget.{SimpleAssignTarget}
-use Rattle.swc_ast.specs.declared.pat.ObjectPatProp.{ObjectPatProp}
-use Rattle.swc_ast.specs.declared.pat.Pat.{Pat}
-use Rattle.swc_nodes.specs.NodeParts.{Part, View, Form, target_expr, other_expr, target_pat, other_pat, pat, simple}
-use Rattle.swc_nodes.specs.NodeParts.{pattern, form, view_ok, flat}
+use Rattle.swc_nodes.specs.NodeParts.{Part, View, Form, target_expr, other_expr, target_pat, other_pat, pat, simple, pattern, form, view_ok, flat}
 use Rattle.swc_nodes.specs.declared.node.Node.{Node}
-use Rattle.swc_trees.specs.Moving.{IsNode}
 use Rattle.swc_trees.specs.Splitting.{part, target_view, built_view, places, AreAt, SplitsTo}
-use Rattle.swc_trees.specs.declared.built.Built.{Built}
+use Rattle.swc_trees.specs.{Moving.IsNode, declared.built.Built.Built}
 use Rattle.swc_trees.proofs.Agreed.{flat-append}
 
 pub flat-more : {X Y : Type 0} (f : X → List Y) (xs : List X) (x : X) → flat f (xs ++ x ∷ []) ≡ flat f xs ++ f x

@@ -1,13 +1,9 @@
 -- What was moved out of an expression whole: a function, a class, and the parts of an arrow function.
 use Rattle.std.proofs.Common.{◌≡◌, Bool, Option, Some, None, sym, ap, ◌∙◌}
-use Rattle.std.specs.declared.alloc.Global.{Global}
-use Rattle.std.specs.declared.boxed.Box.{Box}
-use Rattle.std.specs.declared.vec.Vec.{Vec}
+use Rattle.std.specs.{declared.alloc.Global.Global, declared.boxed.Box.Box, declared.vec.Vec.Vec}
 use Rattle.swc_context.specs.declared.span.Span.{Span}
-use Rattle.swc_ast.specs.declared.expr.BlockStmtOrExpr.{BlockStmtOrExpr}
-use Rattle.swc_ast.specs.declared.expr.Expr.{Expr}
+use Rattle.swc_ast.specs.{declared.expr.BlockStmtOrExpr.BlockStmtOrExpr, declared.expr.Expr.Expr, declared.pat.Pat.Pat}
 use Rattle.swc_ast.specs.declared.expr.Expr.TheVariants as e
-use Rattle.swc_ast.specs.declared.pat.Pat.{Pat}
 
 pub none-out : {T : Type 0} (r : Option T) (t : T) → r ≡ Some t → r ≡ None → ⊥
 none-out r t s n = cc

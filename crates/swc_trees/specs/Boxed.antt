@@ -1,21 +1,10 @@
 -- Which expressions and properties are put in by which function.
 use Rattle.std.specs.Prelude.{◌≡◌, ◌⊎◌, Bool, Option}
-use Rattle.std.specs.declared.alloc.Global.{Global}
-use Rattle.std.specs.declared.boxed.Box.{Box}
-use Rattle.std.specs.declared.vec.Vec.{Vec}
-use Rattle.swc_context.specs.declared.operator.AssignOp.{AssignOp}
-use Rattle.swc_context.specs.declared.operator.BinaryOp.{BinaryOp}
-use Rattle.swc_context.specs.declared.operator.UpdateOp.{UpdateOp}
-use Rattle.swc_context.specs.declared.span.Span.{Span}
-use Rattle.swc_ast.specs.declared.expr.AssignTarget.{AssignTarget}
-use Rattle.swc_ast.specs.declared.expr.BlockStmtOrExpr.{BlockStmtOrExpr}
-use Rattle.swc_ast.specs.declared.expr.Expr.{Expr}
+use Rattle.std.specs.{declared.alloc.Global.Global, declared.boxed.Box.Box, declared.vec.Vec.Vec}
+use Rattle.swc_context.specs.{declared.operator.AssignOp.AssignOp, declared.operator.BinaryOp.BinaryOp, declared.operator.UpdateOp.UpdateOp, declared.span.Span.Span}
+use Rattle.swc_ast.specs.{declared.expr.AssignTarget.AssignTarget, declared.expr.BlockStmtOrExpr.BlockStmtOrExpr, declared.expr.Expr.Expr, declared.function.Function.Function, declared.pat.Pat.Pat, declared.prop.Prop.Prop, declared.prop.PropName.PropName}
 use Rattle.swc_ast.specs.declared.expr.Expr.TheVariants as e
-use Rattle.swc_ast.specs.declared.function.Function.{Function}
-use Rattle.swc_ast.specs.declared.pat.Pat.{Pat}
-use Rattle.swc_ast.specs.declared.prop.Prop.{Prop}
 use Rattle.swc_ast.specs.declared.prop.Prop.TheVariants as p
-use Rattle.swc_ast.specs.declared.prop.PropName.{PropName}
 
 module _ {F C K : Type 0} where
   -- one of those that may hold a value of the hook themselves

@@ -1,18 +1,12 @@
 -- Trees that were taken out, and what is made of them: the part of a node, or the node, that they are parts of.
 use Rattle.std.specs.Prelude.{◌≡◌, ℕ, List, ◌++◌, Result, IfOk, map}
-use Rattle.std.specs.declared.alloc.AllocError.{AllocError}
-use Rattle.std.specs.declared.alloc.Global.{Global}
-use Rattle.std.specs.declared.boxed.Box.{Box}
+use Rattle.std.specs.{declared.alloc.AllocError.AllocError, declared.alloc.Global.Global, declared.boxed.Box.Box}
 use Rattle.swc_context.specs.declared.span.Span.{Span}
-use Rattle.swc_ast.specs.Tree.{Tree}
 use Rattle.swc_ast.specs.TreeOf.{expr_tree, boxed_tree, pat_tree, target_tree}
-use Rattle.swc_ast.specs.declared.expr.Expr.{Expr}
-use Rattle.swc_nodes.specs.NodeTree.{node_tree, expr_of}
+use Rattle.swc_ast.specs.{Tree.Tree, declared.expr.Expr.Expr}
 use Rattle.swc_nodes.specs.NodeParts.{View, Part, expr, pat, simple, pattern, slots}
-use Rattle.swc_nodes.specs.declared.node.ExprId.{ExprId}
-use Rattle.swc_nodes.specs.declared.node.Node.{Node}
-use Rattle.swc_trees.specs.declared.built.Built.{Built}
-use Rattle.swc_trees.specs.declared.built.Built.TheVariants as built
+use Rattle.swc_nodes.specs.{NodeTree.node_tree, NodeTree.expr_of, declared.node.ExprId.ExprId, declared.node.Node.Node}
+use Rattle.swc_trees.specs.declared.built.Built.{Built, Built as built}
 
 -- what a tree is
 pub data Kind : Type 0 where

@@ -1,9 +1,6 @@
 -- Which nodes are taken out by which function.
 use Rattle.std.specs.Prelude.{Bool, true, false}
-use Rattle.swc_nodes.specs.declared.node.Node.{Node}
-use Rattle.swc_nodes.specs.declared.node.Node.TheVariants as n
-use Rattle.swc_nodes.specs.declared.node.PropNode.{PropNode}
-use Rattle.swc_nodes.specs.declared.node.PropNode.TheVariants as prop
+use Rattle.swc_nodes.specs.{declared.node.Node.Node, declared.node.Node.Node as n, declared.node.PropNode.PropNode, declared.node.PropNode.PropNode as prop}
 
 -- a call or an arrow function
 abbrev pub is_call : {F C K : Type 0} → Node F C K → Bool

@@ -2,11 +2,9 @@
 use Rattle.std.specs.Prelude.{◌≡◌, ℕ, true, List, [], ◌∷◌, ◌++◌}
 use Rattle.swc_context.specs.declared.span.Span.{Span}
 use Rattle.swc_ast.specs.Tree.{Tree}
-use Rattle.swc_nodes.specs.NodeTree.{node_tree}
 use Rattle.swc_nodes.specs.NodeParts.{Part, form, view_ok, slots}
-use Rattle.swc_nodes.specs.Walking.{part_of}
-use Rattle.swc_trees.specs.Moving.{AreGiven}
-use Rattle.swc_trees.specs.declared.taking.Lifted.{Lifted}
+use Rattle.swc_nodes.specs.{NodeTree.node_tree, Walking.part_of}
+use Rattle.swc_trees.specs.{Moving.AreGiven, declared.taking.Lifted.Lifted}
 
 -- the hook's types, and where their values are
 module _ {F C K : Type 0} (fun_at : F → Span) (class_at : C → Span) (block_at : K → Span) where

@@ -1,28 +1,13 @@
 -- What moving trees out of the nodes, and into them, does.
 use Rattle.std.specs.Prelude.{◌≡◌, ℕ, true, List, [], ◌∷◌, Result, IfOk}
-use Rattle.std.specs.declared.alloc.AllocError.{AllocError}
-use Rattle.std.specs.declared.alloc.Global.{Global}
-use Rattle.std.specs.declared.boxed.Box.{Box}
+use Rattle.std.specs.{declared.alloc.AllocError.AllocError, declared.alloc.Global.Global, declared.boxed.Box.Box}
 use Rattle.swc_context.specs.declared.span.Span.{Span}
-use Rattle.swc_ast.specs.Tree.{Tree}
-use Rattle.swc_ast.specs.declared.spanned.Spanned.{Ghosts}
 use Rattle.swc_ast.specs.TreeOf.{boxed_tree, pat_tree, pat_prop_tree, prop_or_spread_tree}
-use Rattle.swc_ast.specs.declared.expr.Expr.{Expr}
-use Rattle.swc_ast.specs.declared.for_head.ForHead.{ForHead}
-use Rattle.swc_ast.specs.declared.for_head.ForHead.TheVariants as boxed_head
-use Rattle.swc_ast.specs.declared.pat.ObjectPatProp.{ObjectPatProp}
-use Rattle.swc_ast.specs.declared.pat.Pat.{Pat}
-use Rattle.swc_ast.specs.declared.prop.PropOrSpread.{PropOrSpread}
+use Rattle.swc_ast.specs.{Tree.Tree, declared.spanned.Spanned.Ghosts, declared.expr.Expr.Expr, declared.for_head.ForHead.ForHead, declared.for_head.ForHead.ForHead as boxed_head, declared.pat.ObjectPatProp.ObjectPatProp, declared.pat.Pat.Pat, declared.prop.PropOrSpread.PropOrSpread}
 use Rattle.swc_nodes.specs.NodeTree.{marked_tree, prop_of, pat_prop_of}
-use Rattle.swc_nodes.specs.NumberedTrees.{floor}
 use Rattle.swc_nodes.specs.NodeParts.{Part, View, form, view_ok}
 use Rattle.swc_nodes.specs.GrowingNodes.{count, seat_at, tree_at, bare_at, Apart, Grows, Left}
-use Rattle.swc_nodes.specs.declared.node.ForHeadId.{ForHeadId}
-use Rattle.swc_nodes.specs.declared.node.ForHeadId.TheVariants as head
-use Rattle.swc_nodes.specs.declared.node.Node.{Node}
-use Rattle.swc_nodes.specs.declared.node.PatPropNode.{PatPropNode}
-use Rattle.swc_nodes.specs.declared.node.PropNode.{PropNode}
-use Rattle.swc_nodes.specs.declared.nodes.Nodes.{Nodes}
+use Rattle.swc_nodes.specs.{NumberedTrees.floor, declared.node.ForHeadId.ForHeadId, declared.node.ForHeadId.ForHeadId as head, declared.node.Node.Node, declared.node.PatPropNode.PatPropNode, declared.node.PropNode.PropNode, declared.nodes.Nodes.Nodes}
 
 -- what is given for each part is what it has there
 abbrev pub AreGiven : {F C K : Type 0} → (ℕ → Tree F C K) → (ℕ → Tree F C K) → List Part → Type 0

@@ -2,11 +2,7 @@
 use Rattle.std.specs.Prelude.{◌≡◌, List, [], ◌∷◌, ◌++◌, length}
 use Rattle.swc_context.specs.declared.span.Span.{Span}
 use Rattle.swc_nodes.specs.NodeParts.{slots}
-use Rattle.swc_trees.specs.Building.{built_tree}
-use Rattle.swc_trees.specs.Moving.{IsNode}
-use Rattle.swc_trees.specs.Splitting.{Split, built_view}
-use Rattle.swc_trees.specs.declared.built.Built.{Built}
-use Rattle.swc_trees.specs.declared.putting.Shell.{Shell}
+use Rattle.swc_trees.specs.{Building.built_tree, Moving.IsNode, Splitting.Split, Splitting.built_view, declared.built.Built.Built, declared.putting.Shell.Shell}
 
 module _ {F C K : Type 0} (fun_at : F → Span) (class_at : C → Span) (block_at : K → Span) where
   -- The node is one for a tree, whose parts are the last of the list, from the place `from` on. `rest` holds of the list where the tree takes their place.

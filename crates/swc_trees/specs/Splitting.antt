@@ -1,30 +1,14 @@
 -- Trees whose parts were moved out of them, onto the end of a list: what holds the parts has their places in the list as numbers.
 use Rattle.std.specs.Prelude.{◌≡◌, ℕ, suc, List, [], ◌∷◌, ◌++◌, length, Result, IfOk}
-use Rattle.std.specs.declared.alloc.AllocError.{AllocError}
-use Rattle.std.specs.declared.alloc.Global.{Global}
-use Rattle.std.specs.declared.boxed.Box.{Box}
+use Rattle.std.specs.{declared.alloc.AllocError.AllocError, declared.alloc.Global.Global, declared.boxed.Box.Box}
 use Rattle.swc_context.specs.declared.span.Span.{Span}
-use Rattle.swc_ast.specs.Tree.{Tree}
 use Rattle.swc_ast.specs.TreeOf.{expr_tree, boxed_tree, pat_tree, pat_prop_tree, prop_tree, prop_or_spread_tree, target_tree}
-use Rattle.swc_ast.specs.declared.expr.AssignTarget.{AssignTarget}
-use Rattle.swc_ast.specs.declared.expr.AssignTarget.TheFolds.{fold-AssignTarget}
+use Rattle.swc_ast.specs.{Tree.Tree, declared.expr.AssignTarget.AssignTarget, declared.expr.AssignTarget.TheFolds.fold-AssignTarget, declared.expr.Expr.Expr, declared.pat.ObjectPatProp.ObjectPatProp, declared.pat.Pat.Pat, declared.prop.Prop.Prop, declared.prop.PropOrSpread.PropOrSpread}
 use Rattle.swc_ast.specs.declared.expr.AssignTarget.TheOpen as o
-use Rattle.swc_ast.specs.declared.expr.Expr.{Expr}
-use Rattle.swc_ast.specs.declared.pat.ObjectPatProp.{ObjectPatProp}
-use Rattle.swc_ast.specs.declared.pat.Pat.{Pat}
-use Rattle.swc_ast.specs.declared.prop.Prop.{Prop}
-use Rattle.swc_ast.specs.declared.prop.PropOrSpread.{PropOrSpread}
 use Rattle.swc_nodes.specs.NodeTree.{expr_of, pat_of, prop_of, pat_prop_of}
 use Rattle.swc_nodes.specs.NodeParts.{Part, View, expr, pat, simple, pattern, slots, prop_parts, pat_prop_parts}
-use Rattle.swc_nodes.specs.declared.node.ExprId.{ExprId}
-use Rattle.swc_nodes.specs.declared.node.Node.{Node}
-use Rattle.swc_nodes.specs.declared.node.PatId.{PatId}
-use Rattle.swc_nodes.specs.declared.node.PatPropNode.{PatPropNode}
-use Rattle.swc_nodes.specs.declared.node.PropNode.{PropNode}
-use Rattle.swc_trees.specs.Building.{built_tree}
-use Rattle.swc_trees.specs.Moving.{IsNode}
-use Rattle.swc_trees.specs.declared.built.Built.{Built}
-use Rattle.swc_trees.specs.declared.built.Built.TheVariants as built
+use Rattle.swc_nodes.specs.{declared.node.ExprId.ExprId, declared.node.Node.Node, declared.node.PatId.PatId, declared.node.PatPropNode.PatPropNode, declared.node.PropNode.PropNode}
+use Rattle.swc_trees.specs.{Building.built_tree, Moving.IsNode, declared.built.Built.Built, declared.built.Built.Built as built}
 
 -- what the node of a tree is to be
 module _ (F C K : Type 0) where

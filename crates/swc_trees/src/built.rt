@@ -2,8 +2,7 @@
 // order of its parts, and
 // are taken from its end.
 ghost use Rattle.std.specs.Prelude.{◌≡◌, ◌∷◌, []};
-ghost use Rattle.swc_ast.specs.Parts.{or_hole};
-ghost use Rattle.swc_ast.specs.TreeOf.{pat_tree, target_tree};
+ghost use Rattle.swc_ast.specs.{Parts.or_hole, TreeOf.pat_tree, TreeOf.target_tree};
 ghost use Rattle.swc_nodes.specs.NodeTree.{target_of};
 ghost use Rattle.swc_nodes.specs.NodeParts.{if_some, one_expr, one_pat, target_part};
 ghost use Rattle.swc_trees.specs.Building.{Assembles, Offers, Assembled};

@@ -3,10 +3,8 @@ ghost use Rattle.std.specs.Prelude.{◌≡◌, ◌++◌, true, map, IfOk};
 ghost use Rattle.swc_ast.specs.Parts.{or_hole, item_tree, param_tree, function_tree};
 ghost use Rattle.swc_ast.specs.TreeOf.{boxed_tree, pat_tree, pat_prop_tree, prop_tree, prop_or_spread_tree};
 ghost use Rattle.swc_nodes.specs.NodeTree.{expr_of, pat_of, prop_of, pat_prop_of};
-ghost use Rattle.swc_nodes.specs.NodeParts.{flat, if_some, one_expr, one_pat, item_parts, param_parts, prop_parts};
-ghost use Rattle.swc_nodes.specs.NodeParts.{pat_prop_parts};
-ghost use Rattle.swc_trees.specs.Building.{Offers, Assembled};
-ghost use Rattle.swc_trees.specs.Kinds.{is_named};
+ghost use Rattle.swc_nodes.specs.NodeParts.{flat, if_some, one_expr, one_pat, item_parts, param_parts, prop_parts, pat_prop_parts};
+ghost use Rattle.swc_trees.specs.{Building.Offers, Building.Assembled, Kinds.is_named};
 
 use crate::built::{Built, pop_expr, pop_if_some, pop_pat};
 use crate::pieces::key;

@@ -1,4 +1,4 @@
-// Letting go of boxed trees. A crate that is handed one lets it go here, so that this is proved once.
+// Dropping boxed trees. A crate that is handed one drops it here, so that this is proved once.
 use swc_ast::expr::{Expr, ExprOrSpread};
 use swc_ast::function::Param;
 use swc_ast::pat::{ObjectPatProp, Pat};

@@ -1,7 +1,6 @@
 // What holds no tree, moved out of a tree; and what is left there.
 ghost use Rattle.std.specs.Prelude.{◌≡◌, ℕ, [], IfOk};
-ghost use Rattle.swc_ast.specs.Parts.{lit_tree};
-ghost use Rattle.swc_ast.specs.Tree.{Tree};
+ghost use Rattle.swc_ast.specs.{Parts.lit_tree, Tree.Tree};
 ghost use Rattle.swc_nodes.specs.NodeTree.{marked_tree};
 ghost use Rattle.swc_nodes.specs.NodeParts.{other_expr, form, slots};
 

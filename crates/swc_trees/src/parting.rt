@@ -1,16 +1,11 @@
 // The parts of an expression, a pattern or a target that hold parts of their own: numbers, which are places in a list,
 // take the place of the trees in them, the first first. What holds a value of the hook is moved out whole.
 ghost use Rattle.std.specs.Prelude.{◌≡◌, ◌++◌};
-ghost use Rattle.swc_ast.specs.Parts.{leaf, or_hole, binding_tree, paren_tree, member_tree, member_prop_tree};
-ghost use Rattle.swc_ast.specs.Parts.{super_prop_tree, super_part_tree, chain_tree, chain_call_tree, base_tree};
-ghost use Rattle.swc_ast.specs.Parts.{callee_tree, args_tree, tpl_tree, body_tree, prop_name_tree, computed_tree};
-ghost use Rattle.swc_ast.specs.Parts.{function_tree, rest_tree, cover_tree, spread_tree};
+ghost use Rattle.swc_ast.specs.Parts.{leaf, or_hole, binding_tree, paren_tree, member_tree, member_prop_tree, super_prop_tree, super_part_tree, chain_tree, chain_call_tree, base_tree, callee_tree, args_tree, tpl_tree, body_tree, prop_name_tree, computed_tree, function_tree, rest_tree, cover_tree, spread_tree};
 ghost use Rattle.swc_ast.specs.Tree.{node, cons, nil, block, key_value, method, getter, setter, binding_prop};
 ghost use Rattle.swc_ast.specs.TreeOf.{prop_or_spread_tree, pat_prop_tree};
 ghost use Rattle.swc_nodes.specs.NodeTree.{prop_of, pat_prop_of};
-ghost use Rattle.swc_nodes.specs.NodeParts.{flat, if_some, one_expr, args_parts, key_parts, member_parts, super_parts};
-ghost use Rattle.swc_nodes.specs.NodeParts.{callee_parts, base_parts, body_parts, param_parts, prop_parts};
-ghost use Rattle.swc_nodes.specs.NodeParts.{pat_prop_parts};
+ghost use Rattle.swc_nodes.specs.NodeParts.{flat, if_some, one_expr, args_parts, key_parts, member_parts, super_parts, callee_parts, base_parts, body_parts, param_parts, prop_parts, pat_prop_parts};
 ghost use Rattle.swc_trees.specs.Boxed.{HookedProp};
 ghost use Rattle.swc_trees.specs.Splitting.{Splits, SplitsProp, SplitsPatProp};
 

@@ -1,10 +1,7 @@
 // The parts of a node that hold parts of their own: trees take the place of the numbers in them, the last first.
 ghost use Rattle.std.specs.Prelude.{◌≡◌, ◌++◌};
-ghost use Rattle.swc_ast.specs.Parts.{or_hole, paren_tree, member_tree, member_prop_tree, super_prop_tree};
-ghost use Rattle.swc_ast.specs.Parts.{super_part_tree, chain_tree, base_tree, callee_tree, args_tree, tpl_tree};
-ghost use Rattle.swc_ast.specs.Parts.{body_tree, prop_name_tree};
-ghost use Rattle.swc_nodes.specs.NodeParts.{flat, if_some, one_expr, args_parts, key_parts, member_parts, super_parts};
-ghost use Rattle.swc_nodes.specs.NodeParts.{callee_parts, base_parts, body_parts};
+ghost use Rattle.swc_ast.specs.Parts.{or_hole, paren_tree, member_tree, member_prop_tree, super_prop_tree, super_part_tree, chain_tree, base_tree, callee_tree, args_tree, tpl_tree, body_tree, prop_name_tree};
+ghost use Rattle.swc_nodes.specs.NodeParts.{flat, if_some, one_expr, args_parts, key_parts, member_parts, super_parts, callee_parts, base_parts, body_parts};
 ghost use Rattle.swc_trees.specs.Building.{Assembles, AssemblesIf, Offers};
 
 use crate::built::{Built, pop_expr};

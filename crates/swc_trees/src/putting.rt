@@ -6,10 +6,8 @@ ghost use Rattle.std.specs.Prelude.{◌≡◌, [], ◌∷◌, map, reverse, IfOk
 ghost use Rattle.swc_ast.specs.Parts.{args_tree};
 ghost use Rattle.swc_nodes.specs.NodeParts.{expr_part, pat_part, args_parts};
 ghost use Rattle.swc_nodes.specs.GrowingNodes.{count, tree_at, Apart, Grows, Made};
-ghost use Rattle.swc_trees.specs.Building.{built_tree};
 ghost use Rattle.swc_trees.specs.Moving.{PutsIn, boxed_in, pat_in};
-ghost use Rattle.swc_trees.specs.Shells.{Reads};
-ghost use Rattle.swc_trees.specs.Splitting.{built_view, numbered};
+ghost use Rattle.swc_trees.specs.{Building.built_tree, Shells.Reads, Splitting.built_view, Splitting.numbered};
 
 use crate::built::Built;
 use crate::placing::split_all;

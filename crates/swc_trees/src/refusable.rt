@@ -1,4 +1,4 @@
-// What becomes of parts that may have been refused. Only here is a part let go, where another was refused.
+// What becomes of parts that may have been refused. Only here is a part dropped, where another was refused.
 ghost use Rattle.std.specs.Prelude.{◌≡◌, IfOk};
 
 use std::alloc::{AllocError, Global};

@@ -2,18 +2,12 @@
 // their places in the list stand for them. The first part is moved first, as in the source. What is moved leaves an
 // empty tree after; no text and no value of the hook is copied.
 ghost use Rattle.std.specs.Prelude.{◌≡◌, Bool, map};
-ghost use Rattle.std.specs.declared.alloc.Global.{Global};
-ghost use Rattle.std.specs.declared.boxed.Box.{Box};
-ghost use Rattle.std.specs.declared.vec.Vec.{Vec};
-ghost use Rattle.swc_ast.specs.declared.expr.BlockStmtOrExpr.{BlockStmtOrExpr};
-ghost use Rattle.swc_ast.specs.declared.expr.Expr.{Expr};
+ghost use Rattle.std.specs.{declared.alloc.Global.Global, declared.boxed.Box.Box, declared.vec.Vec.Vec};
+ghost use Rattle.swc_ast.specs.Parts.{or_hole, item_tree, item_trees, callee_tree, args_tree, tpl_tree, body_tree, rest_tree, simple_tree};
+ghost use Rattle.swc_ast.specs.Tree.{node, cons, nil, unary, update, bin, cond, assign, call, new, tagged, arrow, await, yield, seq, default, array, object, trees};
+ghost use Rattle.swc_ast.specs.{declared.expr.BlockStmtOrExpr.BlockStmtOrExpr, declared.expr.Expr.Expr, declared.pat.Pat.Pat};
 ghost use Rattle.swc_ast.specs.declared.expr.Expr.TheVariants as e;
-ghost use Rattle.swc_ast.specs.declared.pat.Pat.{Pat};
 ghost use Rattle.swc_context.specs.declared.span.Span.{Span};
-ghost use Rattle.swc_ast.specs.Parts.{or_hole, item_tree, item_trees, callee_tree, args_tree, tpl_tree, body_tree};
-ghost use Rattle.swc_ast.specs.Parts.{rest_tree, simple_tree};
-ghost use Rattle.swc_ast.specs.Tree.{node, cons, nil, unary, update, bin, cond, assign, call, new, tagged, arrow};
-ghost use Rattle.swc_ast.specs.Tree.{await, yield, seq, default, array, object, trees};
 ghost use Rattle.swc_nodes.specs.NodeParts.{expr as as_expr, pat as as_pat, simple as as_simple, pattern as as_pattern};
 ghost use Rattle.swc_trees.specs.Boxed.{Hooked, IsArrow, Short};
 ghost use Rattle.swc_trees.specs.Splitting.{SplitsNode, built_view, target_view};

@@ -2,17 +2,12 @@
 // the trees, each from the trees of its parts. So no recursion goes as deep as a tree.
 ghost use Rattle.std.specs.Prelude.{◌≡◌, true, [], map, reverse, IfOk};
 ghost use Rattle.swc_ast.specs.Parts.{prop_name_tree, args_tree, param_tree, tpl_tree};
-ghost use Rattle.swc_nodes.specs.Lists.{exprs_parts, pats_parts};
-ghost use Rattle.swc_nodes.specs.NodeTree.{node_tree};
-ghost use Rattle.swc_nodes.specs.NumberedTrees.{floor};
-ghost use Rattle.swc_nodes.specs.NodeParts.{form, view_ok, slots, expr_part, pat_part, key_parts, prop_parts};
-ghost use Rattle.swc_nodes.specs.NodeParts.{args_parts, flat, for_head_parts, param_parts, pat_prop_parts};
+ghost use Rattle.swc_nodes.specs.NodeParts.{form, view_ok, slots, expr_part, pat_part, key_parts, prop_parts, args_parts, flat, for_head_parts, param_parts, pat_prop_parts};
 ghost use Rattle.swc_nodes.specs.GrowingNodes.{count, seat_at, bare_at, first_at, Apart, From, Left};
-ghost use Rattle.swc_nodes.specs.Walking.{part_of};
+ghost use Rattle.swc_nodes.specs.{Lists.exprs_parts, Lists.pats_parts, NodeTree.node_tree, NumberedTrees.floor, Walking.part_of};
 ghost use Rattle.swc_trees.specs.Building.{part_kind, built_kind, built_tree, AreFor, Offers, Assembled};
 ghost use Rattle.swc_trees.specs.Lifting.{Reads};
-ghost use Rattle.swc_trees.specs.Moving.{TakesOut, boxed_in, pat_in, prop_or_spread_in, prop_node_as};
-ghost use Rattle.swc_trees.specs.Moving.{pat_prop_in, pat_prop_node_as, IsHead};
+ghost use Rattle.swc_trees.specs.Moving.{TakesOut, boxed_in, pat_in, prop_or_spread_in, prop_node_as, pat_prop_in, pat_prop_node_as, IsHead};
 
 use crate::assembling::{assemble_expr, assemble_pat, assemble_pattern, assemble_simple};
 use crate::built::{Built, pop_expr, pop_pat};
@@ -38,7 +33,7 @@ pub(crate) struct Lifted<F, C, K> {
     node: Node<F, C, K>,
 }
 
-/// Moves an expression out of the nodes, and lets go of all after it.
+/// Moves an expression out of the nodes, and drops all after it.
 pub fn take_expr<F: Spanned + Drop, C: Spanned + Drop, K: Spanned + Drop>(
     nodes: &mut Nodes<F, C, K>,
     alloc: Global,
@@ -53,7 +48,7 @@ pub fn take_expr<F: Spanned + Drop, C: Spanned + Drop, K: Spanned + Drop>(
     Ok(pop_expr(&mut built, id))
 }
 
-/// Moves a pattern out of the nodes, and lets go of all after it.
+/// Moves a pattern out of the nodes, and drops all after it.
 pub fn take_pat<F: Spanned + Drop, C: Spanned + Drop, K: Spanned + Drop>(
     nodes: &mut Nodes<F, C, K>,
     alloc: Global,
@@ -68,7 +63,7 @@ pub fn take_pat<F: Spanned + Drop, C: Spanned + Drop, K: Spanned + Drop>(
     Ok(pop_pat(&mut built, id))
 }
 
-/// Moves what the head of a `for` begins with out of the nodes, and lets go of all after it.
+/// Moves what the head of a `for` begins with out of the nodes, and drops all after it.
 pub fn take_for_head<F: Spanned + Drop, C: Spanned + Drop, K: Spanned + Drop>(
     nodes: &mut Nodes<F, C, K>,
     alloc: Global,
@@ -87,7 +82,7 @@ pub fn take_for_head<F: Spanned + Drop, C: Spanned + Drop, K: Spanned + Drop>(
     }
 }
 
-/// Moves what a key holds out of the nodes, and lets go of all after it. Other keys than expressions hold none.
+/// Moves what a key holds out of the nodes, and drops all after it. Other keys than expressions hold none.
 pub fn take_key<F: Spanned + Drop, C: Spanned + Drop, K: Spanned + Drop>(
     nodes: &mut Nodes<F, C, K>,
     alloc: Global,
@@ -110,7 +105,7 @@ pub fn take_key<F: Spanned + Drop, C: Spanned + Drop, K: Spanned + Drop>(
     }
 }
 
-/// Moves a property of an object literal out of the nodes, and lets go of all after it.
+/// Moves a property of an object literal out of the nodes, and drops all after it.
 pub fn take_prop<F: Spanned + Drop, C: Spanned + Drop, K: Spanned + Drop>(
     nodes: &mut Nodes<F, C, K>,
     alloc: Global,
@@ -127,7 +122,7 @@ pub fn take_prop<F: Spanned + Drop, C: Spanned + Drop, K: Spanned + Drop>(
     prop.into_inner().assemble(alloc, &mut built)
 }
 
-/// Moves a property of an object pattern out of the nodes, and lets go of all after it.
+/// Moves a property of an object pattern out of the nodes, and drops all after it.
 pub fn take_pat_prop<F: Spanned + Drop, C: Spanned + Drop, K: Spanned + Drop>(
     nodes: &mut Nodes<F, C, K>,
     alloc: Global,
@@ -143,7 +138,7 @@ pub fn take_pat_prop<F: Spanned + Drop, C: Spanned + Drop, K: Spanned + Drop>(
     prop.assemble(alloc, &mut built)
 }
 
-/// Moves formal parameters out of the nodes, and lets go of all after them.
+/// Moves formal parameters out of the nodes, and drops all after them.
 pub fn take_params<F: Spanned + Drop, C: Spanned + Drop, K: Spanned + Drop>(
     nodes: &mut Nodes<F, C, K>,
     alloc: Global,
@@ -160,7 +155,7 @@ pub fn take_params<F: Spanned + Drop, C: Spanned + Drop, K: Spanned + Drop>(
     all(alloc, &mut built, params)
 }
 
-/// Moves patterns, as the parameters of an arrow function, out of the nodes, and lets go of all after them.
+/// Moves patterns, as the parameters of an arrow function, out of the nodes, and drops all after them.
 pub fn take_pats<F: Spanned + Drop, C: Spanned + Drop, K: Spanned + Drop>(
     nodes: &mut Nodes<F, C, K>,
     alloc: Global,
@@ -176,7 +171,7 @@ pub fn take_pats<F: Spanned + Drop, C: Spanned + Drop, K: Spanned + Drop>(
     all(alloc, &mut built, pats)
 }
 
-/// Moves arguments of a call out of the nodes, and lets go of all after them.
+/// Moves arguments of a call out of the nodes, and drops all after them.
 pub fn take_args<F: Spanned + Drop, C: Spanned + Drop, K: Spanned + Drop>(
     nodes: &mut Nodes<F, C, K>,
     alloc: Global,
@@ -192,7 +187,7 @@ pub fn take_args<F: Spanned + Drop, C: Spanned + Drop, K: Spanned + Drop>(
     all(alloc, &mut built, args)
 }
 
-/// Moves what a template holds out of the nodes, and lets go of all after it.
+/// Moves what a template holds out of the nodes, and drops all after it.
 pub fn take_tpl<F: Spanned + Drop, C: Spanned + Drop, K: Spanned + Drop>(
     nodes: &mut Nodes<F, C, K>,
     alloc: Global,

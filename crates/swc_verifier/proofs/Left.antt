@@ -1,19 +1,12 @@
 -- Which cover names are left: none, where the tree has none; and those of the parts, where a tree is made of parts.
 use Rattle.std.proofs.Common.{◌≡◌, ℕ, true, List, [], ◌∷◌, ◌++◌, map, refl, ap, ◌∙◌, arith}
 use Rattle.std.proofs.lemmas.List.Elements.{All-same}
-use Rattle.std.specs.declared.alloc.Global.{Global}
-use Rattle.std.specs.declared.vec.Vec.{Vec}
-use Rattle.swc_ast.specs.Parts.{args_tree}
-use Rattle.swc_ast.specs.Pedantic.{no_cover_left, none_left}
+use Rattle.std.specs.{declared.alloc.Global.Global, declared.vec.Vec.Vec}
 use Rattle.swc_ast.specs.Tree.{cover, arrow, args, Tree, node, Trees, nil, cons, no_span, trees}
-use Rattle.swc_ast.specs.declared.expr.ExprOrSpread.{ExprOrSpread}
-use Rattle.swc_ast.specs.declared.spanned.Spanned.{Ghosts}
+use Rattle.swc_ast.specs.{Parts.args_tree, Pedantic.no_cover_left, Pedantic.none_left, declared.expr.ExprOrSpread.ExprOrSpread, declared.spanned.Spanned.Ghosts}
 use Rattle.swc_nodes.specs.GrowingNodes.{count, seat_at, Apart}
 use Rattle.swc_nodes.specs.NodeParts.{Part, flat, one_expr, one_pat, args_parts, prop_parts}
-use Rattle.swc_nodes.specs.declared.node.ExprId.{ExprId}
-use Rattle.swc_nodes.specs.declared.node.PatId.{PatId}
-use Rattle.swc_nodes.specs.declared.node.PropNode.{PropNode}
-use Rattle.swc_nodes.specs.declared.nodes.Nodes.{Nodes}
+use Rattle.swc_nodes.specs.{declared.node.ExprId.ExprId, declared.node.PatId.PatId, declared.node.PropNode.PropNode, declared.nodes.Nodes.Nodes}
 use Rattle.swc_nodes.proofs.Chains.{both_true, true_both}
 use Rattle.swc_verifier.specs.CoverNames.{covers_left, covers_left_of_all, covers_of_arrow, parts_covers_left}
 use Rattle.swc_verifier.specs.Dues.{Task, part_dues, prop_dues, names_due, is_within, AreWithin}

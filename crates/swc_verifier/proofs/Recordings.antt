@@ -1,21 +1,11 @@
 -- Faults that are recorded one after another.
 use Rattle.std.proofs.Common.{◌≡◌, ℕ, suc, ◌+◌, ◌<◌, ◌≤◌, Bool, true, false, not, List, [], ◌∷◌, ◌++◌, length, drop, get_or, Option, Some, None, refl, sym, ap, subst, ◌∙◌, append_assoc, drop-cons, add-one}
-use Rattle.std.proofs.Math.ListN.{drop_of_length-le}
-use Rattle.std.proofs.lemmas.List.{append-nil}
-use Rattle.swc_context.specs.Spans.{in_order}
-use Rattle.swc_context.specs.declared.error.Error.{Error}
-use Rattle.swc_context.specs.declared.error.SyntaxError.TheVariants.{AssignProperty}
+use Rattle.std.proofs.{Math.ListN.drop_of_length-le, lemmas.List.append-nil}
+use Rattle.swc_context.specs.{Spans.in_order, declared.error.Error.Error, declared.error.SyntaxError.TheVariants.AssignProperty, declared.span.Span.Span}
 use Rattle.swc_input.specs.Buffer.{Read, ReadSome, Lives, Known, Looked, current, state_of}
 use Rattle.swc_input.specs.Laws.{Read-then, Read-late, Read-same, Known-after, Known-Future, Future-current}
-use Rattle.swc_input.specs.Plain.{plain_token}
 use Rattle.swc_input.specs.Recording.{is_silent, is_fit, is_some, error_in, error_here, error_list, error_token, token_if, Recorded}
-use Rattle.swc_input.specs.Source.{Model, Laws}
-use Rattle.swc_input.specs.declared.buffer.Buffer.{Buffer}
-use Rattle.swc_input.specs.declared.token.Token.{Token}
-use Rattle.swc_input.specs.declared.token.Token.TheVariants as token
-use Rattle.swc_input.specs.declared.token.TokenAndSpan.{TokenAndSpan}
-use Rattle.swc_context.specs.declared.span.Span.{Span}
-use Rattle.swc_input.specs.Recordings.{RecordsAll}
+use Rattle.swc_input.specs.{Plain.plain_token, Source.Model, Source.Laws, declared.buffer.Buffer.Buffer, declared.token.Token.Token, declared.token.Token.Token as token, declared.token.TokenAndSpan.TokenAndSpan, Recordings.RecordsAll}
 use Rattle.swc_verifier.specs.Faults.{cover_faults, Appends, begins_fit}
 
 fit_error : (t : Token) → not (is_some (error_in t)) ≡ true → error_in t ≡ None

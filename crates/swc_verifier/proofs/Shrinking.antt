@@ -1,27 +1,19 @@
 -- What is left of a walk becomes less as a node is taken apart, and its names stay those that are to be found.
 use Rattle.std.proofs.Common.{◌≡◌, ℕ, suc, ◌+◌, ◌<◌, ◌≤◌, Bool, true, false, if◌then◌else◌, List, [], ◌∷◌, ◌++◌, Some, map, reverse, refl, sym, ap, ◌∙◌, append_assoc, arith}
-use Rattle.std.specs.List.{All, sum_by}
 use Rattle.std.proofs.lemmas.List.{append-nil, map-append, reverse-append}
 use Rattle.std.proofs.lemmas.List.Elements.{All-nil, All-cons, All-append, All-same, All-pop}
 use Rattle.std.proofs.lemmas.List.Sums.{sum_by-cons, sum_by-append, sum_by_push}
+use Rattle.std.specs.List.{All, sum_by}
 use Rattle.swc_context.specs.declared.span.Span.{Span}
-use Rattle.swc_ast.specs.Tree.{Tree}
-use Rattle.swc_ast.specs.declared.spanned.Spanned.{Ghosts}
+use Rattle.swc_ast.specs.{Tree.Tree, declared.spanned.Spanned.Ghosts}
 use Rattle.swc_nodes.specs.NumberedTrees.{Seat, floor, fits, chain}
 use Rattle.swc_nodes.specs.NodeParts.{Part, slots, flat, one_pat, body_parts, prop_parts, expr_part}
 use Rattle.swc_nodes.specs.GrowingNodes.{count, seat_at, tree_at, Stood}
-use Rattle.swc_nodes.specs.Weights.{ats, weight}
-use Rattle.swc_nodes.specs.declared.node.Node.{Node}
-use Rattle.swc_nodes.specs.declared.node.Node.TheVariants as n
-use Rattle.swc_nodes.specs.declared.node.PropNode.{PropNode}
-use Rattle.swc_nodes.specs.declared.node.PropNode.TheVariants as prop
-use Rattle.swc_nodes.specs.declared.nodes.Nodes.{Nodes}
+use Rattle.swc_nodes.specs.{Weights.ats, Weights.weight, declared.node.Node.Node, declared.node.Node.Node as n, declared.node.PropNode.PropNode, declared.node.PropNode.PropNode as prop, declared.nodes.Nodes.Nodes}
 use Rattle.swc_nodes.proofs.Chains.{both_true, fitting, chain-bound, chain-first, chain-second, floor-under}
-use Rattle.swc_nodes.proofs.Held.{stood-parts}
-use Rattle.swc_nodes.proofs.Weighed.{ats-append, parts_lighter}
-use Rattle.swc_verifier.specs.CoverNames.{covers_by}
+use Rattle.swc_nodes.proofs.{Held.stood-parts, Weighed.ats-append, Weighed.parts_lighter}
 use Rattle.swc_verifier.specs.Dues.{Task, go, note, due_of, part_dues, prop_dues, node_dues, names_due, steps_of, is_within, steps_left, AreWithin}
-use Rattle.swc_verifier.specs.declared.verifier.Due.{Due}
+use Rattle.swc_verifier.specs.{CoverNames.covers_by, declared.verifier.Due.Due}
 use Rattle.swc_verifier.proofs.Names.{names-append, stood-names}
 
 module _ {F C K : Type 0} (at : ℕ → Seat F C K) where

@@ -2,21 +2,10 @@
 use Rattle.std.specs.Prelude.{ℕ, ◌<◌, Bool, List, [], ◌∷◌, ◌++◌, map, if◌then◌else◌}
 use Rattle.std.specs.List.{All, sum_by}
 use Rattle.swc_context.specs.declared.span.Span.{Span}
-use Rattle.swc_ast.specs.Tree.{Tree}
-use Rattle.swc_ast.specs.declared.spanned.Spanned.{Ghosts}
-use Rattle.swc_nodes.specs.GrowingNodes.{count, seat_at}
+use Rattle.swc_ast.specs.{Tree.Tree, declared.spanned.Spanned.Ghosts}
 use Rattle.swc_nodes.specs.NodeParts.{Part, slots, flat, one_pat, body_parts, prop_parts}
-use Rattle.swc_nodes.specs.NumberedTrees.{Seat}
-use Rattle.swc_nodes.specs.Walking.{part_of}
-use Rattle.swc_nodes.specs.Weights.{weight}
-use Rattle.swc_nodes.specs.declared.node.Node.{Node}
-use Rattle.swc_nodes.specs.declared.node.Node.TheVariants as n
-use Rattle.swc_nodes.specs.declared.node.PropNode.{PropNode}
-use Rattle.swc_nodes.specs.declared.node.PropNode.TheVariants as prop
-use Rattle.swc_nodes.specs.declared.nodes.Nodes.{Nodes}
-use Rattle.swc_verifier.specs.CoverNames.{covers_by}
-use Rattle.swc_verifier.specs.declared.verifier.Due.{Due}
-use Rattle.swc_verifier.specs.declared.verifier.Due.TheVariants as d
+use Rattle.swc_nodes.specs.{GrowingNodes.count, GrowingNodes.seat_at, NumberedTrees.Seat, Walking.part_of, Weights.weight, declared.node.Node.Node, declared.node.Node.Node as n, declared.node.PropNode.PropNode, declared.node.PropNode.PropNode as prop, declared.nodes.Nodes.Nodes}
+use Rattle.swc_verifier.specs.{CoverNames.covers_by, declared.verifier.Due.Due, declared.verifier.Due.Due as d}
 
 -- to go through the tree of a number, or to note a cover name
 pub data Task : Type 0 where

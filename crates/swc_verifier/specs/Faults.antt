@@ -1,14 +1,7 @@
 -- What is recorded of cover names.
 use Rattle.std.specs.Prelude.{◌≡◌, ◌++◌, Bool, true, not, List, [], ◌∷◌, map}
-use Rattle.swc_context.specs.Spans.{in_order}
-use Rattle.swc_context.specs.declared.error.Error.{Error}
-use Rattle.swc_context.specs.declared.error.SyntaxError.TheVariants.{AssignProperty}
-use Rattle.swc_context.specs.declared.span.Span.{Span}
-use Rattle.swc_input.specs.Buffer.{Read, state_of}
-use Rattle.swc_input.specs.Recording.{error_in, is_some}
-use Rattle.swc_input.specs.Source.{Model}
-use Rattle.swc_input.specs.declared.buffer.Buffer.{Buffer}
-use Rattle.swc_input.specs.declared.token.TokenAndSpan.{TokenAndSpan}
+use Rattle.swc_context.specs.{Spans.in_order, declared.error.Error.Error, declared.error.SyntaxError.TheVariants.AssignProperty, declared.span.Span.Span}
+use Rattle.swc_input.specs.{Buffer.Read, Buffer.state_of, Recording.error_in, Recording.is_some, Source.Model, declared.buffer.Buffer.Buffer, declared.token.TokenAndSpan.TokenAndSpan}
 
 -- the fault that a cover name at the place is, with the ends of its place in order
 abbrev pub cover_fault : Span → Error

@@ -3,8 +3,7 @@
 ghost use Rattle.std.specs.Prelude.{◌≡◌, ◌++◌, true, false, map, List, [], IfOk, IfErr, IsOk, OnOk};
 ghost use Rattle.swc_input.specs.Buffer.{Read, ReadSome, Lives, Known, last_position, current, state_of};
 ghost use Rattle.swc_input.specs.Recording.{is_silent, is_fit, no_memory};
-ghost use Rattle.swc_input.specs.Recordings.{RecordsAll};
-ghost use Rattle.swc_input.specs.declared.token.TokenAndSpan.{TokenAndSpan};
+ghost use Rattle.swc_input.specs.{Recordings.RecordsAll, declared.token.TokenAndSpan.TokenAndSpan};
 ghost use Rattle.swc_nodes.specs.GrowingNodes.{tree_at, Apart, From};
 ghost use Rattle.swc_nodes.specs.NodeParts.{expr_part, prop_parts, flat};
 ghost use Rattle.swc_nodes.specs.NodeTree.{prop_of};

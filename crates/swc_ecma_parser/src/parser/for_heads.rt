@@ -32,7 +32,7 @@ impl<I: Tokens, B: Bodies<I>> Parser<I, B> {
     }
 
     /// What the head of a `for` begins with, as `parse_for_head` reads it: by its number among the nodes, which keeps
-    /// its tree until they are let go.
+    /// its tree until they are dropped.
     pub fn parse_for_head_id(&mut self, is_await: bool) -> PResult<ForHeadId>
         ensures { PromisedHead I.model B.is_faithful B.forms head_by_number is_await self.old result self.new }
     {

@@ -1,6 +1,5 @@
-// Functions, classes and blocks where a statement stands, which the hook reads, as calls of a parser.
-ghost use Rattle.swc_ecma_parser.specs.Calls.{Called};
-ghost use Rattle.swc_ecma_parser.specs.Promise.{HookReads};
+// Functions, classes and blocks where a statement is, which the hook reads, as calls of a parser.
+ghost use Rattle.swc_ecma_parser.specs.{Calls.Called, Promise.HookReads};
 
 use crate::parser::Parser;
 use swc_bodies::bodies::Bodies;

@@ -12,7 +12,7 @@ use swc_productions::ring::parse_lhs_expr;
 
 impl<I: Tokens, B: Bodies<I>> Parser<I, B> {
     /// A left-hand side, as `parse_lhs_expr` reads it: its number among the nodes, which keeps its tree until they are
-    /// let go.
+    /// dropped.
     pub fn parse_lhs_expr_id(&mut self) -> PResult<ExprId>
         ensures promised { Promised I.model B.is_faithful B.forms by_number (Lhs true) self.old result self.new }
     {

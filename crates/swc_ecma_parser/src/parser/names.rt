@@ -1,11 +1,9 @@
 // The names of a text, as calls of a parser: each reads by the call of swc_ident that has its name.
-ghost use Rattle.swc_ident.specs.Naming.{Identifies, Binds, Spells, SpellsPrivate, SpellsEither, Exports};
-ghost use Rattle.swc_ident.specs.Naming.{BindsIfBindable};
+ghost use Rattle.swc_ident.specs.Naming.{Identifies, Binds, Spells, SpellsPrivate, SpellsEither, Exports, BindsIfBindable};
 ghost use Rattle.swc_ident.specs.Verdicts.{ident_verdict, reference_verdict, binding_verdict, name_of_any};
 ghost use Rattle.swc_grammar.specs.Names.{Reference, Binding, Name, Private as private_kind, ReadsName};
 ghost use Rattle.swc_steps.specs.Parsing.{ident_spelling, name_spelling, private_spelling, binding_spelling};
-ghost use Rattle.swc_ecma_parser.specs.Promise.{RefersIfFree, PromisedName};
-ghost use Rattle.swc_ecma_parser.specs.Calls.{Called, ReadsAName};
+ghost use Rattle.swc_ecma_parser.specs.{Promise.RefersIfFree, Promise.PromisedName, Calls.Called, Calls.ReadsAName};
 
 use crate::parser::Parser;
 use either::Either;

@@ -1,19 +1,15 @@
 // Keys, and the properties of object literals, as calls of a parser.
 ghost use Rattle.std.specs.Option.{is_some};
 ghost use Rattle.std.specs.Prelude.{◌≡◌, None, map, IfSome, OnOk};
-ghost use Rattle.swc_ast.specs.Patterns.{holds_ident};
-ghost use Rattle.swc_ast.specs.Tree.{trees};
-ghost use Rattle.swc_ast.specs.TreeOf.{pat_prop_tree};
+ghost use Rattle.swc_ast.specs.{Patterns.holds_ident, Tree.trees, TreeOf.pat_prop_tree};
 ghost use Rattle.swc_grammar.specs.Symbols.{Key, Prop};
 ghost use Rattle.swc_nodes.specs.Commas.{Remembers};
 ghost use Rattle.swc_input.specs.Recordings.{Judges};
 ghost use Rattle.swc_patterns.specs.Objects.{is_rest, props_stage, rests_checked};
 ghost use Rattle.swc_patterns.specs.RestFaults.{rest_at, rests_faults, rests_refused};
 ghost use Rattle.swc_steps.specs.Parsing.{ContinuesAlone};
-ghost use Rattle.swc_ecma_parser.specs.Calls.{buffer_of, nodes_of, commas_of, has_failed, MakesObject, MakesPattern};
-ghost use Rattle.swc_ecma_parser.specs.Calls.{Patterns};
-ghost use Rattle.swc_ecma_parser.specs.Promise.{Promised, PromisedPatProp, key_in_boxes, key_by_number};
-ghost use Rattle.swc_ecma_parser.specs.Promise.{prop_in_boxes};
+ghost use Rattle.swc_ecma_parser.specs.Calls.{buffer_of, nodes_of, commas_of, has_failed, MakesObject, MakesPattern, Patterns};
+ghost use Rattle.swc_ecma_parser.specs.Promise.{Promised, PromisedPatProp, key_in_boxes, key_by_number, prop_in_boxes};
 
 use crate::parser::{Parser, PatOf};
 use swc_ast::pat::{ObjectPatProp, Pat};
@@ -34,10 +30,9 @@ use swc_trees::making::object_lit;
 /// a time.
 pub trait ParseObject<Obj> {
     ghost use Rattle.std.specs.Prelude.{List, Option, Result};
-    ghost use Rattle.swc_context.specs.declared.error.Error.{Error};
-    ghost use Rattle.swc_context.specs.declared.span.Span.{Span};
+    ghost use Rattle.swc_context.specs.{declared.error.Error.Error, declared.span.Span.Span};
 
-    /// What stands between the braces.
+    /// What is between the braces.
     type Prop;
 
     ghost makes: { Self → Span → List Self.Prop → Option Span → Result Obj Error → Self → Type 0 };
@@ -116,8 +111,7 @@ impl<I: Tokens, B: Bodies<I>> Parser<I, B> {
 
 impl<I: Tokens, B: Bodies<I>> ParseObject<Box<ExprOf<B>>> for Parser<I, B> {
     ghost use Rattle.swc_grammar.specs.Symbols.{Prop};
-    ghost use Rattle.swc_ecma_parser.specs.Calls.{Makes};
-    ghost use Rattle.swc_ecma_parser.specs.Promise.{Promised, prop_in_boxes};
+    ghost use Rattle.swc_ecma_parser.specs.{Calls.Makes, Promise.Promised, Promise.prop_in_boxes};
 
     type Prop = PropOrSpread<B::Fun, B::Class, B::Block>;
 
@@ -182,7 +176,7 @@ fn rest_of<F: Spanned, C: Spanned, K: Spanned>(prop: &ObjectPatProp<F, C, K>) ->
     }
 }
 
-/// Records and refuses the rests that don't stand last, over an identifier, with no comma after them, in their order.
+/// Records and refuses the rests that aren't last, over an identifier, with no comma after them, in their order.
 fn check_rests<I: Tokens, F: Spanned, C: Spanned, K: Spanned>(
     input: &mut Buffer<I>,
     props: &Vec<ObjectPatProp<F, C, K>>,
@@ -236,8 +230,7 @@ impl<I: Tokens, B: Bodies<I>> Parser<I, B> {
 }
 
 impl<I: Tokens, B: Bodies<I>> ParseObject<PatOf<B>> for Parser<I, B> {
-    ghost use Rattle.swc_ecma_parser.specs.Calls.{Patterns};
-    ghost use Rattle.swc_ecma_parser.specs.Promise.{PromisedPatProp};
+    ghost use Rattle.swc_ecma_parser.specs.{Calls.Patterns, Promise.PromisedPatProp};
 
     type Prop = PatPropOf<B>;
 
@@ -274,7 +267,7 @@ impl<I: Tokens, B: Bodies<I>> ParseObject<PatOf<B>> for Parser<I, B> {
     /// key and, after a `:`, a binding element; a name, which is bound, and, after a `=`, its initialiser or none; or
     /// `...` and a pattern (BindingRestProperty).
     ///
-    /// Where a rest stands among the properties, and that it is over an identifier, isn't looked at (`make_object`). A
+    /// Where a rest is among the properties, and that it is over an identifier, isn't looked at (`make_object`). A
     /// name that is bound without an initialiser and is reserved is recorded as `ReservedWordInObjShorthandOrPat`, at
     /// the name. After a key that is no name, what is no `:` is refused as `Unexpected`, at the current token, and the
     /// end as `Eof`, where the token consumed last ends; the key, the element, the initialiser and the pattern as

@@ -4,8 +4,7 @@ ghost use Rattle.swc_ast.specs.TreeOf.{pat_tree};
 ghost use Rattle.swc_grammar.specs.Symbols.{Heads};
 ghost use Rattle.swc_patterns.specs.Answers.{pat_at};
 ghost use Rattle.swc_ecma_parser.specs.Calls.{buffer_of, nodes_of, has_failed, pats_tree};
-ghost use Rattle.swc_ecma_parser.specs.Promise.{BoundItems, Promised, PromisedParams, heads_in_boxes, heads_by_number};
-ghost use Rattle.swc_ecma_parser.specs.Promise.{params_in_boxes, params_by_number};
+ghost use Rattle.swc_ecma_parser.specs.Promise.{BoundItems, Promised, PromisedParams, heads_in_boxes, heads_by_number, params_in_boxes, params_by_number};
 
 use crate::heads::parse_arrow_params;
 use crate::parser::{Parser, PatOf};
@@ -17,7 +16,7 @@ use swc_nodes::node::PatId;
 use swc_productions::ring::parse_formal_params;
 
 impl<I: Tokens, B: Bodies<I>> Parser<I, B> {
-    /// Parameters none of which stands twice (UniqueFormalParameters; ECMA-262, 15.1). As `parse_formal_params`: that a
+    /// Parameters none of which is there twice (UniqueFormalParameters; ECMA-262, 15.1). As `parse_formal_params`: that a
     /// name is bound twice isn't looked at.
     pub fn parse_unique_formal_params(&mut self) -> PResult<Vec<Param<PatOf<B>>>>
         ensures { PromisedParams I.model B.is_faithful B.forms params_in_boxes self.old result self.new }
@@ -26,7 +25,7 @@ impl<I: Tokens, B: Bodies<I>> Parser<I, B> {
     }
 
     /// Formal parameters (ECMA-262, 15.1): binding elements, as `parse_binding_element` reads them, with commas between
-    /// them, and the last one may be a rest, over a pattern. A comma may are after the last one. They end before
+    /// them, and the last one may be a rest, over a pattern. A comma may come after the last one. They end before
     /// `)`, which stays, or at the end where a parameter could begin.
     ///
     /// A rest that another parameter is after is recorded as `TS1014`, at the rest, once for each that does. The
@@ -72,7 +71,7 @@ impl<I: Tokens, B: Bodies<I>> Parser<I, B> {
     /// The parameters of an arrow function, from `(` through the `)` that closes them (ArrowFormalParameters; ECMA-262,
     /// 15.3), as their cover grammar has them (13.2.9): a list in parentheses as `parse_args_or_pats` reads it, in
     /// which `in` is an operator, and the parameters that `parse_paren_items_as_params` makes of it. The rest of a list
-    /// has the place of what is after its dots. After the last parameter, but a rest, a comma may stand; the
+    /// has the place of what is after its dots. After the last parameter, but a rest, a comma may come; the
     /// comma isn't remembered. That a name is bound twice isn't looked at, nor is what follows the `)`.
     ///
     /// What is no `(` where they begin is refused as `Expected`, at the current token, and so is what follows an item

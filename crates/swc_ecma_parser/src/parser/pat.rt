@@ -36,7 +36,7 @@ impl<I: Tokens, B: Bodies<I>> Parser<I, B> {
     /// The elements of an array pattern have commas between them; each is a binding element, as
     /// `parse_binding_element` reads it, or a hole, and the last one may be a rest, over a pattern. An object pattern
     /// has properties, as `parse_object_prop` reads them, with commas between them, and the last one may be a rest,
-    /// over an identifier. After the last one of either a comma may stand, if it is no rest.
+    /// over an identifier. After the last one of either a comma may come, if it is no rest.
     ///
     /// Another token than a word, `[` and `{` is refused as `Unexpected`, at that token, and the end as `Eof`, where
     /// the token consumed last ends; a word as `parse_binding_ident` refuses it, and has the faults that it has there.
@@ -69,7 +69,7 @@ impl<I: Tokens, B: Bodies<I>> Parser<I, B> {
     }
 
     /// A binding element, as `parse_binding_element` reads it: its number among the nodes, which keeps its tree until
-    /// they are let go.
+    /// they are dropped.
     pub fn parse_binding_element_id(&mut self) -> PResult<PatId>
         ensures promised { Promised I.model B.is_faithful B.forms pat_by_number Element self.old result self.new }
         ensures binds { has_failed self.old ≡ false

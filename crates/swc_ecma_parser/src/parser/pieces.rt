@@ -18,7 +18,7 @@ pub type ArgsOrPatsOf<B> = (Vec<ExprOrSpread<Box<ExprOf<B>>>>, Option<Span>);
 
 impl<I: Tokens, B: Bodies<I>> Parser<I, B> {
     /// Arguments (ECMA-262, 13.3.8), from `(` through the `)` that closes them: expressions, and spreads, in which
-    /// `in` is an operator. A comma may are after the last one, and isn't remembered. With `is_dynamic_import` they
+    /// `in` is an operator. A comma may come after the last one, and isn't remembered. With `is_dynamic_import` they
     /// are those of `import` (13.3.10): how many there are isn't looked at, unless the syntax is pedantic. Then others
     /// than one, or with import attributes one or two, none of them a spread, are recorded as `ImportArguments`, from
     /// the `(` through the `)`.
@@ -67,7 +67,7 @@ impl<I: Tokens, B: Bodies<I>> Parser<I, B> {
     ///
     /// What is no backquote where it begins is refused as `Expected`, at the current token, and so is what follows an
     /// expression and is no `}`; what follows a text and is neither `${` nor a backquote too; what is no text where
-    /// one is to stand as `Unexpected`; the end as `Eof`, where the token consumed last ends. Where it isn't tagged, a
+    /// one is wanted as `Unexpected`; the end as `Eof`, where the token consumed last ends. Where it isn't tagged, a
     /// bad escape is refused by the error that its text has, at that error's place, once the text was consumed.
     pub fn parse_tpl(&mut self, is_tagged: bool) -> PResult<Tpl<Box<ExprOf<B>>>>
         ensures promised { Promised I.model B.is_faithful B.forms tpl_in_boxes (Template is_tagged)

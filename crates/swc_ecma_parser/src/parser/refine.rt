@@ -1,18 +1,11 @@
 // Finished expressions become patterns, as calls of a parser.
 ghost use Rattle.std.specs.Prelude.{◌≡◌, IfOk};
 ghost use Rattle.swc_ast.specs.Trees.{is_valid, are_valid};
-ghost use Rattle.swc_cover.specs.Faults.{params_verdict};
-ghost use Rattle.swc_cover.specs.Items.{want_items};
-ghost use Rattle.swc_cover.specs.Noting.{JudgesBy, JudgesParams};
-ghost use Rattle.swc_cover.specs.PatTypes.{want_as};
-ghost use Rattle.swc_cover.specs.Refining.{pats_at};
-ghost use Rattle.swc_nodes.specs.Lists.{pats_parts};
-ghost use Rattle.swc_nodes.specs.GrowingNodes.{Apart, CutTo};
-ghost use Rattle.swc_nodes.specs.NodeParts.{one_pat};
+ghost use Rattle.swc_cover.specs.{Faults.params_verdict, Items.want_items, Noting.JudgesBy, Noting.JudgesParams, PatTypes.want_as, Refining.pats_at};
+ghost use Rattle.swc_nodes.specs.{Lists.pats_parts, GrowingNodes.Apart, GrowingNodes.CutTo, NodeParts.one_pat};
 ghost use Rattle.swc_patterns.specs.Answers.{pat_at};
 ghost use Rattle.swc_ecma_parser.specs.Calls.{buffer_of, nodes_of, commas_of, has_failed, tree_by, MovesOut};
-ghost use Rattle.swc_ecma_parser.specs.Refinement.{boxed_items, marked_expr, marked_items, params_of, pattern_of};
-ghost use Rattle.swc_ecma_parser.specs.Refinement.{names_of, verdict_of, Recasts, RefinesExpr, RefinesItems};
+ghost use Rattle.swc_ecma_parser.specs.Refinement.{boxed_items, marked_expr, marked_items, params_of, pattern_of, names_of, verdict_of, Recasts, RefinesExpr, RefinesItems};
 
 use crate::parser::{Parser, PatOf};
 use crate::taking::Take;
@@ -39,7 +32,7 @@ impl<I: Tokens, B: Bodies<I>> Parser<I, B> {
     /// As `AssignPat`, what is neither an array nor an object literal stays what it is (`Pat::Expr`; an identifier is
     /// one), with `TS2406` recorded unless it is a valid simple target. Else an identifier, an array or object literal
     /// and an assignment by `=` become the pattern of that form, and their parts, outside initialisers and keys, parts
-    /// of that pattern; as `AssignElement`, what may be written to as it stands stays what it is. Other expressions
+    /// of that pattern; as `AssignElement`, what may be written to as it is stays what it is. Other expressions
     /// have `NotSimpleAssign` recorded as `AssignElement`, if they are of the forms of 13.3 that can't be written to,
     /// and `InvalidPat` otherwise, and `Invalid` stands in for them; but a method, a getter or a setter is refused as
     /// `InvalidPat`. `Invalid` stays, and has no fault recorded.
@@ -48,7 +41,7 @@ impl<I: Tokens, B: Bodies<I>> Parser<I, B> {
     /// recorded as `NonLastRestParam`, and is dropped from an array; the comma after a last one is recorded as
     /// `CommaAfterRestElement`, at the comma, and an initialiser in it as `TS1048`. In a pattern that binds the rest of
     /// an object over anything but an identifier is recorded as `DotsWithoutIdentifier`, and holds `Invalid`. Where a
-    /// pattern stands on the left of an assignment already, it is looked at again as one that binds: what is written to
+    /// pattern is on the left of an assignment already, it is looked at again as one that binds: what is written to
     /// in it is recorded as `InvalidPat`, and rests of objects as above.
     ///
     /// The call takes stack by how deeply the expression is nested. One that this parser read is no deeper than its

@@ -2,8 +2,7 @@
 ghost use Rattle.std.specs.Prelude.{◌≡◌};
 ghost use Rattle.swc_nodes.specs.GrowingNodes.{tree_at, From, Grows};
 ghost use Rattle.swc_nodes.specs.NodeParts.{expr_part};
-ghost use Rattle.swc_verifier.specs.CoverNames.{cover_names};
-ghost use Rattle.swc_verifier.specs.Faults.{cover_faults};
+ghost use Rattle.swc_verifier.specs.{CoverNames.cover_names, Faults.cover_faults};
 ghost use Rattle.swc_ecma_parser.specs.Calls.{buffer_of, nodes_of, commas_of, has_failed, tree_by, with_buffer};
 ghost use Rattle.swc_ecma_parser.specs.Verification.{LooksThrough, TriesFaults, VerifiesExpr};
 
@@ -20,7 +19,7 @@ impl<I: Tokens, B: Bodies<I>> Parser<I, B> {
     /// Checks that a finished expression has no property `name = value` left over in an object literal (ECMA-262,
     /// 13.2.5.1), and answers the expression as it was given. Such a property is grammar for patterns alone, as in
     /// `[{a = 1}] = b`. Each one is recorded as `AssignProperty`, at the property's place in bytes, in the order of the
-    /// source; `parse_expr` doesn't do it where the syntax isn't pedantic, but for a literal that stands in parentheses
+    /// source; `parse_expr` doesn't do it where the syntax isn't pedantic, but for a literal in parentheses
     /// by itself.
     ///
     /// Looked through are all parts of the expression, keys, parameters of methods and patterns too; but no arrow

@@ -1,47 +1,24 @@
 -- Arrow functions of parameters in parentheses or of a name, and their bodies; and what a list in parentheses is else.
 use Rattle.std.proofs.Common.{refl, sym as sym_path, ap, subst, ◌∙◌}
-use Rattle.std.specs.Prelude.{◌≡◌, ℕ, Bool, true, false, not, List, [], ◌∷◌, ◌++◌, ◌&&◌, Option, Some}
-use Rattle.std.specs.Prelude.{None}
-use Rattle.swc_context.specs.Contexts.{arrow_body}
-use Rattle.swc_context.specs.declared.operator.BinaryOp.{BinaryOp}
-use Rattle.swc_context.specs.declared.span.Span.{Span}
-use Rattle.swc_context.specs.declared.word.Keyword.TheVariants as keyword
-use Rattle.swc_context.specs.declared.word.Word.TheVariants as word
-use Rattle.swc_input.specs.declared.token.Token.{Token}
-use Rattle.swc_input.specs.declared.token.Token.TheVariants as token
-use Rattle.swc_input.specs.declared.token.TokenAndSpan.{TokenAndSpan}
-use Rattle.swc_input.specs.Kinds.{at_token}
+use Rattle.std.specs.Prelude.{◌≡◌, ℕ, Bool, true, false, not, List, [], ◌∷◌, ◌++◌, ◌&&◌, Option, Some, None}
+use Rattle.swc_context.specs.{Contexts.arrow_body, declared.operator.BinaryOp.BinaryOp, declared.span.Span.Span, declared.word.Keyword.Keyword as keyword, declared.word.Word.Word as word, declared.context.Context.Context}
+use Rattle.swc_input.specs.{declared.token.Token.Token, declared.token.Token.Token as token, declared.token.TokenAndSpan.TokenAndSpan, Kinds.at_token, Kinds.is_hash}
 use Rattle.swc_ast.specs.Tree.{Tree, span_of}
+use Rattle.swc_ast.specs.Trees.{items_of, seq_of, to, left_ok, paren_e, paren_ok, held_exprs, listed, ident_e}
 use Rattle.swc_bodies.specs.Readings.{Hook, begins as begins_own, is_function_here, is_function, is_async, is_brace}
 use Rattle.swc_grammar.specs.Scope.{Scope, in_context, at_head, inner}
 use Rattle.swc_grammar.specs.Rule.{Rule, gives, take, check, peek, peek_two, read, sees, sees_two, given, ◌>>=◌}
 use Rattle.swc_grammar.specs.Tokens.{tk, with_in, binary_of, is_reference, is_lparen, is_put_off}
-use Rattle.swc_ast.specs.Trees.{items_of, seq_of, to, left_ok, paren_e, paren_ok, held_exprs, listed, ident_e}
-use Rattle.swc_grammar.specs.Symbols.{Symbol, Assign, Level, Unary, Lhs, Args, Primary, Base, Answer, Body, Value}
-use Rattle.swc_grammar.specs.Symbols.{Side, Heads, ArrowBody}
-use Rattle.swc_grammar.specs.Names.{Spelling}
-use Rattle.swc_grammar.specs.Parts.{reference}
-use Rattle.swc_grammar.specs.Grammar.{Production, ident-expr, base-primary, body-block, body-expr, async-ident}
-use Rattle.swc_grammar.specs.Grammar.{async-call}
+use Rattle.swc_grammar.specs.Symbols.{Symbol, Assign, Level, Unary, Lhs, Args, Primary, Base, Answer, Body, Value, Side, Heads, ArrowBody}
+use Rattle.swc_grammar.specs.Grammar.{Production, ident-expr, base-primary, body-block, body-expr, async-ident, async-call}
 use Rattle.swc_grammar.specs.Reads.{Follows, took, held, calm, heard}
-use Rattle.swc_grammar.specs.Clean.{begins_private}
-use Rattle.swc_input.specs.Kinds.{is_hash}
-use Rattle.swc_context.specs.declared.context.Context.{Context}
-use Rattle.swc_grammar.specs.Clean.{Ans, Out, first, Call, sym, links, climb, plan, rank, allowed, exec, no_link, base}
-use Rattle.swc_grammar.specs.Clean.{begins_new, updates, assigns, no_update_at, Bound, Stop, pick, chosen, primary}
-use Rattle.swc_grammar.specs.Clean.{run, parens, arrow_tail, arrow_block, behind_base, is_lparen_here, unary, is_alone}
-use Rattle.swc_grammar.specs.Clean.{constructed, Plan, is_arrow_here, is_identifier, pick_apart, operand}
-use Rattle.swc_grammar.specs.Cover.{as_params, heads_ok}
+use Rattle.swc_grammar.specs.Clean.{begins_private, Ans, Out, first, Call, sym, links, climb, plan, rank, allowed, exec, no_link, base, begins_new, updates, assigns, no_update_at, Bound, Stop, pick, chosen, primary, run, parens, arrow_tail, arrow_block, behind_base, is_lparen_here, unary, is_alone, constructed, Plan, is_arrow_here, is_identifier, pick_apart, operand}
 use Rattle.swc_grammar.specs.Arrows.{is_arrow, async_name, goes_on_async, of_arrow, is_arrow_word}
+use Rattle.swc_grammar.specs.{Names.Spelling, Parts.reference, Cover.as_params, Cover.heads_ok}
 use Rattle.swc_grammar.proofs.Answers.{both, only, unless, then-ok, inj}
-use Rattle.swc_grammar.proofs.Firsts.{put-token}
-use Rattle.swc_grammar.proofs.Knot.{knot}
 use Rattle.swc_grammar.proofs.Complete.Sides.{last, climb-ends, Ready}
-use Rattle.swc_grammar.proofs.Complete.LeftSides.{links-end}
-use Rattle.swc_grammar.proofs.Complete.Operators.{updates-end, first-sees}
-use Rattle.swc_grammar.proofs.Complete.Primaries.{async-picks-primary}
 use Rattle.swc_grammar.proofs.Complete.Bools.{and-false, if-on, if-off}
-use Rattle.swc_grammar.proofs.Binds.{apart-read}
+use Rattle.swc_grammar.proofs.{Firsts.put-token, Knot.knot, Complete.LeftSides.links-end, Complete.Operators.updates-end, Complete.Operators.first-sees, Complete.Primaries.async-picks-primary, Binds.apart-read}
 
 pub here-arrow : (o : Option TokenAndSpan) → is_arrow_here o ≡ true → at_token is_arrow o ≡ true
 here-arrow None h = absurd cc

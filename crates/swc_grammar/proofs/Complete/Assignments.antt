@@ -1,44 +1,25 @@
 -- Assignment expressions: `yield`, conditionals, and operators that write.
 use Rattle.std.specs.Prelude.{◌≡◌, Bool, true, false, not, ◌||◌, List, [], ◌∷◌, ◌&&◌, if◌then◌else◌, Option, Some, None}
 use Rattle.std.proofs.Common.{refl, ap, ◌∙◌, sym as sym_path, subst}
-use Rattle.swc_context.specs.declared.operator.AssignOp.{AssignOp}
-use Rattle.swc_context.specs.declared.span.Span.{Span}
-use Rattle.swc_context.specs.declared.word.Keyword.TheVariants as keyword
-use Rattle.swc_context.specs.declared.word.Word.TheVariants as word
-use Rattle.swc_input.specs.declared.token.Token.{Token}
-use Rattle.swc_input.specs.declared.token.Token.TheVariants as token
-use Rattle.swc_input.specs.declared.token.TokenAndSpan.{TokenAndSpan}
-use Rattle.swc_input.specs.Kinds.{at_token}
-use Rattle.swc_ast.specs.Targets.{is_target, is_target as is_simple_target}
-use Rattle.swc_ast.specs.Tree.{Tree, node, bin as bin_kind, unary as unary_kind, update as update_kind, array_with}
-use Rattle.swc_ast.specs.Trees.{is_operation}
+use Rattle.swc_context.specs.{declared.operator.AssignOp.AssignOp, declared.operator.AssignOp.AssignOp as assign, declared.span.Span.Span, declared.word.Keyword.Keyword as keyword, declared.word.Word.Word as word}
+use Rattle.swc_input.specs.{declared.token.Token.Token, declared.token.Token.Token as token, declared.token.TokenAndSpan.TokenAndSpan, Kinds.at_token}
+use Rattle.swc_ast.specs.Tree.{Tree, node, bin as bin_kind, unary as unary_kind, update as update_kind, array_with, object_with}
+use Rattle.swc_ast.specs.{Targets.is_target, Targets.is_target as is_simple_target, Trees.is_operation}
 use Rattle.swc_bodies.specs.Readings.{Hook, is_async}
-use Rattle.swc_grammar.specs.Scope.{Scope, at_head}
-use Rattle.swc_grammar.specs.Rule.{sees}
-use Rattle.swc_grammar.specs.Tokens.{tk, is_star, is_question, is_dot, is_assign, is_yield, yield_ok, goes_on_yield}
-use Rattle.swc_grammar.specs.Tokens.{begins_yielded, is_lparen, is_equals}
+use Rattle.swc_grammar.specs.Tokens.{tk, is_star, is_question, is_dot, is_assign, is_yield, yield_ok, goes_on_yield, begins_yielded, is_lparen, is_equals}
 use Rattle.swc_grammar.specs.Symbols.{Assign, Level, Side}
-use Rattle.swc_grammar.specs.Parts.{assign_here}
 use Rattle.swc_grammar.specs.Grammar.{Production, yield-alone, yield-expr, yield-star, arrow-name, arrow-async-name}
 use Rattle.swc_grammar.specs.Reads.{Follows, took, held, calm, part}
-use Rattle.swc_grammar.specs.Clean.{first, sym, assigns, ends_unary, no_assign_at, begins_yield, goes_on_yield_at}
-use Rattle.swc_grammar.specs.Clean.{yield_by, Bound, Stop, no_error, Choice, pick, chosen, step, run, begins_arrow}
-use Rattle.swc_grammar.specs.Firsts.{begins_operand, begins_expression}
-use Rattle.swc_grammar.proofs.Answers.{both}
+use Rattle.swc_grammar.specs.Clean.{first, sym, assigns, ends_unary, no_assign_at, begins_yield, goes_on_yield_at, yield_by, Bound, Stop, no_error, Choice, pick, chosen, step, run, begins_arrow, begins_async_name, begins_async_list, is_lparen_here, before_of_here, is_alone, is_bindable_here, is_arrow_here, no_arrow}
+use Rattle.swc_grammar.specs.Arrows.{is_arrow, arrow_name, async_name, async_param}
+use Rattle.swc_grammar.specs.{Scope.Scope, Scope.at_head, Rule.sees, Parts.assign_here, Firsts.begins_operand, Firsts.begins_expression, Cover.is_pattern}
 use Rattle.swc_grammar.proofs.Only.{question-is, star-is, lparen-is, equals-is}
 use Rattle.swc_grammar.proofs.Firsts.{begins, async-token, given-held, alone-first, arrow-alone}
-use Rattle.swc_grammar.proofs.Knot.{knot}
 use Rattle.swc_grammar.proofs.Complete.Bools.{if-on, if-off, not-on, not-off, is-false, neither, is-true, and-false}
 use Rattle.swc_grammar.proofs.Complete.Sides.{Claim, Ready, last, picks, Ran, forget, side-reads, ready-given}
-use Rattle.swc_grammar.specs.Arrows.{is_arrow, arrow_name, async_name, async_param}
-use Rattle.swc_grammar.specs.Clean.{begins_async_name, begins_async_list, is_lparen_here, before_of_here, is_alone}
-use Rattle.swc_grammar.specs.Clean.{is_bindable_here, is_arrow_here, no_arrow}
 use Rattle.swc_grammar.proofs.Complete.Arrows.{line-arrow, body-bound, listed-reads, alone-ends}
-use Rattle.swc_grammar.proofs.Complete.Asyncs.{param-next, no-arrow-begins, async-step, lparen-next, async-listed}
-use Rattle.swc_grammar.proofs.Complete.Asyncs.{async-none}
-use Rattle.swc_context.specs.declared.operator.AssignOp.TheVariants as assign
-use Rattle.swc_grammar.specs.Cover.{is_pattern}
-use Rattle.swc_ast.specs.Tree.{object_with}
+use Rattle.swc_grammar.proofs.Complete.Asyncs.{param-next, no-arrow-begins, async-step, lparen-next, async-listed, async-none}
+use Rattle.swc_grammar.proofs.{Answers.both, Knot.knot}
 
 -- what binary operators join begins with no error, and not with `yield` where that is an operator
 no-yield-first : (c : Scope) (xs : List TokenAndSpan) → at_token (begins_operand c) (first xs) ≡ true

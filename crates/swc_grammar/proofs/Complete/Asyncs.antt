@@ -1,41 +1,25 @@
 -- Async arrow functions; and what `async` is else, by what is after it.
 use Rattle.std.proofs.Common.{refl, sym as sym_path, ap, subst, ◌∙◌}
 use Rattle.std.specs.Prelude.{◌≡◌, ℕ, Bool, true, false, not, List, [], ◌∷◌, ◌&&◌, if◌then◌else◌, Option, Some, None}
-use Rattle.swc_context.specs.declared.span.Span.{Span}
-use Rattle.swc_context.specs.declared.word.Keyword.TheVariants as keyword
-use Rattle.swc_context.specs.declared.word.Word.TheVariants as word
-use Rattle.swc_input.specs.declared.token.Token.{Token}
-use Rattle.swc_input.specs.declared.token.Token.TheVariants as token
-use Rattle.swc_input.specs.declared.token.TokenAndSpan.{TokenAndSpan}
-use Rattle.swc_input.specs.Kinds.{at_token}
+use Rattle.swc_context.specs.{declared.span.Span.Span, declared.word.Keyword.Keyword as keyword, declared.word.Word.Word as word, Reserved.is_reserved}
+use Rattle.swc_input.specs.{declared.token.Token.Token, declared.token.Token.Token as token, declared.token.TokenAndSpan.TokenAndSpan, Kinds.at_token, Kinds.is_hash}
 use Rattle.swc_ast.specs.Tree.{Tree, span_of}
+use Rattle.swc_ast.specs.Trees.{items_of, to, listed, ident_e, call_e, covers_ok}
 use Rattle.swc_bodies.specs.Readings.{Hook, is_function_here, is_function, is_async}
 use Rattle.swc_grammar.specs.Scope.{Scope, at_head, inner}
 use Rattle.swc_grammar.specs.Rule.{gives, take, check, peek, peek_two, read, sees, sees_two, given, ◌>>=◌}
 use Rattle.swc_grammar.specs.Tokens.{tk, with_in, is_lparen}
-use Rattle.swc_ast.specs.Trees.{items_of, to, listed, ident_e, call_e, covers_ok}
-use Rattle.swc_grammar.specs.Reads.{calm}
-use Rattle.swc_input.specs.Kinds.{is_hash}
+use Rattle.swc_grammar.specs.Reads.{calm, Reads, Follows, took, held}
 use Rattle.swc_grammar.specs.Symbols.{Symbol, Assign, Level, Args, Primary, Answer, Side, Heads}
-use Rattle.swc_grammar.specs.Names.{Spelling, may_bind}
 use Rattle.swc_grammar.specs.Grammar.{base-primary, async-ident, async-call, arrow-async-name}
-use Rattle.swc_grammar.specs.Reads.{Reads, Follows, took, held}
-use Rattle.swc_grammar.specs.Clean.{first, sym, plan, exec, base, begins_new, second, assigns, pick, chosen, step, run}
-use Rattle.swc_grammar.specs.Clean.{begins_arrow, asyncs, async_head, async_arrow_tail, begins_async_name, is_alone}
-use Rattle.swc_grammar.specs.Clean.{begins_async_list, is_lparen_here, before_of_here, is_bindable_here, assigned}
-use Rattle.swc_grammar.specs.Clean.{operand, unary, Plan, is_arrow_here, pick_apart}
-use Rattle.swc_grammar.specs.Cover.{as_params, heads_ok}
-use Rattle.swc_grammar.specs.Arrows.{is_arrow, async_name, async_param, goes_on_async, of_arrow, is_bindable}
-use Rattle.swc_grammar.specs.Arrows.{before_of}
-use Rattle.swc_context.specs.Reserved.{is_reserved}
-use Rattle.swc_grammar.proofs.Firsts.{async-token, given-held}
+use Rattle.swc_grammar.specs.Clean.{first, sym, plan, exec, base, begins_new, second, assigns, pick, chosen, step, run, begins_arrow, asyncs, async_head, async_arrow_tail, begins_async_name, is_alone, begins_async_list, is_lparen_here, before_of_here, is_bindable_here, assigned, operand, unary, Plan, is_arrow_here, pick_apart}
+use Rattle.swc_grammar.specs.Arrows.{is_arrow, async_name, async_param, goes_on_async, of_arrow, is_bindable, before_of}
+use Rattle.swc_grammar.specs.{Names.Spelling, Names.may_bind, Cover.as_params, Cover.heads_ok}
 use Rattle.swc_grammar.proofs.Answers.{both, only, unless, then-ok, inj}
-use Rattle.swc_grammar.proofs.Knot.{knot}
-use Rattle.swc_grammar.proofs.Induct.{ran-calm, ran-part}
 use Rattle.swc_grammar.proofs.Complete.Sides.{last, Ran, Claim, given-ran}
-use Rattle.swc_grammar.proofs.Complete.Primaries.{async-picks-primary}
 use Rattle.swc_grammar.proofs.Complete.Bools.{and-false, if-on, if-off}
 use Rattle.swc_grammar.proofs.Complete.Arrows.{Behind, level-behind, base-behind, given-run, apart-picked}
+use Rattle.swc_grammar.proofs.{Firsts.async-token, Firsts.given-held, Knot.knot, Induct.ran-calm, Induct.ran-part, Complete.Primaries.async-picks-primary}
 
 module _ {F C K : Type 0} (hook : Hook F C K) where
   -- an async one, by its first two tokens

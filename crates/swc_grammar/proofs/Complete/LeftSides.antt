@@ -1,39 +1,23 @@
 -- Left-hand sides: what they begin with, `new`, and links.
 use Rattle.std.specs.Prelude.{◌≡◌, ℕ, Bool, true, false, not, List, [], ◌∷◌, ◌&&◌, Option, Some, None, codes}
-use Rattle.swc_context.specs.Texts.{is_text}
+use Rattle.swc_context.specs.{Texts.is_text, declared.span.Span.Span, declared.word.Keyword.Keyword as keyword, declared.word.Word.Word as word}
 use Rattle.std.proofs.Common.{refl, ap, ◌∙◌}
 use Rattle.std.proofs.lemmas.Bool.{eqb-true}
-use Rattle.swc_context.specs.declared.span.Span.{Span}
-use Rattle.swc_context.specs.declared.word.Keyword.TheVariants as keyword
-use Rattle.swc_context.specs.declared.word.Word.TheVariants as word
-use Rattle.swc_input.specs.declared.token.Token.{Token}
-use Rattle.swc_input.specs.declared.token.Token.TheVariants as token
-use Rattle.swc_input.specs.declared.token.TokenAndSpan.{TokenAndSpan}
-use Rattle.swc_input.specs.Kinds.{at_token, is_hash}
-use Rattle.swc_ast.specs.Tree.{Tree}
-use Rattle.swc_ast.specs.Trees.{is_chain}
+use Rattle.swc_input.specs.{declared.token.Token.Token, declared.token.Token.Token as token, declared.token.TokenAndSpan.TokenAndSpan, Kinds.at_token, Kinds.is_hash}
+use Rattle.swc_ast.specs.{Tree.Tree, Trees.is_chain}
 use Rattle.swc_bodies.specs.Readings.{Hook}
 use Rattle.swc_grammar.specs.Scope.{Scope, with_head, inner}
 use Rattle.swc_grammar.specs.Rule.{gives, take, read, given, ◌>>=◌}
-use Rattle.swc_grammar.specs.Tokens.{tk, with_in, is_lparen, is_question, is_word, is_dot, is_lbracket, is_backquote}
-use Rattle.swc_grammar.specs.Tokens.{is_new, is_super, is_import, is_meta, is_source}
+use Rattle.swc_grammar.specs.Tokens.{tk, with_in, is_lparen, is_question, is_word, is_dot, is_lbracket, is_backquote, is_new, is_super, is_import, is_meta, is_source}
 use Rattle.swc_grammar.specs.Symbols.{Symbol, Lhs, Left, Base, Answer, Side}
-use Rattle.swc_grammar.specs.Names.{Spelling}
-use Rattle.swc_grammar.specs.Parts.{any_name}
-use Rattle.swc_grammar.specs.Grammar.{Production, base-primary, super-name, super-computed, super-call, import-meta}
-use Rattle.swc_grammar.specs.Grammar.{import-call, import-source, new-target}
+use Rattle.swc_grammar.specs.Grammar.{Production, base-primary, super-name, super-computed, super-call, import-meta, import-call, import-source, new-target}
 use Rattle.swc_grammar.specs.Reads.{Reads, by, Follows, took, held, part}
-use Rattle.swc_grammar.specs.Clean.{first, sym, links, plan, exec, constructs, no_link, no_more, more, linked, link}
-use Rattle.swc_grammar.specs.Clean.{call_link, chain_link, base, super_base, import_base, import_dot, begins_new, Stop}
-use Rattle.swc_grammar.specs.Clean.{second, pick, run}
-use Rattle.swc_grammar.specs.Firsts.{begins_primary, begins_left}
-use Rattle.swc_grammar.proofs.Binds.{bind}
-use Rattle.swc_grammar.proofs.Answers.{both}
+use Rattle.swc_grammar.specs.Clean.{first, sym, links, plan, exec, constructs, no_link, no_more, more, linked, link, call_link, chain_link, base, super_base, import_base, import_dot, begins_new, Stop, second, pick, run}
+use Rattle.swc_grammar.specs.{Names.Spelling, Parts.any_name, Firsts.begins_primary, Firsts.begins_left}
 use Rattle.swc_grammar.proofs.Only.{hash-is, import-is, lbracket-is, lparen-is, question-is, super-is}
 use Rattle.swc_grammar.proofs.Firsts.{given-held, begins, name-first}
-use Rattle.swc_grammar.proofs.Knot.{knot}
-use Rattle.swc_grammar.proofs.Complete.Stops.{quiet-rbracket}
 use Rattle.swc_grammar.proofs.Complete.Sides.{Ready, ready-given, last}
+use Rattle.swc_grammar.proofs.{Binds.bind, Answers.both, Knot.knot, Complete.Stops.quiet-rbracket}
 
 -- the words `meta` and `source` are two, and `super` and `import` aren't `new`
 no-source-text : (w : List ℕ) → is_text w (codes "meta") ≡ true → is_text w (codes "source") ≡ false

@@ -2,24 +2,17 @@
 use Rattle.std.specs.Prelude.{◌≡◌, Bool, true, false, List, [], ◌∷◌, Some}
 use Rattle.std.proofs.Common.{refl}
 use Rattle.swc_context.specs.declared.span.Span.{Span}
-use Rattle.swc_input.specs.declared.token.Token.{Token}
-use Rattle.swc_input.specs.declared.token.Token.TheVariants as token
-use Rattle.swc_input.specs.declared.token.TokenAndSpan.{TokenAndSpan}
-use Rattle.swc_input.specs.Kinds.{at_token}
+use Rattle.swc_input.specs.{declared.token.Token.Token, declared.token.Token.Token as token, declared.token.TokenAndSpan.TokenAndSpan, Kinds.at_token}
 use Rattle.swc_ast.specs.Tree.{Tree}
 use Rattle.swc_bodies.specs.Readings.{Hook}
-use Rattle.swc_grammar.specs.Scope.{Scope}
 use Rattle.swc_grammar.specs.Tokens.{tk, is_rparen, is_dots}
 use Rattle.swc_grammar.specs.Symbols.{Args, ArgsTail, Elements, ElementsTail, Item, Side}
-use Rattle.swc_grammar.specs.Grammar.{Production, args-end, args-more, args-tail-end, args-tail-more, elements-end}
-use Rattle.swc_grammar.specs.Grammar.{elements-hole, elements-more, tail-end, tail-more, item-expr, item-spread}
+use Rattle.swc_grammar.specs.Grammar.{Production, args-end, args-more, args-tail-end, args-tail-more, elements-end, elements-hole, elements-more, tail-end, tail-more, item-expr, item-spread}
 use Rattle.swc_grammar.specs.Reads.{Follows, took, held, part}
 use Rattle.swc_grammar.specs.Clean.{first, args, args_tail, Stop, pick, elements, elements_tail, item}
-use Rattle.swc_grammar.specs.Firsts.{starts, begins_expression}
+use Rattle.swc_grammar.specs.{Scope.Scope, Firsts.starts, Firsts.begins_expression}
 use Rattle.swc_grammar.proofs.Only.{comma-is, dots-is, rbracket-is, rparen-is}
-use Rattle.swc_grammar.proofs.Firsts.{begins}
-use Rattle.swc_grammar.proofs.Complete.Stops.{quiet-tail, quiet-args}
-use Rattle.swc_grammar.proofs.Complete.Sides.{Ready}
+use Rattle.swc_grammar.proofs.{Firsts.begins, Complete.Stops.quiet-tail, Complete.Stops.quiet-args, Complete.Sides.Ready}
 
 -- arguments
 not-closed : (c : Scope) (xs : List TokenAndSpan) → at_token (starts Item c) (first xs) ≡ true

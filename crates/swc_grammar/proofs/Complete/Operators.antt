@@ -1,53 +1,26 @@
 -- Operators: prefixes, `await`, updates, and climbing over the levels of binary operators.
-use Rattle.std.specs.Prelude.{◌≡◌, ℕ, suc, ◌≤◌, ◌<◌, min, Bool, true, false, not, ◌||◌, List, [], ◌∷◌, ◌&&◌}
-use Rattle.std.specs.Prelude.{if◌then◌else◌, Some, None}
-use Rattle.std.proofs.Common.{refl, ap, ◌∙◌, arith}
+use Rattle.std.specs.Prelude.{◌≡◌, ℕ, suc, ◌≤◌, ◌<◌, min, Bool, true, false, not, ◌||◌, List, [], ◌∷◌, ◌&&◌, if◌then◌else◌, Some, None, nat_lt, Option}
+use Rattle.std.proofs.Common.{refl, ap, ◌∙◌, arith, sym as sym_path, subst}
 use Rattle.std.proofs.lemmas.Bool.{le-leb, lt-leb, lt-ltb}
-use Rattle.swc_context.specs.Operators.{precedence_of}
-use Rattle.swc_context.specs.declared.operator.BinaryOp.{BinaryOp}
-use Rattle.swc_context.specs.declared.operator.UnaryOp.{UnaryOp}
-use Rattle.swc_context.specs.declared.operator.BinaryOp.TheVariants as binary
-use Rattle.swc_context.specs.declared.operator.BinOpToken.TheVariants as sign
-use Rattle.swc_context.specs.declared.span.Span.{Span}
-use Rattle.swc_context.specs.declared.word.Keyword.TheVariants as keyword
-use Rattle.swc_context.specs.declared.word.Word.TheVariants as word
-use Rattle.swc_input.specs.declared.token.Token.{Token}
-use Rattle.swc_input.specs.declared.token.Token.TheVariants as token
-use Rattle.swc_input.specs.declared.token.TokenAndSpan.{TokenAndSpan}
-use Rattle.swc_input.specs.Kinds.{at_token}
+use Rattle.swc_context.specs.{Operators.precedence_of, declared.operator.BinaryOp.BinaryOp, declared.operator.BinaryOp.BinaryOp as binary, declared.operator.UnaryOp.UnaryOp, declared.operator.BinOpToken.BinOpToken as sign, declared.span.Span.Span, declared.word.Keyword.Keyword as keyword, declared.word.Word.Word as word}
+use Rattle.swc_input.specs.{declared.token.Token.Token, declared.token.Token.Token as token, declared.token.TokenAndSpan.TokenAndSpan, Kinds.at_token, Kinds.is_hash}
 use Rattle.swc_ast.specs.Tree.{Tree, span_of}
-use Rattle.swc_ast.specs.Trees.{to, bin_e, nullish_ok, logical_ok, exp_ok, is_unary, min_right}
+use Rattle.swc_ast.specs.Trees.{to, bin_e, nullish_ok, logical_ok, exp_ok, is_unary, min_right, private_e}
 use Rattle.swc_bodies.specs.Readings.{Hook}
-use Rattle.swc_grammar.specs.Scope.{Scope, inner}
-use Rattle.swc_grammar.specs.Rule.{sees}
-use Rattle.swc_grammar.specs.Tokens.{tk, binary_of, prefix_of, is_power, is_star, is_update, is_await, ends_await}
+use Rattle.swc_grammar.specs.Rule.{sees, take, check, gives, given, read, ◌>>=◌}
+use Rattle.swc_grammar.specs.Tokens.{tk, binary_of, prefix_of, is_power, is_star, is_update, is_await, ends_await, is_in}
 use Rattle.swc_grammar.specs.Symbols.{Level, Unary, Lhs, Side, Base, Primary}
-use Rattle.swc_grammar.specs.Parts.{prefix_here, update_here}
-use Rattle.swc_grammar.specs.Grammar.{Production, unary-left, unary-op, update-postfix, update-prefix, await-expr}
-use Rattle.swc_grammar.specs.Grammar.{await-ident}
+use Rattle.swc_grammar.specs.Parts.{prefix_here, update_here, any_name, private_ok}
+use Rattle.swc_grammar.specs.Grammar.{Production, unary-left, unary-op, update-postfix, update-prefix, await-expr, await-ident}
 use Rattle.swc_grammar.specs.Reads.{Follows, took, held, calm, part}
-use Rattle.swc_grammar.specs.Clean.{first, sym, climb, no_link, prefix_at, updates, no_update_at, ends_unary, no_arrow}
-use Rattle.swc_grammar.specs.Clean.{ends_await_at, unary_by, Stop, Choice, pick, chosen, step, run}
-use Rattle.swc_grammar.specs.Firsts.{begins_left, begins_operand}
-use Rattle.swc_grammar.specs.Clean.{begins_private, exec, plan}
-use Rattle.swc_grammar.specs.Rule.{take, check, gives, given, read, ◌>>=◌}
-use Rattle.swc_grammar.proofs.Answers.{both}
-use Rattle.swc_grammar.specs.Names.{Spelling}
-use Rattle.swc_grammar.specs.Parts.{any_name, private_ok}
-use Rattle.swc_grammar.specs.Tokens.{is_in}
-use Rattle.swc_input.specs.Kinds.{is_hash}
-use Rattle.swc_ast.specs.Trees.{private_e}
-use Rattle.std.specs.Prelude.{nat_lt, Option}
-use Rattle.std.proofs.Common.{sym as sym_path, subst}
+use Rattle.swc_grammar.specs.Clean.{first, sym, climb, no_link, prefix_at, updates, no_update_at, ends_unary, no_arrow, ends_await_at, unary_by, Stop, Choice, pick, chosen, step, run, begins_private, exec, plan}
+use Rattle.swc_grammar.specs.{Scope.Scope, Scope.inner, Firsts.begins_left, Firsts.begins_operand, Names.Spelling}
 use Rattle.swc_grammar.proofs.Induct.{ran-took, ran-held, ran-part}
-use Rattle.swc_grammar.proofs.Only.{hash-is}
-use Rattle.swc_grammar.proofs.Good.{Good, good}
-use Rattle.swc_grammar.proofs.Only.{power-is}
 use Rattle.swc_grammar.proofs.Firsts.{given-held, begins, placed-op, update-first}
-use Rattle.swc_grammar.proofs.Knot.{knot}
 use Rattle.swc_grammar.proofs.Levels.{bound-some, bound-above, min-right-same}
 use Rattle.swc_grammar.proofs.Complete.Bools.{if-on, if-off, is-false, neither, is-true}
 use Rattle.swc_grammar.proofs.Complete.Sides.{gave-ran, Claim, Ready, ready-given, last, picks, settle, Ran, forget, side-reads}
+use Rattle.swc_grammar.proofs.{Answers.both, Only.hash-is, Only.power-is, Good.Good, Good.good, Knot.knot}
 
 no-prefix-first : (c : Scope) (xs : List TokenAndSpan) → at_token (begins_left c) (first xs) ≡ true
     → (prefix_at (first xs) ≡ None) × (at_token is_update (first xs) ≡ false)

@@ -2,36 +2,20 @@
 use Rattle.std.specs.Prelude.{◌≡◌, Bool, true, false, not, ◌&&◌, ◌||◌, List, [], ◌∷◌, Option, Some, None}
 use Rattle.std.proofs.Common.{refl, sym as sym_path, subst, ◌∙◌}
 use Rattle.swc_context.specs.declared.span.Span.{Span}
-use Rattle.swc_input.specs.declared.token.Token.{Token}
-use Rattle.swc_input.specs.declared.token.Token.TheVariants as token
-use Rattle.swc_input.specs.declared.token.TokenAndSpan.{TokenAndSpan}
-use Rattle.swc_input.specs.Kinds.{at_token}
+use Rattle.swc_input.specs.{declared.token.Token.Token, declared.token.Token.Token as token, declared.token.TokenAndSpan.TokenAndSpan, Kinds.at_token}
 use Rattle.swc_ast.specs.Tree.{Tree}
 use Rattle.swc_bodies.specs.Readings.{Hook}
-use Rattle.swc_grammar.specs.Scope.{Scope}
-use Rattle.swc_grammar.specs.Names.{Spelling}
-use Rattle.swc_grammar.specs.Tokens.{tk, is_comma, is_rbracket, is_rbrace, is_dots, is_rparen, is_colon, is_equals}
-use Rattle.swc_grammar.specs.Tokens.{is_question, is_assign, ends_prop}
-use Rattle.swc_grammar.specs.Symbols.{Pat, Element, PatElements, PatElementsTail, PatProps, PatPropsTail, PatProp}
-use Rattle.swc_grammar.specs.Symbols.{Params, ParamsTail, Key, Side}
+use Rattle.swc_grammar.specs.Tokens.{tk, is_comma, is_rbracket, is_rbrace, is_dots, is_rparen, is_colon, is_equals, is_question, is_assign, ends_prop}
+use Rattle.swc_grammar.specs.Symbols.{Pat, Element, PatElements, PatElementsTail, PatProps, PatPropsTail, PatProp, Params, ParamsTail, Key, Side}
 use Rattle.swc_grammar.specs.Parts.{binding, any_name, key_lit_of}
-use Rattle.swc_grammar.specs.Grammar.{Production, key-name, key-literal, key-computed, pat-bind, pat-array, pat-object}
-use Rattle.swc_grammar.specs.Grammar.{pat-elements-end, pat-elements-hole, pat-elements-more, pat-elements-rest}
-use Rattle.swc_grammar.specs.Grammar.{pat-tail-end, pat-tail-more, pat-props-end, pat-props-more, pat-props-rest}
-use Rattle.swc_grammar.specs.Grammar.{pat-props-tail-end, pat-props-tail-more, pat-prop-key, pat-prop-short}
-use Rattle.swc_grammar.specs.Grammar.{pat-prop-default, params-end, params-more, params-rest, params-tail-end}
-use Rattle.swc_grammar.specs.Grammar.{params-tail-more}
+use Rattle.swc_grammar.specs.Grammar.{Production, key-name, key-literal, key-computed, pat-bind, pat-array, pat-object, pat-elements-end, pat-elements-hole, pat-elements-more, pat-elements-rest, pat-tail-end, pat-tail-more, pat-props-end, pat-props-more, pat-props-rest, pat-props-tail-end, pat-props-tail-more, pat-prop-key, pat-prop-short, pat-prop-default, params-end, params-more, params-rest, params-tail-end, params-tail-more}
 use Rattle.swc_grammar.specs.Reads.{Reads, by, Follows, took, held, part}
-use Rattle.swc_grammar.specs.Clean.{first, sym, defaults, ends_unary, no_assign_at, ends_assign, Stop, pick, pat}
-use Rattle.swc_grammar.specs.Clean.{pat_elements, pat_tail, pat_props, pat_props_tail, pat_prop, params, params_tail}
-use Rattle.swc_grammar.specs.Clean.{run}
-use Rattle.swc_grammar.specs.Firsts.{begins_pat, begins_key}
-use Rattle.swc_grammar.proofs.Answers.{both}
-use Rattle.swc_grammar.proofs.Only.{brace-is, comma-is, dots-is, equals-is, lbracket-is, rbrace-is, rbracket-is}
-use Rattle.swc_grammar.proofs.Only.{rparen-is}
+use Rattle.swc_grammar.specs.Clean.{first, sym, defaults, ends_unary, no_assign_at, ends_assign, Stop, pick, pat, pat_elements, pat_tail, pat_props, pat_props_tail, pat_prop, params, params_tail, run}
+use Rattle.swc_grammar.specs.{Scope.Scope, Names.Spelling, Firsts.begins_pat, Firsts.begins_key}
+use Rattle.swc_grammar.proofs.Only.{brace-is, comma-is, dots-is, equals-is, lbracket-is, rbrace-is, rbracket-is, rparen-is}
 use Rattle.swc_grammar.proofs.Firsts.{given-held, begins, name-first, or-left}
-use Rattle.swc_grammar.proofs.Knot.{knot}
 use Rattle.swc_grammar.proofs.Complete.Sides.{Ready, ready-given, gave-all, checked-gave, next-passes, last}
+use Rattle.swc_grammar.proofs.{Answers.both, Knot.knot}
 
 -- What a list's part, dots or a key begins with doesn't close the list, nor is it another of these.
 no-list-first : (c : Scope) (xs : List TokenAndSpan) → at_token (begins_pat c) (first xs) ≡ true

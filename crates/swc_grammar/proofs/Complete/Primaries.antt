@@ -1,39 +1,24 @@
 -- Primary expressions and templates: which production is picked, and that it may be run.
 use Rattle.std.specs.Prelude.{◌≡◌, Bool, true, false, List, [], ◌∷◌, ◌++◌, Option, Some, None, codes, not, ◌&&◌, ◌||◌}
-use Rattle.swc_context.specs.Texts.{is_text}
+use Rattle.swc_context.specs.{Texts.is_text, declared.operator.AssignOp.AssignOp as assign, declared.operator.BinOpToken.BinOpToken as sign, declared.span.Span.Span, declared.word.Keyword.Keyword as keyword, declared.word.Word.Word as word}
 use Rattle.std.proofs.Common.{refl, sym as sym_path, subst, ◌∙◌}
-use Rattle.swc_context.specs.declared.operator.AssignOp.TheVariants as assign
-use Rattle.swc_context.specs.declared.operator.BinOpToken.TheVariants as sign
-use Rattle.swc_context.specs.declared.span.Span.{Span}
-use Rattle.swc_context.specs.declared.word.Keyword.TheVariants as keyword
-use Rattle.swc_context.specs.declared.word.Word.TheVariants as word
-use Rattle.swc_input.specs.declared.token.Token.{Token}
-use Rattle.swc_input.specs.declared.token.Token.TheVariants as token
-use Rattle.swc_input.specs.declared.token.TokenAndSpan.{TokenAndSpan}
-use Rattle.swc_input.specs.Kinds.{at_token}
+use Rattle.swc_input.specs.{declared.token.Token.Token, declared.token.Token.Token as token, declared.token.TokenAndSpan.TokenAndSpan, Kinds.at_token}
 use Rattle.swc_ast.specs.Tree.{Tree}
-use Rattle.swc_bodies.specs.Readings.{Hook, begins as begins_own, begins_function, is_function_here, is_function}
-use Rattle.swc_bodies.specs.Readings.{is_async, is_class}
+use Rattle.swc_bodies.specs.Readings.{Hook, begins as begins_own, begins_function, is_function_here, is_function, is_async, is_class}
 use Rattle.swc_grammar.specs.Scope.{Scope}
 use Rattle.swc_grammar.specs.Tokens.{tk, with_in, is_reference, is_backquote, is_dollar_brace, is_slash, is_lparen}
 use Rattle.swc_grammar.specs.Symbols.{Primary, Parts, Side, Symbol, Answer}
 use Rattle.swc_grammar.specs.Parts.{reference, any_name, regex_of, text_of}
-use Rattle.swc_grammar.specs.Grammar.{Production, ident-expr, paren-expr, primary-template, parts-end, parts-more}
-use Rattle.swc_grammar.specs.Grammar.{regex-alone, regex-slash, primary-literal, this-expr, array-lit, fn-expr}
-use Rattle.swc_grammar.specs.Grammar.{class-expr, object-lit, private-expr, async-ident, async-call}
+use Rattle.swc_grammar.specs.Grammar.{Production, ident-expr, paren-expr, primary-template, parts-end, parts-more, regex-alone, regex-slash, primary-literal, this-expr, array-lit, fn-expr, class-expr, object-lit, private-expr, async-ident, async-call}
 use Rattle.swc_grammar.specs.Reads.{Follows, took, held, part, heard, calm}
-use Rattle.swc_grammar.specs.Clean.{first, parts, pick, primary, is_lit, async_primary, is_lparen_here, Choice, chosen}
-use Rattle.swc_grammar.proofs.Answers.{both}
-use Rattle.swc_grammar.proofs.Only.{backquote-is, brace-is, class-is, dollar-brace-is, hash-is, lbracket-is, lparen-is}
-use Rattle.swc_grammar.proofs.Only.{this-is}
-use Rattle.swc_grammar.proofs.Firsts.{given-held, begins, reference-first, async-token}
-use Rattle.swc_grammar.proofs.Complete.Bools.{and-false, either-more, if-on, if-off}
-use Rattle.swc_grammar.proofs.Complete.Stops.{quiet-rbrace}
-use Rattle.swc_grammar.proofs.Complete.Sides.{Ready, ready-given, next-passes}
+use Rattle.swc_grammar.specs.Clean.{first, parts, pick, primary, is_lit, async_primary, is_lparen_here, Choice, chosen, pick_apart, plan, exec, run, no_arrow}
 use Rattle.swc_grammar.specs.Rule.{take, check, peek, sees}
 use Rattle.swc_grammar.specs.Arrows.{async_name, goes_on_async, is_bindable, before_of}
-use Rattle.swc_grammar.specs.Clean.{pick_apart, plan, exec, run, no_arrow}
-use Rattle.swc_grammar.proofs.Binds.{apart-reads}
+use Rattle.swc_grammar.proofs.Only.{backquote-is, brace-is, class-is, dollar-brace-is, hash-is, lbracket-is, lparen-is, this-is}
+use Rattle.swc_grammar.proofs.Firsts.{given-held, begins, reference-first, async-token}
+use Rattle.swc_grammar.proofs.Complete.Bools.{and-false, either-more, if-on, if-off}
+use Rattle.swc_grammar.proofs.Complete.Sides.{Ready, ready-given, next-passes}
+use Rattle.swc_grammar.proofs.{Answers.both, Complete.Stops.quiet-rbrace, Binds.apart-reads}
 
 -- as a body begins, so does a list that goes on with more
 here-more : (ts us : List TokenAndSpan) → is_function_here ts ≡ true → is_function_here (ts ++ us) ≡ true

@@ -1,35 +1,22 @@
 -- Properties of objects, and their keys: which production is picked, and that it may be run.
 use Rattle.std.specs.Prelude.{◌≡◌, ℕ, Bool, true, false, ◌||◌, List, [], ◌∷◌, Option, Some, None, codes}
-use Rattle.swc_context.specs.Texts.{is_text}
+use Rattle.swc_context.specs.{Texts.is_text, declared.span.Span.Span, declared.word.Word.Word as word}
 use Rattle.std.proofs.Common.{refl, sym as sym_path, subst}
 use Rattle.std.proofs.lemmas.Bool.{eqb-true}
-use Rattle.swc_context.specs.declared.span.Span.{Span}
-use Rattle.swc_context.specs.declared.word.Word.TheVariants as word
-use Rattle.swc_input.specs.declared.token.Token.{Token}
-use Rattle.swc_input.specs.declared.token.Token.TheVariants as token
-use Rattle.swc_input.specs.declared.token.TokenAndSpan.{TokenAndSpan}
-use Rattle.swc_input.specs.Kinds.{at_token}
+use Rattle.swc_input.specs.{declared.token.Token.Token, declared.token.Token.Token as token, declared.token.TokenAndSpan.TokenAndSpan, Kinds.at_token}
 use Rattle.swc_ast.specs.Tree.{Tree}
 use Rattle.swc_bodies.specs.Readings.{Hook, is_async}
-use Rattle.swc_grammar.specs.Scope.{Scope}
-use Rattle.swc_grammar.specs.Tokens.{tk, with_in, is_rbrace, is_lparen, is_colon, is_star, is_equals, is_question}
-use Rattle.swc_grammar.specs.Tokens.{is_word, is_get, is_set, ends_prop, follows_key}
+use Rattle.swc_grammar.specs.Tokens.{tk, with_in, is_rbrace, is_lparen, is_colon, is_star, is_equals, is_question, is_word, is_get, is_set, ends_prop, follows_key}
 use Rattle.swc_grammar.specs.Symbols.{Props, PropsTail, Prop, Key, AfterKey, Side}
-use Rattle.swc_grammar.specs.Parts.{any_name, key_lit_of}
-use Rattle.swc_grammar.specs.Grammar.{Production, props-end, props-more, props-tail-end, props-tail-more, prop-spread}
-use Rattle.swc_grammar.specs.Grammar.{prop-short, prop-cover, prop-key, prop-generator, prop-async}
-use Rattle.swc_grammar.specs.Grammar.{prop-async-generator, prop-getter, prop-setter, after-value, after-shell}
-use Rattle.swc_grammar.specs.Grammar.{key-name}
-use Rattle.swc_grammar.specs.Grammar.{key-literal, key-computed}
+use Rattle.swc_grammar.specs.Grammar.{Production, props-end, props-more, props-tail-end, props-tail-more, prop-spread, prop-short, prop-cover, prop-key, prop-generator, prop-async, prop-async-generator, prop-getter, prop-setter, after-value, after-shell, key-name, key-literal, key-computed}
 use Rattle.swc_grammar.specs.Reads.{Reads, by, Follows, took, held, part}
 use Rattle.swc_grammar.specs.Clean.{first, Stop, Choice, pick, props, props_tail, prop, key, after_key, prop_word}
-use Rattle.swc_grammar.specs.Firsts.{begins_key, begins_prop}
-use Rattle.swc_grammar.proofs.Answers.{both}
+use Rattle.swc_grammar.specs.{Scope.Scope, Parts.any_name, Parts.key_lit_of, Firsts.begins_key, Firsts.begins_prop}
 use Rattle.swc_grammar.proofs.Only.{colon-is, comma-is, dots-is, equals-is, lbracket-is, lparen-is, rbrace-is, star-is}
 use Rattle.swc_grammar.proofs.Firsts.{given-held, begins, name-first, async-word, get-word, set-word}
-use Rattle.swc_grammar.proofs.Complete.Bools.{or-right}
 use Rattle.swc_grammar.proofs.Complete.Stops.{ends-prop-stop, expr-stop, quiet-rbracket}
 use Rattle.swc_grammar.proofs.Complete.Sides.{Ready, ready-given, gave-all, checked-gave, next-passes, checked-next}
+use Rattle.swc_grammar.proofs.{Answers.both, Complete.Bools.or-right}
 
 -- Tests of the token after the first one of a property: at most one holds.
 equals-apart : (o : Option TokenAndSpan) → at_token is_equals o ≡ true → at_token ends_prop o ≡ false

@@ -2,33 +2,18 @@
 use Rattle.std.specs.Prelude.{◌≡◌, ℕ, zero, suc, ◌≤◌, min, Bool, true, false, List, [], ◌∷◌, ◌++◌, Option, Some, None}
 use Rattle.std.proofs.Common.{refl, sym as sym_path, ap, subst, ◌∙◌, arith}
 use Rattle.std.proofs.lemmas.Bool.{le-leb}
-use Rattle.swc_context.specs.Operators.{precedence_of}
-use Rattle.swc_context.specs.declared.operator.BinaryOp.{BinaryOp}
-use Rattle.swc_context.specs.declared.span.Span.{Span}
-use Rattle.swc_input.specs.declared.token.Token.{Token}
-use Rattle.swc_input.specs.declared.token.TokenAndSpan.{TokenAndSpan}
-use Rattle.swc_input.specs.Kinds.{at_token}
-use Rattle.swc_ast.specs.Tree.{Tree}
-use Rattle.swc_ast.specs.Trees.{items_of, left_ok}
+use Rattle.swc_context.specs.{Operators.precedence_of, declared.operator.BinaryOp.BinaryOp, declared.span.Span.Span}
+use Rattle.swc_input.specs.{declared.token.Token.Token, declared.token.TokenAndSpan.TokenAndSpan, Kinds.at_token}
+use Rattle.swc_ast.specs.{Tree.Tree, Trees.items_of, Trees.left_ok}
 use Rattle.swc_bodies.specs.Readings.{Hook}
-use Rattle.swc_grammar.specs.Scope.{Scope, inner}
-use Rattle.swc_grammar.specs.Rule.{Rule, gives, never, take, check, peek, read, hear, sees, given, ◌>>=◌, peek_two}
-use Rattle.swc_grammar.specs.Symbols.{Symbol, Expr, Exprs, Assign, Level, Lhs, Left, Answer, Body, Value, begins_body}
-use Rattle.swc_grammar.specs.Symbols.{Side}
-use Rattle.swc_grammar.specs.Grammar.{Production}
+use Rattle.swc_grammar.specs.Rule.{Rule, gives, never, take, check, peek, read, hear, sees, given, ◌>>=◌, peek_two, sees_two}
+use Rattle.swc_grammar.specs.Symbols.{Symbol, Expr, Exprs, Assign, Level, Lhs, Left, Answer, Body, Value, begins_body, Side}
 use Rattle.swc_grammar.specs.Reads.{Reads, Follows, gave, took, held, calm, part, heard, calm-two}
-use Rattle.swc_grammar.specs.Clean.{Out, and_then, first, Call, sym, links, climb, plan, rank_of, rank, allowed, exec}
-use Rattle.swc_grammar.specs.Clean.{operator_at, seqs, ends_unary, Bound, Stop, Choice, pick, chosen, turn, turned}
-use Rattle.swc_grammar.specs.Clean.{step, run, no_arrow}
-use Rattle.swc_grammar.specs.Firsts.{starts}
-use Rattle.swc_grammar.proofs.Bodies.{hears-run}
-use Rattle.swc_grammar.proofs.Good.{Good, good}
+use Rattle.swc_grammar.specs.Clean.{Out, and_then, first, Call, sym, links, climb, plan, rank_of, rank, allowed, exec, operator_at, seqs, ends_unary, Bound, Stop, Choice, pick, chosen, turn, turned, step, run, no_arrow}
+use Rattle.swc_grammar.specs.{Scope.Scope, Scope.inner, Grammar.Production, Firsts.starts}
 use Rattle.swc_grammar.proofs.Firsts.{Under, under-held, begins}
-use Rattle.swc_grammar.proofs.Induct.{Ran as RanOf, forget as forget-of, given-ran as given-of, ran-calm-two}
-use Rattle.swc_grammar.proofs.Induct.{ran-gave, ran-took, ran-held, ran-calm, ran-part, ran-heard}
-use Rattle.swc_grammar.proofs.Knot.{knot}
-use Rattle.swc_grammar.proofs.Levels.{bound-above}
-use Rattle.swc_grammar.specs.Rule.{sees_two}
+use Rattle.swc_grammar.proofs.Induct.{Ran as RanOf, forget as forget-of, given-ran as given-of, ran-calm-two, ran-gave, ran-took, ran-held, ran-calm, ran-part, ran-heard}
+use Rattle.swc_grammar.proofs.{Bodies.hears-run, Good.Good, Good.good, Knot.knot, Levels.bound-above}
 
 -- Of a left-hand side the claim is that links are read on from there, and of expressions with commas between them that
 -- commas are. Of a level it holds for climbing on from any precedence below it: so what a level above read needs no

@@ -1,24 +1,15 @@
 -- Where the reading of a symbol stops: at hard stops, and before the tokens that close lists.
 use Rattle.std.specs.Prelude.{◌≡◌, Bool, true, false, not, ◌||◌, ◌&&◌, List, [], ◌∷◌, None}
 use Rattle.std.proofs.Common.{refl, arith}
-use Rattle.swc_context.specs.declared.span.Span.{Span}
-use Rattle.swc_context.specs.declared.word.Keyword.TheVariants as keyword
-use Rattle.swc_context.specs.declared.word.Word.TheVariants as word
-use Rattle.swc_input.specs.declared.token.Token.{Token}
-use Rattle.swc_input.specs.declared.token.Token.TheVariants as token
-use Rattle.swc_input.specs.declared.token.TokenAndSpan.{TokenAndSpan}
-use Rattle.swc_input.specs.Kinds.{at_token}
-use Rattle.swc_grammar.specs.Scope.{Scope}
-use Rattle.swc_grammar.specs.Tokens.{tk, binary_of, is_closer, is_word_apart, is_stop, is_comma, is_rbracket, is_rbrace}
-use Rattle.swc_grammar.specs.Tokens.{is_colon, ends_prop, with_in}
-use Rattle.swc_grammar.specs.Symbols.{Symbol, Expr, Assign, Level, Unary, ArgsTail, ElementsTail, Item, Element, PatProp}
+use Rattle.swc_context.specs.{declared.span.Span.Span, declared.word.Keyword.Keyword as keyword, declared.word.Word.Word as word}
+use Rattle.swc_input.specs.{declared.token.Token.Token, declared.token.Token.Token as token, declared.token.TokenAndSpan.TokenAndSpan, Kinds.at_token}
+use Rattle.swc_grammar.specs.Tokens.{tk, binary_of, is_closer, is_word_apart, is_stop, is_comma, is_rbracket, is_rbrace, is_colon, ends_prop, with_in}
+use Rattle.swc_grammar.specs.Symbols.{Symbol, Expr, Assign, Level, Unary, ArgsTail, ElementsTail, Item, Element, PatProp, ArrowBody}
 use Rattle.swc_grammar.specs.Reads.{is_stop_for, Stops, at-end, at-stop}
 use Rattle.swc_grammar.specs.Clean.{first, ends_unary, no_assign_at, ends_assign, Bound, Stop}
-use Rattle.swc_grammar.specs.Firsts.{starts}
-use Rattle.swc_grammar.proofs.Answers.{both}
+use Rattle.swc_grammar.specs.{Scope.Scope, Firsts.starts}
 use Rattle.swc_grammar.proofs.Only.{colon-is, comma-is, rbrace-is, rbracket-is}
-use Rattle.swc_grammar.proofs.Complete.Bools.{or-right, is-false}
-use Rattle.swc_grammar.specs.Symbols.{ArrowBody}
+use Rattle.swc_grammar.proofs.{Answers.both, Complete.Bools.or-right, Complete.Bools.is-false}
 
 -- at the end and before a hard stop no operator is read, and no link
 stop-token : (c : Scope) (t : Token) (b : Bool) → (is_comma t || (is_closer t || is_word_apart t b)) ≡ true

@@ -1,9 +1,6 @@
 -- What a test, or the kind of an error, says.
-use Rattle.std.proofs.Common.{◌≡◌, ◌≢◌, Bool, true, false, ◌&&◌, not, Result, Ok, Err, OnOk, IfErr, refl, sym, ap}
-use Rattle.std.proofs.Common.{◌∙◌}
-use Rattle.swc_context.specs.declared.error.Error.{Error}
-use Rattle.swc_context.specs.declared.error.SyntaxError.{SyntaxError}
-use Rattle.swc_context.specs.declared.error.SyntaxError.TheVariants.{OutOfMemory}
+use Rattle.std.proofs.Common.{◌≡◌, ◌≢◌, Bool, true, false, ◌&&◌, not, Result, Ok, Err, OnOk, IfErr, refl, sym, ap, ◌∙◌}
+use Rattle.swc_context.specs.{declared.error.Error.Error, declared.error.SyntaxError.SyntaxError, declared.error.SyntaxError.TheVariants.OutOfMemory}
 use Rattle.swc_steps.specs.Parsing.{is_memory}
 
 pub not_true : (b : Bool) → not b ≡ true → b ≡ false

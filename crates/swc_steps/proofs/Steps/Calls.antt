@@ -1,13 +1,8 @@
 -- What is read by a call, and what goes on after it.
 use Rattle.std.proofs.Common.{◌≡◌, Bool, List, ◌++◌, Some, sym, ap, ◌∙◌, arith}
 use Rattle.swc_context.specs.declared.error.Error.{Error}
-use Rattle.swc_input.specs.declared.buffer.Buffer.{Buffer}
-use Rattle.swc_input.specs.declared.token.TokenAndSpan.{TokenAndSpan}
-use Rattle.swc_input.specs.Source.{Model}
-use Rattle.swc_input.specs.Laws.{Future-before}
-use Rattle.swc_grammar.specs.Scope.{Scope}
-use Rattle.swc_grammar.specs.Clean.{Out}
-use Rattle.swc_grammar.specs.Words.{◌>>=◌}
+use Rattle.swc_input.specs.{declared.buffer.Buffer.Buffer, declared.token.TokenAndSpan.TokenAndSpan, Source.Model, Laws.Future-before}
+use Rattle.swc_grammar.specs.{Scope.Scope, Clean.Out, Words.◌>>=◌}
 use Rattle.swc_steps.specs.Parsing.{scope, recorded, On, Heard, Unheard}
 use Rattle.swc_steps.proofs.Steps.Consumed.{Reader, give, read_scope, leads_then, more_recorded}
 use Rattle.swc_steps.proofs.Steps.Tokens.{on_then, heard_then, on_to}

@@ -1,25 +1,12 @@
 -- What is consumed, what is kept, and what a call does to the buffer by itself.
-use Rattle.std.proofs.Common.{◌≡◌, ◌≢◌, ℕ, ◌≤◌, ◌<◌, List, [], ◌∷◌, ◌++◌, Option, Some, None, Result, Ok, Err, OnOk}
-use Rattle.std.proofs.Common.{IfErr, MatchOption, length, refl, sym, ap, subst, ◌∙◌, arith, length-append}
-use Rattle.swc_context.specs.declared.context.Context.{Context}
-use Rattle.swc_context.specs.declared.context.Syntax.{Syntax}
-use Rattle.swc_context.specs.declared.error.Error.{Error}
-use Rattle.swc_context.specs.declared.span.BytePos.{BytePos}
-use Rattle.swc_context.specs.declared.span.Span.{Span}
-use Rattle.swc_context.specs.declared.error.SyntaxError.TheVariants.{OutOfMemory}
-use Rattle.swc_input.specs.declared.buffer.Buffer.{Buffer}
-use Rattle.swc_input.specs.declared.token.Token.{Token}
-use Rattle.swc_input.specs.declared.token.TokenAndSpan.{TokenAndSpan}
-use Rattle.swc_input.specs.Plain.{plain}
+use Rattle.std.proofs.Common.{◌≡◌, ◌≢◌, ℕ, ◌≤◌, ◌<◌, List, [], ◌∷◌, ◌++◌, Option, Some, None, Result, Ok, Err, OnOk, IfErr, MatchOption, length, refl, sym, ap, subst, ◌∙◌, arith, length-append}
+use Rattle.swc_context.specs.{declared.context.Context.Context, declared.context.Syntax.Syntax, declared.error.Error.Error, declared.span.BytePos.BytePos, declared.span.Span.Span, declared.error.SyntaxError.TheVariants.OutOfMemory, Contexts.view as deciding}
 use Rattle.swc_input.specs.Source.{Model, Laws, Keeps}
 use Rattle.swc_input.specs.Buffer.{Took, Read, Lives, Served, Bumped, to_come, current, context}
 use Rattle.swc_input.specs.Laws.{held-before, Read-same, Read-then}
-use Rattle.swc_input.specs.Recording.{no_memory}
-use Rattle.swc_grammar.specs.Scope.{Scope, in_context}
-use Rattle.swc_grammar.specs.Clean.{Out}
-use Rattle.swc_steps.specs.Parsing.{scope_of, scope, recorded, Loud, Spends, Leads, Onward, Advances, Moves, Refuses}
-use Rattle.swc_steps.specs.Parsing.{Forgoes, Consumes, Acts, Tries}
-use Rattle.swc_context.specs.Contexts.{view as deciding}
+use Rattle.swc_input.specs.{declared.buffer.Buffer.Buffer, declared.token.Token.Token, declared.token.TokenAndSpan.TokenAndSpan, Plain.plain, Recording.no_memory}
+use Rattle.swc_grammar.specs.{Scope.Scope, Scope.in_context, Clean.Out}
+use Rattle.swc_steps.specs.Parsing.{scope_of, scope, recorded, Loud, Spends, Leads, Onward, Advances, Moves, Refuses, Forgoes, Consumes, Acts, Tries}
 
 abbrev pub Reader : Type 0 → Type 0
 Reader A = Scope → List TokenAndSpan → Out A

@@ -1,17 +1,12 @@
 -- The context is set, and put back.
-use Rattle.std.proofs.Common.{◌≡◌, ◌<◌, Bool, true, false, List, [], ◌++◌, Result, Ok, Err, OnOk, length, refl, sym}
-use Rattle.std.proofs.Common.{ap, ◌∙◌, arith, append_assoc, length-append}
+use Rattle.std.proofs.Common.{◌≡◌, ◌<◌, Bool, true, false, List, [], ◌++◌, Result, Ok, Err, OnOk, length, refl, sym, ap, ◌∙◌, arith, append_assoc, length-append}
 use Rattle.std.proofs.lemmas.List.{append-nil}
-use Rattle.std.specs.Result.{is_err}
-use Rattle.std.specs.declared.alloc.AllocError.{AllocError}
-use Rattle.swc_context.specs.Contexts.{view as deciding}
-use Rattle.swc_context.specs.declared.context.Context.{Context}
-use Rattle.swc_context.specs.declared.error.Error.{Error}
-use Rattle.swc_input.specs.declared.buffer.Buffer.{Buffer}
-use Rattle.swc_input.specs.declared.token.TokenAndSpan.{TokenAndSpan}
+use Rattle.std.specs.{Result.is_err, declared.alloc.AllocError.AllocError}
+use Rattle.swc_context.specs.{Contexts.view as deciding, declared.context.Context.Context, declared.error.Error.Error}
 use Rattle.swc_input.specs.Source.{Source, Model, Laws, Keeps, with_context, recorded_in, waiting_in}
 use Rattle.swc_input.specs.Buffer.{Took, Served, source, held, with_source, context}
 use Rattle.swc_input.specs.Laws.{held-before, Took-then, keeps_same, Keeps-then, Future-before, Known-after}
+use Rattle.swc_input.specs.{declared.buffer.Buffer.Buffer, declared.token.TokenAndSpan.TokenAndSpan}
 use Rattle.swc_grammar.specs.Scope.{Scope, in_context}
 use Rattle.swc_steps.specs.Parsing.{scope, recorded, Loud, Spends, Leads, Onward, Moves, On, Unheard, Parses}
 use Rattle.swc_steps.proofs.Steps.Consumed.{Reader, give, moved_scope, spent}

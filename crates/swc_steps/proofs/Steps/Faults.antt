@@ -1,26 +1,15 @@
 -- Checks, and faults that are recorded unless all is well.
-use Rattle.std.proofs.Common.{◌≡◌, ◌<◌, Bool, true, false, ◌||◌, ◌&&◌, not, List, [], ◌∷◌, ◌++◌, Some, None, Result}
-use Rattle.std.proofs.Common.{Ok, Err, OnOk, IfErr, IsOk, MatchResult, IsSome, length, refl, sym, ap, ◌∙◌, arith}
-use Rattle.std.proofs.Common.{length-append}
+use Rattle.std.proofs.Common.{◌≡◌, ◌<◌, Bool, true, false, ◌||◌, ◌&&◌, not, List, [], ◌∷◌, ◌++◌, Some, None, Result, Ok, Err, OnOk, IfErr, IsOk, MatchResult, IsSome, length, refl, sym, ap, ◌∙◌, arith, length-append}
 use Rattle.std.proofs.lemmas.List.{append-nil}
 use Rattle.swc_context.specs.declared.error.Error.{Error}
-use Rattle.swc_input.specs.declared.buffer.Buffer.{Buffer}
-use Rattle.swc_input.specs.declared.token.TokenAndSpan.{TokenAndSpan}
 use Rattle.swc_input.specs.Source.{Model, Laws, with_module_error, recorded_in}
 use Rattle.swc_input.specs.Buffer.{Read, Lives, Known, current, last_position, context}
-use Rattle.swc_input.specs.Laws.{Future-before}
-use Rattle.swc_input.specs.Recording.{no_memory}
-use Rattle.swc_grammar.specs.Scope.{Scope}
-use Rattle.swc_grammar.specs.Clean.{Out, first}
-use Rattle.swc_grammar.specs.Words.{◌>>=◌}
-use Rattle.swc_steps.specs.Parsing.{seen, scope, recorded, Loud, Leads, Onward, Forgoes, Tries, Checks, On, Heard}
-use Rattle.swc_steps.specs.Parsing.{Continues}
+use Rattle.swc_input.specs.{declared.buffer.Buffer.Buffer, declared.token.TokenAndSpan.TokenAndSpan, Laws.Future-before, Recording.no_memory}
+use Rattle.swc_grammar.specs.{Scope.Scope, Clean.Out, Clean.first, Words.◌>>=◌}
+use Rattle.swc_steps.specs.Parsing.{seen, scope, recorded, Loud, Leads, Onward, Forgoes, Tries, Checks, On, Heard, Continues}
 use Rattle.swc_steps.specs.Readers.{nothing}
-use Rattle.swc_steps.proofs.Steps.Consumed.{Reader, give, more_than, read_scope, here, leads_then, onward_then}
-use Rattle.swc_steps.proofs.Steps.Consumed.{forgoes_later, more_recorded, loud_after}
-use Rattle.swc_steps.proofs.Steps.Looks.{known_first}
-use Rattle.swc_steps.proofs.Steps.Tokens.{heard_then}
-use Rattle.swc_steps.proofs.Steps.Calls.{on_call}
+use Rattle.swc_steps.proofs.Steps.Consumed.{Reader, give, more_than, read_scope, here, leads_then, onward_then, forgoes_later, more_recorded, loud_after}
+use Rattle.swc_steps.proofs.{Steps.Looks.known_first, Steps.Tokens.heard_then, Steps.Calls.on_call}
 
 -- a fault of modules is recorded there, and nowhere else
 module_waits : (m : Bool) (es : List Error) (e : Error) → not m ≡ true → length (es ++ recorded_in m (e ∷ [])) ≡ length es

@@ -1,11 +1,8 @@
 -- Where no assignment expression begins: so it is at every buffer, and what is read there is what is read there by one
 -- that asks for it.
 use Rattle.std.proofs.Common.{◌≡◌, Bool, false, Result, Ok, Err, refl, ap}
-use Rattle.swc_context.specs.declared.context.Context.{Context}
-use Rattle.swc_context.specs.declared.context.Syntax.{Syntax}
-use Rattle.swc_context.specs.declared.error.Error.{Error}
-use Rattle.swc_input.specs.declared.buffer.Buffer.{Buffer}
-use Rattle.swc_input.specs.Source.{Model}
+use Rattle.swc_context.specs.{declared.context.Context.Context, declared.context.Syntax.Syntax, declared.error.Error.Error}
+use Rattle.swc_input.specs.{declared.buffer.Buffer.Buffer, Source.Model}
 use Rattle.swc_grammar.specs.Scope.{Scope, inner}
 use Rattle.swc_steps.specs.Parsing.{scope_of, On, Heard, Unheard, Parses, Continues}
 use Rattle.swc_steps.proofs.Steps.Consumed.{Reader}

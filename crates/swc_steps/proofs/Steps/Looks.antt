@@ -1,25 +1,15 @@
 -- A look at the current token, or after it, and what follows of the tokens to come.
-use Rattle.std.proofs.Common.{◌≡◌, ◌≢◌, Bool, true, false, not, List, [], ◌∷◌, Option, Some, None, Result, Ok, Err}
-use Rattle.std.proofs.Common.{OnOk, IfOk, IfErr, MatchResult, IsSome, refl, sym, ap, subst, ◌∙◌}
+use Rattle.std.proofs.Common.{◌≡◌, ◌≢◌, Bool, true, false, not, List, [], ◌∷◌, Option, Some, None, Result, Ok, Err, OnOk, IfOk, IfErr, MatchResult, IsSome, refl, sym, ap, subst, ◌∙◌}
 use Rattle.std.proofs.lemmas.Bool.{false_from_ne_true}
-use Rattle.swc_context.specs.declared.error.Error.{Error}
-use Rattle.swc_context.specs.declared.span.BytePos.{BytePos}
-use Rattle.swc_context.specs.declared.span.Span.{Span}
 use Rattle.swc_context.specs.declared.error.SyntaxError.TheVariants.{Eof, OutOfMemory, ParserFailed}
-use Rattle.swc_input.specs.declared.buffer.Buffer.{Buffer}
-use Rattle.swc_input.specs.declared.token.Token.{Token}
-use Rattle.swc_input.specs.declared.token.Token.TheVariants as token
-use Rattle.swc_input.specs.declared.token.TokenAndSpan.{TokenAndSpan}
-use Rattle.swc_input.specs.Plain.{plain, plain_token}
-use Rattle.swc_input.specs.Source.{Model, Laws}
+use Rattle.swc_context.specs.{declared.error.Error.Error, declared.span.BytePos.BytePos, declared.span.Span.Span}
 use Rattle.swc_input.specs.Buffer.{Lives, Served, Looked, Bumped, Future, Known, source, current, last_position}
-use Rattle.swc_input.specs.Laws.{held_some, Looked-served, Looked-some, Read-same, Read-late, Known-Future}
-use Rattle.swc_input.specs.Laws.{Future-current, Future-end}
+use Rattle.swc_input.specs.Laws.{held_some, Looked-served, Looked-some, Read-same, Read-late, Known-Future, Future-current, Future-end}
 use Rattle.swc_input.specs.Recording.{Refused, Seen, refusal, error_here, error_in, is_some, is_fit, unfit, no_memory}
+use Rattle.swc_input.specs.{declared.buffer.Buffer.Buffer, declared.token.Token.Token, declared.token.TokenAndSpan.TokenAndSpan, Plain.plain, Plain.plain_token, Source.Model, Source.Laws, Kinds.at_token}
+use Rattle.swc_input.specs.declared.token.Token.TheVariants as token
 use Rattle.swc_input.proofs.Refusals.{Refused-kind, unfit-kind}
-use Rattle.swc_input.specs.Kinds.{at_token}
-use Rattle.swc_grammar.specs.Parts.{lit_of}
-use Rattle.swc_grammar.specs.Clean.{first, no_error}
+use Rattle.swc_grammar.specs.{Parts.lit_of, Clean.first, Clean.no_error}
 use Rattle.swc_ast.specs.Tree.{Tree}
 use Rattle.swc_steps.specs.Parsing.{seen, seen_of, Leads, Refuses, Here, Looks, Unfit, TookLiteral, Told}
 use Rattle.swc_steps.proofs.Steps.Consumed.{here, leads_then, served_lives}

@@ -1,22 +1,11 @@
 -- Refusals, and what stands in for what was refused.
-use Rattle.std.proofs.Common.{◌≡◌, ◌≢◌, ◌<◌, Bool, true, false, List, [], None, Result, Ok, Err, OnOk, IfErr, refl}
-use Rattle.std.proofs.Common.{sym, ap, ◌∙◌, ⊎_elim, arith}
+use Rattle.std.proofs.Common.{◌≡◌, ◌≢◌, ◌<◌, Bool, true, false, List, [], None, Result, Ok, Err, OnOk, IfErr, refl, sym, ap, ◌∙◌, ⊎_elim, arith}
 use Rattle.std.proofs.lemmas.Bool.{cases_lt}
-use Rattle.swc_context.specs.declared.error.Error.{Error}
-use Rattle.swc_context.specs.declared.error.SyntaxError.TheVariants.{OutOfMemory, ParserFailed}
-use Rattle.swc_input.specs.declared.buffer.Buffer.{Buffer}
-use Rattle.swc_input.specs.declared.token.TokenAndSpan.{TokenAndSpan}
-use Rattle.swc_input.specs.Source.{Model, Laws}
-use Rattle.swc_input.specs.Buffer.{Looked}
-use Rattle.swc_input.specs.Laws.{Known-after, Known-Future}
-use Rattle.swc_input.specs.Kinds.{at_token}
-use Rattle.swc_grammar.specs.Scope.{Scope}
-use Rattle.swc_grammar.specs.Clean.{first, no_error}
-use Rattle.swc_steps.specs.Parsing.{seen, scope, recorded, Loud, Spends, Leads, Refuses, Forgoes, Consumes, Tries}
-use Rattle.swc_steps.specs.Parsing.{Here, Unfit, On, Unheard, Parses, Continues, Told}
-use Rattle.swc_steps.proofs.Steps.Consumed.{Reader, read_scope, leads_then, spends_then, served_later, leads_refused}
-use Rattle.swc_steps.proofs.Steps.Consumed.{onward_later, refuses_later, forgoes_refuses, more_recorded, loud_spent}
-use Rattle.swc_steps.proofs.Steps.Consumed.{loud_after}
+use Rattle.swc_context.specs.{declared.error.Error.Error, declared.error.SyntaxError.TheVariants.OutOfMemory, declared.error.SyntaxError.TheVariants.ParserFailed}
+use Rattle.swc_input.specs.{declared.buffer.Buffer.Buffer, declared.token.TokenAndSpan.TokenAndSpan, Source.Model, Source.Laws, Buffer.Looked, Laws.Known-after, Laws.Known-Future, Kinds.at_token}
+use Rattle.swc_grammar.specs.{Scope.Scope, Clean.first, Clean.no_error}
+use Rattle.swc_steps.specs.Parsing.{seen, scope, recorded, Loud, Spends, Leads, Refuses, Forgoes, Consumes, Tries, Here, Unfit, On, Unheard, Parses, Continues, Told}
+use Rattle.swc_steps.proofs.Steps.Consumed.{Reader, read_scope, leads_then, spends_then, served_later, leads_refused, onward_later, refuses_later, forgoes_refuses, more_recorded, loud_spent, loud_after}
 use Rattle.swc_steps.proofs.Steps.Looks.{looked_later, here_refused, begins}
 use Rattle.swc_steps.proofs.Steps.Tokens.{on_seen, on_told}
 

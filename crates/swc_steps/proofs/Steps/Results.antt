@@ -1,27 +1,13 @@
 -- A call that answers, or is refused: what is read in all.
-use Rattle.std.proofs.Common.{◌≡◌, Bool, true, List, ◌∷◌, Option, Some, None, Result, Ok, Err, IfOk, IfErr}
-use Rattle.std.proofs.Common.{MatchResult, MatchOption, sym, subst}
-use Rattle.swc_context.specs.declared.error.Error.{Error}
-use Rattle.swc_context.specs.declared.span.BytePos.{BytePos}
-use Rattle.swc_context.specs.declared.span.Span.{Span}
-use Rattle.swc_context.specs.declared.error.SyntaxError.TheVariants.{OutOfMemory}
-use Rattle.swc_input.specs.declared.buffer.Buffer.{Buffer}
-use Rattle.swc_input.specs.declared.token.Token.{Token}
-use Rattle.swc_input.specs.declared.token.TokenAndSpan.{TokenAndSpan}
-use Rattle.swc_input.specs.Plain.{plain}
-use Rattle.swc_input.specs.Source.{Model, Laws}
-use Rattle.swc_input.specs.Buffer.{Bumped}
-use Rattle.swc_input.specs.Recording.{no_memory}
-use Rattle.swc_grammar.specs.Scope.{Scope}
-use Rattle.swc_grammar.specs.Clean.{Out}
-use Rattle.swc_grammar.specs.Words.{◌>>=◌}
+use Rattle.std.proofs.Common.{◌≡◌, Bool, true, List, ◌∷◌, Option, Some, None, Result, Ok, Err, IfOk, IfErr, MatchResult, MatchOption, sym, subst}
+use Rattle.swc_context.specs.{declared.error.Error.Error, declared.span.BytePos.BytePos, declared.span.Span.Span, declared.error.SyntaxError.TheVariants.OutOfMemory}
+use Rattle.swc_input.specs.{declared.buffer.Buffer.Buffer, declared.token.Token.Token, declared.token.TokenAndSpan.TokenAndSpan, Plain.plain, Source.Model, Source.Laws, Buffer.Bumped, Recording.no_memory}
+use Rattle.swc_grammar.specs.{Scope.Scope, Clean.Out, Words.◌>>=◌}
 use Rattle.swc_steps.specs.Lists.{eaten}
 use Rattle.swc_steps.specs.Parsing.{Leads, Onward, Consumes, Acts, Tries, On, Heard, Unheard, Parses, Continues}
-use Rattle.swc_steps.proofs.Steps.Consumed.{Reader, give, leads_then, spent, onward_then, onward_later, refuses_later}
-use Rattle.swc_steps.proofs.Steps.Consumed.{forgoes_later, forgoes_here}
+use Rattle.swc_steps.proofs.Steps.Consumed.{Reader, give, leads_then, spent, onward_then, onward_later, refuses_later, forgoes_later, forgoes_here}
 use Rattle.swc_steps.proofs.Steps.Tokens.{on_took, on_then, heard_after, heard_then, heard_first, on_answer}
-use Rattle.swc_steps.proofs.Steps.Calls.{on_call, on_call_read}
-use Rattle.swc_steps.proofs.Steps.Refusals.{unheard_after, unheard_memory}
+use Rattle.swc_steps.proofs.{Steps.Calls.on_call, Steps.Calls.on_call_read, Steps.Refusals.unheard_after, Steps.Refusals.unheard_memory}
 
 module _ {S : Type 0} (model : Model S) (sure : Bool) {T A : Type 0} (view : T → A) (f : Reader A) where
   pub parses_after : {g : Reader A} {b c : Buffer S} (d : Buffer S) (r : Result T Error) → On model sure f g b c → Parses model sure view g c r d → Parses model sure view f b r d

@@ -1,20 +1,12 @@
 -- What is read where a token was looked at or consumed, and one step after another.
-use Rattle.std.proofs.Common.{◌≡◌, ◌<◌, Bool, List, [], ◌∷◌, ◌++◌, Some, None, IsSome, length, refl, sym, ap, subst}
-use Rattle.std.proofs.Common.{◌∙◌, ⊎_elim, arith, append_assoc}
+use Rattle.std.proofs.Common.{◌≡◌, ◌<◌, Bool, List, [], ◌∷◌, ◌++◌, Some, None, IsSome, length, refl, sym, ap, subst, ◌∙◌, ⊎_elim, arith, append_assoc}
 use Rattle.std.proofs.lemmas.Bool.{cases_lt}
-use Rattle.swc_input.specs.declared.buffer.Buffer.{Buffer}
-use Rattle.swc_input.specs.declared.token.Token.{Token}
-use Rattle.swc_input.specs.declared.token.TokenAndSpan.{TokenAndSpan}
-use Rattle.swc_input.specs.Plain.{plain}
-use Rattle.swc_input.specs.Source.{Model, Laws}
 use Rattle.swc_input.specs.Buffer.{Looked, Bumped, current}
 use Rattle.swc_input.specs.Laws.{Read-then, Future-before, Known-after, Known-Future}
-use Rattle.swc_grammar.specs.Scope.{Scope}
-use Rattle.swc_grammar.specs.Clean.{first}
+use Rattle.swc_input.specs.{declared.buffer.Buffer.Buffer, declared.token.Token.Token, declared.token.TokenAndSpan.TokenAndSpan, Plain.plain, Source.Model, Source.Laws}
+use Rattle.swc_grammar.specs.{Scope.Scope, Clean.first}
 use Rattle.swc_steps.specs.Parsing.{seen, seen_of, scope, recorded, Leads, Onward, Here, On, Heard, Told}
-use Rattle.swc_steps.proofs.Steps.Consumed.{Reader, give, read_scope, here, leads_then, spent, served_lives}
-use Rattle.swc_steps.proofs.Steps.Consumed.{took_leads, onward_then, onward_later, onward_one, more_recorded}
-use Rattle.swc_steps.proofs.Steps.Consumed.{loud_after}
+use Rattle.swc_steps.proofs.Steps.Consumed.{Reader, give, read_scope, here, leads_then, spent, served_lives, took_leads, onward_then, onward_later, onward_one, more_recorded, loud_after}
 use Rattle.swc_steps.proofs.Steps.Looks.{begins}
 
 module _ {S : Type 0} {model : Model S} {sure : Bool} where

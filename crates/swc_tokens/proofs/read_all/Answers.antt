@@ -40,7 +40,7 @@ returns-clause-nested c =
     let last = rw c.in_default.is at c.in_ok-token.ensures.closed in
     AreNested_end _ _ _ c.loop-tokens.invariant.nests none last
 
--- what is read stands in the text, and blanks alone are left
+-- what is read is in the text, and blanks alone are left
 pub returns-clause-tokens : goal.returns-clause-tokens
 returns-clause-tokens c =
     let whole = rw c.loop-tokens.invariant.text at c.loop-tokens.reader.within in

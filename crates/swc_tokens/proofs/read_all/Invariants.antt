@@ -6,8 +6,8 @@ use Rattle.swc_tokens.specs.Order.{end_of}
 use Rattle.swc_tokens.specs.Reading.{AreRead, left}
 use Rattle.swc_tokens.proofs.read_all.Given as goal
 
--- the text stays, and the tokens stand in what is read of it, which ends with the last; they nest, and where a delimiter
--- is read next, one stands
+-- the text stays, and the tokens are in what is read of it, which ends with the last; they nest, and where a delimiter
+-- is read next, there is one
 abbrev pub invariant-loop-tokens : goal.invariant-loop-tokens
 invariant-loop-tokens l = record {
   text : l.reader.text.now ≡ l.text;

@@ -1,9 +1,7 @@
 use Rattle.std.proofs.Common.{◌++◌, ◌&&◌, sym, ap, subst, ◌∙◌}
 use Rattle.swc_context.specs.Spans.{from_to}
 use Rattle.swc_ast.specs.Trees.{arrow_e}
-use Rattle.swc_nodes.specs.GrowingNodes.{tree_at, body_end}
-use Rattle.swc_nodes.specs.Lists.{pats_parts, pat_trees}
-use Rattle.swc_nodes.specs.NodeParts.{body_parts}
+use Rattle.swc_nodes.specs.{GrowingNodes.tree_at, GrowingNodes.body_end, Lists.pats_parts, Lists.pat_trees, NodeParts.body_parts}
 use Rattle.swc_nodes.proofs.ArrowNodes.{apart-back}
 use Rattle.swc_steps.proofs.Building.{made_at, made_over}
 use Rattle.swc_steps.proofs.Steps as s

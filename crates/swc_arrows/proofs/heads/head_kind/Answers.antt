@@ -1,7 +1,6 @@
 use Rattle.std.proofs.Common.{false, refl, sym, ◌∙◌}
 use Rattle.swc_input.specs.Buffer.{context}
-use Rattle.swc_arrows.specs.declared.heads.FirstKind.TheVariants as first_is
-use Rattle.swc_arrows.specs.declared.heads.HeadKind.TheVariants as head
+use Rattle.swc_arrows.specs.{declared.heads.FirstKind.FirstKind as first_is, declared.heads.HeadKind.HeadKind as head}
 use Rattle.swc_arrows.proofs.NextTokens.{told_first, told_head}
 use Rattle.swc_arrows.proofs.heads.head_kind.Goals as goal
 

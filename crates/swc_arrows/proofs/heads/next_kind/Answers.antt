@@ -1,8 +1,7 @@
 use Rattle.std.proofs.Common.{sym, ap, subst, if◌then◌else◌}
 use Rattle.swc_grammar.specs.Clean.{second}
 use Rattle.swc_steps.specs.Parsing.{Told}
-use Rattle.swc_arrows.specs.Heads.{next_kind}
-use Rattle.swc_arrows.specs.declared.heads.NextKind.TheVariants as next_is
+use Rattle.swc_arrows.specs.{Heads.next_kind, declared.heads.NextKind.NextKind as next_is}
 use Rattle.swc_arrows.proofs.NextTokens.{told_as, told_next}
 use Rattle.swc_arrows.proofs.heads.next_kind.Goals as goal
 

@@ -1,7 +1,6 @@
 use Rattle.swc_ast.specs.Trees.{covers_ok}
 use Rattle.swc_nodes.specs.NodeParts.{args_parts, one_expr}
-use Rattle.swc_nodes.proofs.ArrowNodes.{apart-back}
-use Rattle.swc_nodes.proofs.Standing.{grows-same}
+use Rattle.swc_nodes.proofs.{ArrowNodes.apart-back, Standing.grows-same}
 use Rattle.swc_steps.specs.Parsing.{scope, args_at}
 use Rattle.swc_steps.proofs.Making as m
 use Rattle.swc_steps.proofs.Naming.{goes, stops}

@@ -4,8 +4,7 @@ use Rattle.swc_nodes.specs.NodeParts.{args_parts, expr_part}
 use Rattle.swc_nodes.proofs.Held.{from-apart, from-down}
 use Rattle.swc_steps.specs.Parsing.{args_at, itself, tree_of, GoesOn}
 use Rattle.swc_steps.proofs.Making as m
-use Rattle.swc_arrows.specs.Answers.{callee_at, callee_parts}
-use Rattle.swc_arrows.specs.Readers.{base_closed}
+use Rattle.swc_arrows.specs.{Answers.callee_at, Answers.callee_parts, Readers.base_closed}
 use Rattle.swc_arrows.proofs.lists.close_base.Goals as goal
 
 pub returns-in-Some : goal.returns-in-Some

@@ -4,9 +4,8 @@ use Rattle.swc_grammar.specs.Arrows.{is_arrow}
 use Rattle.swc_nodes.specs.GrowingNodes.{first_start, last_end}
 use Rattle.swc_steps.specs.Parsing.{args_at}
 use Rattle.swc_steps.proofs.Steps as s
-use Rattle.swc_arrows.specs.Answers.{callee_at, IsBase}
 use Rattle.swc_arrows.specs.Readers.{base_behind, base_closed, base_look, heads_closed}
-use Rattle.swc_arrows.specs.declared.names.Beginning.TheVariants as begins
+use Rattle.swc_arrows.specs.{Answers.callee_at, Answers.IsBase, declared.names.Beginning.Beginning as begins}
 use Rattle.swc_nodes.proofs.Standing.{grows-same}
 use Rattle.swc_arrows.proofs.Bases.{if_arrow, look_base}
 use Rattle.swc_arrows.proofs.ListReads.{appended, closed_arrow, closed_base, list_after, list_is, list_refused}

@@ -1,20 +1,14 @@
 use Rattle.std.proofs.Common.{Some, None, refl, sym, subst, ap, arith, ◌∙◌}
 use Rattle.swc_ast.specs.Trees.{ident_e}
-use Rattle.swc_grammar.specs.Tokens.{is_lparen}
-use Rattle.swc_grammar.specs.Words.{◌>>=◌}
-use Rattle.swc_nodes.specs.GrowingNodes.{count}
-use Rattle.swc_nodes.specs.NodeParts.{expr_part}
-use Rattle.swc_nodes.proofs.Held.{apart-from}
-use Rattle.swc_nodes.proofs.Lists.{apart-none}
-use Rattle.swc_nodes.proofs.Standing.{grows-same}
+use Rattle.swc_grammar.specs.{Tokens.is_lparen, Words.◌>>=◌}
+use Rattle.swc_nodes.specs.{GrowingNodes.count, NodeParts.expr_part}
+use Rattle.swc_nodes.proofs.{Held.apart-from, Lists.apart-none, Standing.grows-same}
 use Rattle.swc_patterns.proofs.PartlyRead.{refused, left}
-use Rattle.swc_steps.specs.Keys.{expected}
-use Rattle.swc_steps.specs.Parsing.{ident_spelling, On}
+use Rattle.swc_steps.specs.{Keys.expected, Parsing.ident_spelling, Parsing.On}
 use Rattle.swc_steps.proofs.Building.{made_at}
 use Rattle.swc_steps.proofs.Steps as s
 use Rattle.swc_arrows.specs.Readers.{list_head, list_rest, spelling_of}
-use Rattle.swc_arrows.proofs.Bases.{on_async_list, paren_starts}
-use Rattle.swc_arrows.proofs.ListReads.{paren_opens, async_opens}
+use Rattle.swc_arrows.proofs.{Bases.on_async_list, Bases.paren_starts, ListReads.paren_opens, ListReads.async_opens}
 use Rattle.swc_arrows.proofs.lists.open_list.Goals as goal
 
 pub returns-in_err-at-clause-leaves : goal.returns-in_err-at-clause-leaves

@@ -1,27 +1,18 @@
 use Rattle.std.proofs.Common.{◌&&◌, true, sym, ap, subst, ◌∙◌}
 use Rattle.std.specs.Prelude.{is_some}
-use Rattle.swc_input.specs.Buffer.{context}
-use Rattle.swc_input.specs.Kinds.{at_token}
+use Rattle.swc_input.specs.{Buffer.context, Kinds.at_token}
 use Rattle.swc_ast.specs.Trees.{items_of, comma_of}
-use Rattle.swc_grammar.specs.Arrows.{is_arrow}
-use Rattle.swc_grammar.specs.Words.{◌>>=◌}
+use Rattle.swc_grammar.specs.{Arrows.is_arrow, Words.◌>>=◌}
 use Rattle.swc_nodes.specs.NodeParts.{args_parts, flat, one_pat}
-use Rattle.swc_nodes.proofs.ArrowNodes.{apart-back}
-use Rattle.swc_nodes.proofs.Standing.{grows-same}
-use Rattle.swc_cover.specs.Clear.{is_clear}
-use Rattle.swc_cover.specs.Faults.{params_verdict}
-use Rattle.swc_cover.specs.Heads.{names_ok}
-use Rattle.swc_cover.specs.Items.{want_items}
+use Rattle.swc_nodes.proofs.{ArrowNodes.apart-back, Standing.grows-same}
+use Rattle.swc_cover.specs.{Clear.is_clear, Faults.params_verdict, Heads.names_ok, Items.want_items}
 use Rattle.swc_cover.proofs.Kept.{kept-less}
 use Rattle.swc_steps.specs.Keys.{expected}
 use Rattle.swc_steps.specs.Parsing.{scope, seen_of, args_at, Checks, On}
-use Rattle.swc_steps.proofs.Building.{apart-lower}
-use Rattle.swc_steps.proofs.Naming.{goes, stops}
-use Rattle.swc_steps.proofs.Rules.{passes_plain}
+use Rattle.swc_steps.proofs.{Building.apart-lower, Naming.goes, Naming.stops, Rules.passes_plain}
 use Rattle.swc_steps.proofs.Steps as s
-use Rattle.swc_arrows.specs.Answers.{callee_at, callee_parts}
 use Rattle.swc_arrows.specs.Readers.{arrow_behind, heads_closed, heads_refined, takes_params}
-use Rattle.swc_arrows.specs.declared.names.Beginning.TheVariants as begins
+use Rattle.swc_arrows.specs.{Answers.callee_at, Answers.callee_parts, declared.names.Beginning.Beginning as begins}
 use Rattle.swc_arrows.proofs.ListReads.{appended, arrow_takes, floor_up, heads_splits, is_given, list_is, list_refused}
 use Rattle.swc_arrows.proofs.lists.parse_heads.Goals as goal
 

@@ -5,11 +5,10 @@ use Rattle.swc_nodes.specs.GrowingNodes.{count}
 use Rattle.swc_nodes.proofs.Standing.{grows-same}
 use Rattle.swc_patterns.proofs.PartlyRead.{refused, left}
 use Rattle.swc_steps.specs.Parsing.{scope, ident_spelling, On}
-use Rattle.swc_steps.proofs.Building.{made_at}
-use Rattle.swc_steps.proofs.Naming.{goes, stops}
+use Rattle.swc_steps.proofs.{Building.made_at, Naming.goes, Naming.stops}
 use Rattle.swc_steps.proofs.Steps as s
 use Rattle.swc_arrows.specs.Readers.{async_of, base_behind, of_base}
-use Rattle.swc_arrows.specs.declared.names.Beginning.TheVariants as begins
+use Rattle.swc_arrows.specs.declared.names.Beginning.{Beginning as begins}
 use Rattle.swc_arrows.proofs.names.async_of.Goals as goal
 
 pub returns-in_err-check_async_of-clause-leaves : goal.returns-in_err-check_async_of-clause-leaves

@@ -1,6 +1,5 @@
 use Rattle.std.proofs.Common.{sym, ap, subst, ◌∙◌}
-use Rattle.swc_context.specs.Reserved.{strict_binding_words}
-use Rattle.swc_context.specs.Texts.{is_one_of}
+use Rattle.swc_context.specs.{Reserved.strict_binding_words, Texts.is_one_of}
 use Rattle.swc_input.specs.Buffer.{context}
 use Rattle.swc_steps.specs.Parsing.{ident_spelling, Checked}
 use Rattle.swc_steps.proofs.Steps.{check_passes, not_true, not_false}

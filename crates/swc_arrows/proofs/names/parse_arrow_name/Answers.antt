@@ -1,11 +1,9 @@
 use Rattle.std.proofs.Common.{false, refl}
 use Rattle.swc_input.specs.Buffer.{context}
-use Rattle.swc_ast.specs.Tree.{nil, cons}
-use Rattle.swc_ast.specs.Trees.{ident_e}
+use Rattle.swc_ast.specs.{Tree.nil, Tree.cons, Trees.ident_e}
 use Rattle.swc_nodes.specs.GrowingNodes.{count}
 use Rattle.swc_nodes.proofs.Standing.{grows-same}
-use Rattle.swc_patterns.proofs.PartlyRead.{refused}
-use Rattle.swc_patterns.proofs.PatNodes.{pat_made}
+use Rattle.swc_patterns.proofs.{PartlyRead.refused, PatNodes.pat_made}
 use Rattle.swc_steps.specs.Parsing.{scope, ident_spelling}
 use Rattle.swc_steps.proofs.Naming.{goes, stops}
 use Rattle.swc_steps.proofs.Steps as s

@@ -7,10 +7,8 @@ use Rattle.swc_steps.proofs.Steps as s
 use Rattle.swc_arrows.specs.Answers.{HearsBase, Opens}
 use Rattle.swc_arrows.specs.Readers.{arrow_behind, async_arrow, async_base, async_behind}
 use Rattle.swc_arrows.proofs.Bases.{base_before_of, if_arrow, one_is_arrow}
-use Rattle.swc_arrows.proofs.NameReads.{arrow_rest, async_splits, of_by, of_splits, param_rest, param_splits}
-use Rattle.swc_arrows.proofs.NameReads.{leaves_after}
+use Rattle.swc_arrows.proofs.NameReads.{arrow_rest, async_splits, of_by, of_splits, param_rest, param_splits, leaves_after, one_leaves, opens_after_all}
 use Rattle.swc_arrows.proofs.Dooms.{opens_call, opens_later}
-use Rattle.swc_arrows.proofs.NameReads.{one_leaves, opens_after_all}
 use Rattle.swc_ast.specs.Tree.{nil, cons}
 use Rattle.swc_arrows.proofs.names.parse_async_name.Goals as goal
 

@@ -4,8 +4,7 @@ use Rattle.swc_grammar.specs.Arrows.{is_arrow}
 use Rattle.swc_steps.specs.Parsing.{breaks_at, scope}
 use Rattle.swc_steps.proofs.Steps as s
 use Rattle.swc_arrows.proofs.NameReads.{line_free, line_joined, line_refuses, line_unasked, on_at}
-use Rattle.swc_arrows.proofs.names.refuse_arrow_line.Goals.{else-branch-via-then-branch+else-is_sign}
-use Rattle.swc_arrows.proofs.names.refuse_arrow_line.Goals.{else-branch-via-else-branch}
+use Rattle.swc_arrows.proofs.names.refuse_arrow_line.Goals.{else-branch-via-then-branch+else-is_sign, else-branch-via-else-branch}
 use Rattle.swc_arrows.proofs.names.refuse_arrow_line.Goals as goal
 
 pub returns-then-not-syntax-clause-continues : goal.returns-then-not-syntax-clause-continues

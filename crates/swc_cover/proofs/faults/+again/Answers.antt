@@ -1,7 +1,6 @@
 use Rattle.std.proofs.Common.{◌++◌, ◌+◌, ◌*◌, ◌<◌, ap, sym, ◌∙◌, rules, arith}
-use Rattle.swc_cover.proofs.Appended.{if_ok-as}
-use Rattle.swc_cover.proofs.Fitting.{assign-left-below, rest-held-below}
 use Rattle.swc_cover.proofs.Recording.{pat-elems-below, pat-props-below, pats-ended, pat-props-ended, again-is}
+use Rattle.swc_cover.proofs.{Appended.if_ok-as, Fitting.assign-left-below, Fitting.rest-held-below}
 use Rattle.swc_nodes.specs.declared.node.Node.TheVariants as n
 use Rattle.swc_cover.proofs.faults.+again.Goals as goal
 

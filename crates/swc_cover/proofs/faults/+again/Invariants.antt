@@ -1,7 +1,6 @@
 use Rattle.std.proofs.Common.{◌≡◌, ◌+◌, ◌*◌, ◌++◌, drop}
 use Rattle.swc_cover.proofs.Fitting.{pats_of, pat_props_of}
-use Rattle.swc_cover.specs.Below.{pat_elem_size, pat_prop_size}
-use Rattle.swc_cover.specs.Faults.{all_again, props_again}
+use Rattle.swc_cover.specs.{Below.pat_elem_size, Below.pat_prop_size, Faults.all_again, Faults.props_again}
 use Rattle.swc_cover.proofs.faults.+again.Given as goal
 
 abbrev pub decreases-record_again : goal.decreases-record_again

@@ -1,10 +1,6 @@
 use Rattle.std.proofs.Common.{◌+◌, ◌*◌, ◌<◌, sym, ◌∙◌, rules, arith}
-use Rattle.swc_cover.proofs.Appended.{if_ok-as}
-use Rattle.swc_cover.proofs.Fitting.{simple-below, pattern-below}
-use Rattle.swc_cover.proofs.Recording.{recorded-as, remains-more, remains-ends, remains-none}
-use Rattle.swc_cover.proofs.Recording.{elems-below, elems-first, elems-none, array-verdict}
-use Rattle.swc_cover.proofs.Recording.{props-below, props-first, props-none, object-verdict}
-use Rattle.swc_cover.proofs.Recording.{assign-simple, assign-pattern}
+use Rattle.swc_cover.proofs.Recording.{recorded-as, remains-more, remains-ends, remains-none, elems-below, elems-first, elems-none, array-verdict, props-below, props-first, props-none, object-verdict, assign-simple, assign-pattern}
+use Rattle.swc_cover.proofs.{Appended.if_ok-as, Fitting.simple-below, Fitting.pattern-below}
 use Rattle.swc_cover.specs.Checking.{way_of}
 use Rattle.swc_cover.proofs.faults.+check.Goals as goal
 

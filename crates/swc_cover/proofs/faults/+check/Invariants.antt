@@ -1,9 +1,6 @@
 use Rattle.std.proofs.Common.{◌+◌, ◌*◌, drop}
-use Rattle.swc_cover.proofs.Fitting.{elems_of, props_of}
-use Rattle.swc_cover.proofs.Recording.{Remains}
-use Rattle.swc_cover.specs.Below.{elem_size, prop_size}
-use Rattle.swc_cover.specs.Checking.{way_of}
-use Rattle.swc_cover.specs.Faults.{elems_verdict, props_verdict}
+use Rattle.swc_cover.proofs.{Fitting.elems_of, Fitting.props_of, Recording.Remains}
+use Rattle.swc_cover.specs.{Below.elem_size, Below.prop_size, Checking.way_of, Faults.elems_verdict, Faults.props_verdict}
 use Rattle.swc_cover.proofs.faults.+check.Given as goal
 
 abbrev pub decreases-check_expr : goal.decreases-check_expr

@@ -1,8 +1,6 @@
 use Rattle.std.proofs.Common.{◌++◌, ◌+◌, ◌*◌, ◌<◌, ap, sym, ◌∙◌, rules, arith}
-use Rattle.swc_cover.proofs.Appended.{if_ok-as}
-use Rattle.swc_cover.proofs.Fitting.{assign-left-below, rest-held-below}
-use Rattle.swc_cover.proofs.Recording.{pat-elems-below, pat-props-below}
 use Rattle.swc_cover.proofs.Named.{named-pats-ended, named-props-ended, named-is}
+use Rattle.swc_cover.proofs.{Appended.if_ok-as, Fitting.assign-left-below, Fitting.rest-held-below, Recording.pat-elems-below, Recording.pat-props-below}
 use Rattle.swc_nodes.specs.declared.node.Node.TheVariants as n
 use Rattle.swc_cover.proofs.heads.+names.Goals as goal
 

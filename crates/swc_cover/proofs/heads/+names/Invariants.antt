@@ -1,7 +1,6 @@
 use Rattle.std.proofs.Common.{◌≡◌, ◌+◌, ◌*◌, ◌++◌, drop}
 use Rattle.swc_cover.proofs.Fitting.{pats_of, pat_props_of}
-use Rattle.swc_cover.specs.Below.{pat_elem_size, pat_prop_size}
-use Rattle.swc_cover.specs.Heads.{all_reserved, props_reserved}
+use Rattle.swc_cover.specs.{Below.pat_elem_size, Below.pat_prop_size, Heads.all_reserved, Heads.props_reserved}
 use Rattle.swc_cover.proofs.heads.+names.Given as goal
 
 abbrev pub decreases-add_names : goal.decreases-add_names

@@ -1,11 +1,10 @@
 use Rattle.std.proofs.Common.{[], Ok, get_or, sym, subst, arith}
 use Rattle.std.proofs.lemmas.Result.{err_from_is_err_and}
 use Rattle.swc_cover.proofs.Checked.{names-none, names-more, names-all}
-use Rattle.swc_cover.proofs.FaultsNoted as errors
 use Rattle.swc_cover.proofs.FaultsNoted.{none-strict}
-use Rattle.swc_steps.proofs.Emitted.{unrecorded}
+use Rattle.swc_cover.proofs.FaultsNoted as errors
+use Rattle.swc_steps.proofs.{Emitted.unrecorded, Steps.forgoes_later, Steps.strict_checked}
 use Rattle.swc_cover.specs.Noting.{name_error, NotesStrict}
-use Rattle.swc_steps.proofs.Steps.{forgoes_later, strict_checked}
 use Rattle.swc_cover.proofs.heads.record_names.Goals as goal
 
 pub loop-span-init : goal.loop-span-init

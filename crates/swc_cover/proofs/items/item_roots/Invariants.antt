@@ -1,7 +1,5 @@
 use Rattle.std.proofs.Common.{◌≡◌, ◌++◌, drop, map}
-use Rattle.swc_cover.specs.Items.{item_due}
-use Rattle.swc_cover.specs.Roles.{due}
-use Rattle.swc_cover.specs.declared.role.Role.TheVariants.{Bind}
+use Rattle.swc_cover.specs.{Items.item_due, Roles.due, declared.role.Role.TheVariants.Bind}
 use Rattle.swc_cover.proofs.items.item_roots.Given as goal
 
 abbrev pub invariant-loop-item : goal.invariant-loop-item

@@ -2,8 +2,7 @@ use Rattle.std.proofs.Common.{refl}
 use Rattle.swc_cover.proofs.Appended.{if_ok-as, added-stays, stays-as, apart-bound, instead-made}
 use Rattle.swc_cover.proofs.Made.{apart-plain, apart-array, apart-object, apart-default}
 use Rattle.swc_nodes.specs.GrowingNodes.{tree_at}
-use Rattle.swc_cover.specs.declared.role.Becomes.TheVariants.{Same, PatObject, Held, Ident, Array, Object, Default}
-use Rattle.swc_cover.specs.declared.role.Becomes.TheVariants.{Nothing, Instead}
+use Rattle.swc_cover.specs.declared.role.Becomes.TheVariants.{Same, PatObject, Held, Ident, Array, Object, Default, Nothing, Instead}
 use Rattle.swc_cover.proofs.making.make.Goals as goal
 
 pub push-requires : goal.push-requires

@@ -1,5 +1,4 @@
-use Rattle.swc_cover.proofs.Appended.{if_ok-as}
-use Rattle.swc_cover.proofs.Elements.{array-made}
+use Rattle.swc_cover.proofs.{Appended.if_ok-as, Elements.array-made}
 use Rattle.swc_cover.proofs.making.to_array.Goals as goal
 
 pub returns-clause-made : goal.returns-clause-made

@@ -1,5 +1,4 @@
-use Rattle.swc_cover.proofs.Appended.{if_ok-as}
-use Rattle.swc_cover.proofs.Objects.{object-apart, object-made}
+use Rattle.swc_cover.proofs.{Appended.if_ok-as, Objects.object-apart, Objects.object-made}
 use Rattle.swc_cover.proofs.making.to_object.Goals as goal
 
 pub push-requires : goal.push-requires

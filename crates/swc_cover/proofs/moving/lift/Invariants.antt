@@ -2,8 +2,7 @@ use Rattle.std.proofs.Common.{map}
 use Rattle.swc_cover.proofs.Lifting.{Lifting}
 use Rattle.swc_cover.proofs.moving.lift.Given as goal
 use Rattle.swc_cover.specs.Roles.{due, part_of_due}
-use Rattle.swc_nodes.specs.NumberedTrees.{floor}
-use Rattle.swc_nodes.specs.GrowingNodes.{count, seat_at}
+use Rattle.swc_nodes.specs.{NumberedTrees.floor, GrowingNodes.count, GrowingNodes.seat_at}
 
 abbrev pub invariant-loop-duty : goal.invariant-loop-duty
 invariant-loop-duty g l =

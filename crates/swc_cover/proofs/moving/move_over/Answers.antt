@@ -1,6 +1,5 @@
 use Rattle.std.proofs.Common.{map, sym, ◌∙◌, refl}
-use Rattle.swc_cover.proofs.Putting.{putting-starts, make-ready, make-apart, set-room, putting-more, moved-over}
-use Rattle.swc_cover.proofs.Putting.{no-items}
+use Rattle.swc_cover.proofs.Putting.{putting-starts, make-ready, make-apart, set-room, putting-more, moved-over, no-items}
 use Rattle.swc_cover.specs.Roles.{due}
 use Rattle.swc_cover.proofs.moving.move_over.Goals as goal
 

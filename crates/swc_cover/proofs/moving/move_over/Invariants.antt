@@ -2,8 +2,7 @@ use Rattle.std.proofs.Common.{length, map}
 use Rattle.swc_cover.proofs.Putting.{Putting}
 use Rattle.swc_cover.proofs.moving.move_over.Given as goal
 use Rattle.swc_cover.specs.Roles.{due, part_of_due}
-use Rattle.swc_nodes.specs.NumberedTrees.{floor}
-use Rattle.swc_nodes.specs.GrowingNodes.{count, seat_at}
+use Rattle.swc_nodes.specs.{NumberedTrees.floor, GrowingNodes.count, GrowingNodes.seat_at}
 
 abbrev pub invariant-loop-next : goal.invariant-loop-next
 invariant-loop-next g l =

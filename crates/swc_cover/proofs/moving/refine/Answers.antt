@@ -1,7 +1,6 @@
 use Rattle.std.proofs.Common.{◌++◌, ◌∷◌, [], ap, refl, ◌∙◌}
 use Rattle.swc_cover.proofs.Lifting.{one-apart, one-suits, one-kept}
-use Rattle.swc_cover.proofs.Kept.{none-kept}
-use Rattle.swc_cover.proofs.Putting.{one-made, refines-suit}
+use Rattle.swc_cover.proofs.{Kept.none-kept, Putting.one-made, Putting.refines-suit}
 use Rattle.swc_cover.specs.declared.role.Duty.{Duty}
 use Rattle.swc_nodes.specs.declared.apart.PartId.TheVariants as part
 use Rattle.swc_cover.proofs.moving.refine.Goals as goal

@@ -1,10 +1,8 @@
 use Rattle.std.proofs.Common.{refl, ap}
 use Rattle.swc_input.specs.Buffer.{last_position}
 use Rattle.swc_cover.proofs.Checked.{on-ok-as, if_err-as, from-none, found-whole, found-unfit, unfit-memory}
-use Rattle.swc_cover.proofs.Clear.{found-clear, found-unclear}
-use Rattle.swc_cover.proofs.Quiet.{params-quiet, quiet-params}
+use Rattle.swc_cover.proofs.{Clear.found-clear, Clear.found-unclear, Quiet.params-quiet, Quiet.quiet-params, FaultsNoted.found-judged}
 use Rattle.swc_cover.specs.Refining.{items_at}
-use Rattle.swc_cover.proofs.FaultsNoted.{found-judged}
 use Rattle.swc_cover.proofs.noting.check_items.Goals as goal
 
 pub returns-in-Ok-clause-checks : goal.returns-in-Ok-clause-checks

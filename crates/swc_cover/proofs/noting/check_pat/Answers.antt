@@ -1,11 +1,9 @@
 use Rattle.std.proofs.Common.{ap}
 use Rattle.swc_input.specs.Buffer.{context, last_position}
 use Rattle.swc_cover.proofs.Checked.{on-ok-as, if_err-as, from-none, found-whole, found-unfit, unfit-memory}
-use Rattle.swc_cover.proofs.Clear.{found-clear, found-unclear}
-use Rattle.swc_cover.proofs.Typed.{quiet-as, fits-quietly}
+use Rattle.swc_cover.proofs.{Clear.found-clear, Clear.found-unclear, Typed.quiet-as, Typed.fits-quietly, FaultsNoted.found-judged}
 use Rattle.swc_cover.specs.PatTypes.{verdict_as}
 use Rattle.swc_nodes.specs.GrowingNodes.{tree_at}
-use Rattle.swc_cover.proofs.FaultsNoted.{found-judged}
 use Rattle.swc_cover.proofs.noting.check_pat.Goals as goal
 
 pub returns-in-Ok-clause-checks : goal.returns-in-Ok-clause-checks

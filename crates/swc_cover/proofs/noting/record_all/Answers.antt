@@ -1,8 +1,6 @@
 use Rattle.std.proofs.Common.{true, refl, sym, subst, arith}
 use Rattle.std.proofs.lemmas.Result.{err_from_is_err_and}
-use Rattle.swc_cover.proofs.Checked.{faults-more, faults-all}
-use Rattle.swc_cover.proofs.Clear.{stays-then}
-use Rattle.swc_cover.proofs.FaultsNoted.{errors-all, errors-more}
+use Rattle.swc_cover.proofs.{Checked.faults-more, Checked.faults-all, Clear.stays-then, FaultsNoted.errors-all, FaultsNoted.errors-more}
 use Rattle.swc_input.specs.Recordings.{NotesAll}
 use Rattle.swc_steps.proofs.Emitted.{emitted, fit_seen, notes-none, notes-one, notes-then, one_more, unrecorded}
 use Rattle.swc_steps.proofs.Steps.{check_passes, forgoes_later}

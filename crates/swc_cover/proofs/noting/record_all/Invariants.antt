@@ -1,10 +1,7 @@
 use Rattle.std.proofs.Common.{◌≡◌, ◌≤◌, true, take}
-use Rattle.swc_input.specs.Buffer.{current, to_come}
-use Rattle.swc_input.specs.Kinds.{at_token}
-use Rattle.swc_input.specs.Recordings.{NotesAll}
+use Rattle.swc_input.specs.{Buffer.current, Buffer.to_come, Kinds.at_token, Recordings.NotesAll}
 use Rattle.swc_grammar.specs.Clean.{no_error}
-use Rattle.swc_cover.specs.Heads.{has_none}
-use Rattle.swc_cover.specs.Noting.{errors_of}
+use Rattle.swc_cover.specs.{Heads.has_none, Noting.errors_of}
 use Rattle.swc_steps.specs.Parsing.{Checks, seen}
 use Rattle.swc_cover.proofs.noting.record_all.Given as goal
 

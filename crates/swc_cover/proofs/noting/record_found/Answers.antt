@@ -1,6 +1,6 @@
 use Rattle.std.proofs.Common.{refl, sym, ap, subst}
-use Rattle.std.specs.Prelude.{IsSome}
 use Rattle.std.proofs.lemmas.Result.{err_from_is_err_and}
+use Rattle.std.specs.Prelude.{IsSome}
 use Rattle.swc_steps.proofs.Steps.{forgoes_refuses, refused, refuses_later}
 use Rattle.swc_cover.proofs.FaultsNoted.{refused-at}
 use Rattle.swc_cover.specs.Noting.{no_pattern, refusal_of}

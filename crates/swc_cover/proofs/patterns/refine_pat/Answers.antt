@@ -1,9 +1,7 @@
 use Rattle.std.proofs.Common.{sym, ◌∙◌}
-use Rattle.swc_cover.proofs.Appended.{if_ok-as}
 use Rattle.swc_cover.proofs.Typed.{ident-wanted, looked-wanted, typed-made}
+use Rattle.swc_cover.proofs.{Appended.if_ok-as, patterns.refine_pat.Goals.else-stands_whole-via-then-stands_whole+else-not-is_ident, patterns.refine_pat.Goals.else-stands_whole-via-else-stands_whole}
 use Rattle.swc_nodes.specs.GrowingNodes.{tree_at}
-use Rattle.swc_cover.proofs.patterns.refine_pat.Goals.{else-stands_whole-via-then-stands_whole+else-not-is_ident}
-use Rattle.swc_cover.proofs.patterns.refine_pat.Goals.{else-stands_whole-via-else-stands_whole}
 use Rattle.swc_cover.proofs.patterns.refine_pat.Goals as goal
 
 pub returns-clause-made : goal.returns-clause-made

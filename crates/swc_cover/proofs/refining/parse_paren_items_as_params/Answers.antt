@@ -1,13 +1,8 @@
 use Rattle.std.proofs.Common.{sym, ap, ◌∙◌}
-use Rattle.swc_input.specs.Buffer.{context}
 use Rattle.std.proofs.lemmas.Result.{err_from_is_err_and}
-use Rattle.swc_cover.proofs.Checked.{forgoes-after}
-use Rattle.swc_cover.proofs.Clear.{heads-then}
-use Rattle.swc_cover.proofs.Kept.{apart-any, parts-kept}
-use Rattle.swc_cover.proofs.FaultsNoted.{judged-params}
-use Rattle.swc_cover.specs.Noting.{names_bound}
-use Rattle.swc_cover.proofs.Refines.{items-refined, items-unfit}
-use Rattle.swc_cover.specs.Refining.{pats_at}
+use Rattle.swc_input.specs.Buffer.{context}
+use Rattle.swc_cover.proofs.{Checked.forgoes-after, Clear.heads-then, Kept.apart-any, Kept.parts-kept, FaultsNoted.judged-params, Refines.items-refined, Refines.items-unfit}
+use Rattle.swc_cover.specs.{Noting.names_bound, Refining.pats_at}
 use Rattle.swc_nodes.specs.NodeParts.{flat, item_parts}
 use Rattle.swc_cover.proofs.refining.parse_paren_items_as_params.Goals as goal
 

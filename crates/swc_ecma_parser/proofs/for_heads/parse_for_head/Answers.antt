@@ -1,16 +1,13 @@
 use Rattle.std.proofs.Common.{Ok, sym, ap, ◌∙◌, arith}
 use Rattle.swc_input.specs.Kinds.{at_token}
-use Rattle.swc_nodes.specs.GrowingNodes.{tree_at}
-use Rattle.swc_nodes.specs.declared.node.ForHeadId.TheVariants as number
-use Rattle.swc_nodes.specs.NodeParts.{expr_part, pat_part}
+use Rattle.swc_nodes.specs.{GrowingNodes.tree_at, declared.node.ForHeadId.ForHeadId as number, NodeParts.expr_part, NodeParts.pat_part}
 use Rattle.swc_nodes.proofs.Held.{apart-from, from-down}
 use Rattle.swc_cover.proofs.Kept.{grows-kept}
 use Rattle.swc_steps.specs.Parsing.{seen_of}
 use Rattle.swc_steps.proofs.Making as making
 use Rattle.swc_steps.proofs.Steps as steps
 use Rattle.swc_ecma_parser.specs.ForHeads.{is_each_word}
-use Rattle.swc_ecma_parser.proofs.ForHeads.{each-fits, head_splits, heard-expr, heard-target, tail, tail-unheard}
-use Rattle.swc_ecma_parser.proofs.ForHeads.{unheard-target}
+use Rattle.swc_ecma_parser.proofs.ForHeads.{each-fits, head_splits, heard-expr, heard-target, tail, tail-unheard, unheard-target}
 use Rattle.swc_ecma_parser.proofs.for_heads.parse_for_head.Goals as goal
 
 pub returns-in_err-expr-clause-produces : goal.returns-in_err-expr-clause-produces

@@ -1,7 +1,6 @@
 use Rattle.std.proofs.Common.{ap, refl}
 use Rattle.swc_lexer.specs.Inputs.{text_state, new_state, new_known}
-use Rattle.swc_lexer.specs.declared.reader.End.TheVariants.{Whole}
-use Rattle.swc_lexer.specs.declared.stack.Start.TheVariants.{Operand}
+use Rattle.swc_lexer.specs.{declared.reader.End.TheVariants.Whole, declared.stack.Start.TheVariants.Operand}
 use Rattle.swc_ecma_parser.proofs.WholeList.{headline-in, headline-lost}
 use Rattle.swc_ecma_parser.proofs.text.parse_text_expr.Goals as goal
 

@@ -1,7 +1,6 @@
 use Rattle.std.proofs.Common.{ap, ◌∙◌}
 use Rattle.swc_input.specs.Buffer.{last_position}
-use Rattle.swc_grammar.specs.Reads.{at-end}
-use Rattle.swc_grammar.specs.Symbols.{Expr}
+use Rattle.swc_grammar.specs.{Reads.at-end, Symbols.Expr}
 use Rattle.swc_nodes.specs.NodeParts.{expr_part}
 use Rattle.swc_steps.specs.Parsing.{tree_of}
 use Rattle.swc_ecma_parser.specs.Calls.{buffer_of, nodes_of}

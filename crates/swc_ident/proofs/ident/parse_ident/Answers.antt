@@ -1,5 +1,4 @@
-use Rattle.std.proofs.Common.{sym, ◌∙◌}
-use Rattle.std.proofs.lemmas.Result.{err_from_is_err_and}
+use Rattle.std.proofs.{Common.sym, Common.◌∙◌, lemmas.Result.err_from_is_err_and}
 use Rattle.swc_ident.specs.Verdicts.{ident_verdict}
 use Rattle.swc_ident.proofs.Reading.{forgone_here, notes_read, place_told, reads_then, passed_reads}
 use Rattle.swc_ident.proofs.Finding.{forgone_unnamed, named_reads, names_read, refused_name, same_faults, taken_word, unnamed_any, unnamed_reads}

@@ -1,7 +1,5 @@
-use Rattle.std.proofs.Common.{refl}
-use Rattle.std.proofs.lemmas.Result.{err_from_is_err_and}
-use Rattle.swc_ident.specs.Naming.{none-noted}
-use Rattle.swc_ident.specs.Verdicts.{name_of_any}
+use Rattle.std.proofs.{Common.refl, lemmas.Result.err_from_is_err_and}
+use Rattle.swc_ident.specs.{Naming.none-noted, Verdicts.name_of_any}
 use Rattle.swc_ident.proofs.Reading.{forgone_here, passed_reads, place_told}
 use Rattle.swc_ident.proofs.Finding.{forgone_unnamed, named_reads, names_read, taken_word}
 use Rattle.swc_ident.proofs.ident.parse_ident_name.Goals as goal

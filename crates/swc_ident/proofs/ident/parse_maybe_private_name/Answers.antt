@@ -1,8 +1,5 @@
-use Rattle.std.proofs.Common.{sym, ◌∙◌}
-use Rattle.std.proofs.lemmas.Result.{err_from_is_err_and}
-use Rattle.swc_ident.proofs.Reading.{looked_reads, reads_then}
-use Rattle.swc_ident.proofs.Finding.{named_later}
-use Rattle.swc_ident.proofs.Privacy.{neither_memory, private_later}
+use Rattle.std.proofs.{Common.sym, Common.◌∙◌, lemmas.Result.err_from_is_err_and}
+use Rattle.swc_ident.proofs.{Reading.looked_reads, Reading.reads_then, Finding.named_later, Privacy.neither_memory, Privacy.private_later}
 use Rattle.swc_ident.proofs.ident.parse_maybe_private_name.Goals as goal
 
 pub returns-in_err-has_cur-clause-either : goal.returns-in_err-has_cur-clause-either

@@ -1,8 +1,7 @@
 use Rattle.std.proofs.Common.{refl, sym, ap, ◌∙◌}
 use Rattle.std.proofs.lemmas.Result.{err_from_is_err_and}
 use Rattle.swc_input.specs.Kinds.{at_token}
-use Rattle.swc_ident.specs.Naming.{no_memory_for_it, no_string}
-use Rattle.swc_ident.specs.Verdicts.{is_word, is_str}
+use Rattle.swc_ident.specs.{Naming.no_memory_for_it, Naming.no_string, Verdicts.is_word, Verdicts.is_str}
 use Rattle.swc_ident.proofs.Reading.{forgone_later, looked_reads, passed_over, reads_then, refused_reads}
 use Rattle.swc_ident.proofs.Finding.{named_later, word_forgone}
 use Rattle.swc_ident.proofs.ident.parse_module_export_name.Goals as goal

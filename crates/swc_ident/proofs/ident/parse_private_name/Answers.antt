@@ -1,5 +1,4 @@
-use Rattle.std.proofs.Common.{refl}
-use Rattle.std.proofs.lemmas.Result.{err_from_is_err_and}
+use Rattle.std.proofs.{Common.refl, lemmas.Result.err_from_is_err_and}
 use Rattle.swc_ident.specs.Naming.{no_name}
 use Rattle.swc_ident.proofs.Reading.{end_seen, looked_then}
 use Rattle.swc_ident.proofs.Privacy.{apart_from, joins_hash, private_forgone, private_reads, unprivate_reads}

@@ -1,6 +1,5 @@
 use Rattle.std.proofs.Common.{sym, ◌∙◌}
-use Rattle.swc_ident.proofs.Reading.{none_to_note}
-use Rattle.swc_ident.proofs.Finding.{no_binding_faults}
+use Rattle.swc_ident.proofs.{Reading.none_to_note, Finding.no_binding_faults}
 use Rattle.swc_ident.proofs.words.note_binding.Goals as goal
 
 pub returns : goal.returns

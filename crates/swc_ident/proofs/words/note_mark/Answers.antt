@@ -1,5 +1,4 @@
-use Rattle.std.proofs.Common.{ap}
-use Rattle.std.proofs.lemmas.Result.{err_from_is_err_and}
+use Rattle.std.proofs.{Common.ap, lemmas.Result.err_from_is_err_and}
 use Rattle.swc_context.specs.Words.{word_text}
 use Rattle.swc_ident.specs.Steps.{faults_of}
 use Rattle.swc_ident.proofs.Reading.{forgone_here, none_to_note}

@@ -1,6 +1,5 @@
 use Rattle.swc_grammar.specs.Symbols.{Expr}
-use Rattle.swc_laws.proofs.Replay.{replay}
-use Rattle.swc_laws.proofs.Wanted.{replay-wanted}
+use Rattle.swc_laws.proofs.{Replay.replay, Wanted.replay-wanted}
 use Rattle.swc_laws.proofs.laws.replay.Goals as goal
 
 -- src/laws.rt:11:13

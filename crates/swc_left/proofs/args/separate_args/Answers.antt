@@ -1,5 +1,4 @@
-use Rattle.std.proofs.Common.{Some}
-use Rattle.std.proofs.lemmas.Result.{err_from_is_err_and}
+use Rattle.std.proofs.{Common.Some, lemmas.Result.err_from_is_err_and}
 use Rattle.swc_steps.proofs.Args.{args_separated, behind_other, behind_last, behind_none}
 use Rattle.swc_steps.proofs.Steps as s
 use Rattle.swc_left.proofs.args.separate_args.Goals as goal

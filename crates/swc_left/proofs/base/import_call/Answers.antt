@@ -2,8 +2,7 @@ use Rattle.std.proofs.Common.{true, ◌∙◌}
 use Rattle.swc_ast.specs.Trees.{import_e}
 use Rattle.swc_nodes.proofs.Standing.{grows-same}
 use Rattle.swc_steps.specs.Parsing.{scope, tree_of, args_at}
-use Rattle.swc_left.specs.Bases.{callee_node}
-use Rattle.swc_left.specs.Counted.{counted_ok}
+use Rattle.swc_left.specs.{Bases.callee_node, Counted.counted_ok}
 use Rattle.swc_left.proofs.Bases as base
 use Rattle.swc_left.proofs.Counted.{counted_is}
 use Rattle.swc_steps.proofs.Making as m

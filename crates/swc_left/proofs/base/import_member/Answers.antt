@@ -1,5 +1,4 @@
-use Rattle.std.proofs.Common.{not, refl}
-use Rattle.std.proofs.lemmas.Result.{err_from_is_err_and}
+use Rattle.std.proofs.{Common.not, Common.refl, lemmas.Result.err_from_is_err_and}
 use Rattle.swc_grammar.specs.Tokens.{is_meta, is_source}
 use Rattle.swc_left.specs.Bases.{import_source}
 use Rattle.swc_left.proofs.Bases as base

@@ -1,8 +1,7 @@
 use Rattle.std.proofs.Common.{[], Some, refl, sym, ap, ◌∙◌, arith}
 use Rattle.swc_input.specs.Kinds.{at_token, is_hash}
 use Rattle.swc_nodes.specs.GrowingNodes.{count}
-use Rattle.swc_nodes.proofs.Lists.{apart-none}
-use Rattle.swc_nodes.proofs.Standing.{grows-same}
+use Rattle.swc_nodes.proofs.{Lists.apart-none, Standing.grows-same}
 use Rattle.swc_left.specs.Bases.{super_named, super_name_tail}
 use Rattle.swc_left.proofs.Bases as base
 use Rattle.swc_steps.proofs.Building.{made_over}

@@ -1,5 +1,4 @@
-use Rattle.std.proofs.Common.{true}
-use Rattle.std.proofs.lemmas.Result.{err_from_is_err_and}
+use Rattle.std.proofs.{Common.true, lemmas.Result.err_from_is_err_and}
 use Rattle.swc_grammar.specs.Tokens.{is_lbracket, is_lparen}
 use Rattle.swc_steps.proofs.Steps as s
 use Rattle.swc_left.proofs.base.super_chain_link.Goals as goal

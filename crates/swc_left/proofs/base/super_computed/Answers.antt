@@ -1,7 +1,6 @@
 use Rattle.std.proofs.Common.{Some, refl, arith}
 use Rattle.swc_nodes.specs.NodeParts.{one_expr, expr_part}
-use Rattle.swc_nodes.proofs.Held.{apart-from, from_self}
-use Rattle.swc_nodes.proofs.Standing.{grows-same}
+use Rattle.swc_nodes.proofs.{Held.apart-from, Held.from_self, Standing.grows-same}
 use Rattle.swc_left.specs.Bases.{allowed, super_in}
 use Rattle.swc_steps.specs.Parsing.{tree_of}
 use Rattle.swc_steps.proofs.Building.{apart-down, made_over}

@@ -1,7 +1,6 @@
 use Rattle.std.proofs.Common.{◌++◌, refl, arith}
 use Rattle.swc_nodes.specs.NodeParts.{expr_part, one_expr, args_parts}
-use Rattle.swc_nodes.proofs.Held.{from-apart}
-use Rattle.swc_nodes.proofs.Standing.{grows-same}
+use Rattle.swc_nodes.proofs.{Held.from-apart, Standing.grows-same}
 use Rattle.swc_steps.proofs.Building.{apart-first, made_over}
 use Rattle.swc_steps.proofs.Making as m
 use Rattle.swc_steps.proofs.Steps as s

@@ -2,8 +2,7 @@ use Rattle.std.proofs.Common.{◌++◌, Some, refl, arith}
 use Rattle.swc_ast.specs.Tree.{span_of}
 use Rattle.swc_ast.specs.Trees.{to, computed_e, member_e, link_e}
 use Rattle.swc_nodes.specs.NodeParts.{expr_part, one_expr}
-use Rattle.swc_nodes.proofs.Held.{from-apart}
-use Rattle.swc_nodes.proofs.Standing.{grows-same}
+use Rattle.swc_nodes.proofs.{Held.from-apart, Standing.grows-same}
 use Rattle.swc_steps.specs.Parsing.{tree_of}
 use Rattle.swc_steps.proofs.Building.{apart-first, made_over}
 use Rattle.swc_steps.proofs.Making as m

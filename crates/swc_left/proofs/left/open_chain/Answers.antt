@@ -1,5 +1,4 @@
-use Rattle.std.proofs.Common.{refl}
-use Rattle.std.proofs.lemmas.Result.{err_from_is_err_and}
+use Rattle.std.proofs.{Common.refl, lemmas.Result.err_from_is_err_and}
 use Rattle.swc_grammar.specs.Tokens.{is_lbracket, is_lparen}
 use Rattle.swc_left.specs.Links.{chain_paren, chain_bracket, chain_dot}
 use Rattle.swc_left.proofs.Links as link

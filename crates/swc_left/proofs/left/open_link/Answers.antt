@@ -1,7 +1,6 @@
 use Rattle.std.proofs.Common.{false, sym, ap, ◌∙◌}
 use Rattle.swc_input.specs.Plain.{plain}
-use Rattle.swc_left.specs.declared.left.LinkHead.TheVariants as head
-use Rattle.swc_left.specs.Links.{chain_head, head_behind}
+use Rattle.swc_left.specs.{declared.left.LinkHead.LinkHead as head, Links.chain_head, Links.head_behind}
 use Rattle.swc_left.proofs.Links as link
 use Rattle.swc_steps.proofs.Steps as s
 use Rattle.swc_left.proofs.left.open_link.Goals as goal

@@ -1,8 +1,6 @@
 use Rattle.std.proofs.Common.{◌++◌, refl, sym, ap, arith}
 use Rattle.swc_context.specs.Spans.{from_to}
-use Rattle.swc_ast.specs.Parts.{member_prop_tree}
-use Rattle.swc_ast.specs.Tree.{span_of}
-use Rattle.swc_ast.specs.Trees.{member_e, link_e}
+use Rattle.swc_ast.specs.{Parts.member_prop_tree, Tree.span_of, Trees.member_e, Trees.link_e}
 use Rattle.swc_nodes.specs.NodeParts.{one_expr, member_parts}
 use Rattle.swc_nodes.proofs.Held.{from-later, tree-later}
 use Rattle.swc_steps.specs.Parsing.{tree_of}

@@ -1,10 +1,8 @@
 use Rattle.std.proofs.Common.{Ok, Some, refl, sym, ap, ◌∙◌, arith}
 use Rattle.swc_input.specs.Kinds.{at_token, is_hash}
 use Rattle.swc_ast.specs.Trees.{name_e, private_e}
-use Rattle.swc_grammar.specs.Names.{may_name}
-use Rattle.swc_grammar.specs.Words.{◌>>=◌, word}
-use Rattle.swc_nodes.proofs.Lists.{apart-none}
-use Rattle.swc_nodes.proofs.Standing.{grows-same}
+use Rattle.swc_grammar.specs.{Names.may_name, Words.◌>>=◌, Words.word}
+use Rattle.swc_nodes.proofs.{Lists.apart-none, Standing.grows-same}
 use Rattle.swc_steps.specs.Args.{hash_name}
 use Rattle.swc_left.proofs.Links as link
 use Rattle.swc_steps.proofs.Making as m

@@ -2,11 +2,8 @@ use Rattle.std.proofs.Common.{map, not, ◌++◌, sym, ap, arith}
 use Rattle.swc_ast.specs.Parts.{quasi_tree}
 use Rattle.swc_ast.specs.Tree.{node, span_of, tpl as tpl_kind}
 use Rattle.swc_ast.specs.Trees.{to, tagged_e, is_chain}
-use Rattle.swc_nodes.specs.Lists.{exprs_parts}
-use Rattle.swc_nodes.specs.NodeParts.{expr_part, one_expr}
-use Rattle.swc_nodes.proofs.Held.{from-apart}
-use Rattle.swc_nodes.proofs.Lists.{trees-both}
-use Rattle.swc_nodes.proofs.Standing.{grows-same}
+use Rattle.swc_nodes.specs.{Lists.exprs_parts, NodeParts.expr_part, NodeParts.one_expr}
+use Rattle.swc_nodes.proofs.{Held.from-apart, Lists.trees-both, Standing.grows-same}
 use Rattle.swc_steps.specs.Parsing.{tree_of}
 use Rattle.swc_left.specs.Templates.{tpl_parts_at}
 use Rattle.swc_steps.proofs.Building.{apart-first, made_over}

@@ -1,9 +1,6 @@
 use Rattle.std.proofs.Common.{◌<◌, ◌≤◌, map, reverse, sym, subst, arith}
-use Rattle.swc_nodes.specs.GrowingNodes.{count, Stood}
-use Rattle.swc_nodes.specs.Walking.{part_of}
-use Rattle.swc_nodes.proofs.Reaching.{Going, going_first, going_past, going_on, going_done, past_less, on_less}
-use Rattle.swc_nodes.proofs.Reaching.{taken_first}
-use Rattle.swc_nodes.proofs.Reaching.{has-reached, parts-first, found-numbers, rising-apart, rising-one}
+use Rattle.swc_nodes.specs.{GrowingNodes.count, GrowingNodes.Stood, Walking.part_of}
+use Rattle.swc_nodes.proofs.Reaching.{Going, going_first, going_past, going_on, going_done, past_less, on_less, taken_first, has-reached, parts-first, found-numbers, rising-apart, rising-one}
 use Rattle.swc_nodes.proofs.Remembered.{taken}
 use Rattle.swc_nodes.proofs.reached.reached.Goals as goal
 

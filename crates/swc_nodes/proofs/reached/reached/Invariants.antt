@@ -1,6 +1,5 @@
 use Rattle.std.proofs.Common.{map, reverse}
-use Rattle.swc_nodes.specs.Walking.{part_of}
-use Rattle.swc_nodes.specs.Weights.{ats, left_over}
+use Rattle.swc_nodes.specs.{Walking.part_of, Weights.ats, Weights.left_over}
 use Rattle.swc_nodes.proofs.Reaching.{Going}
 use Rattle.swc_nodes.proofs.reached.reached.Given as goal
 

@@ -1,6 +1,5 @@
 use Rattle.std.proofs.Common.{◌≡◌, ℕ, List, length, reverse, vec_len}
-use Rattle.swc_nodes.specs.NodeParts.{Part}
-use Rattle.swc_nodes.specs.Visits.{Goes, left_in}
+use Rattle.swc_nodes.specs.{NodeParts.Part, Visits.Goes, Visits.left_in}
 use Rattle.swc_nodes.proofs.walk.enter_all.Given as goal
 
 -- the innermost nodes were entered so far, and nothing was left

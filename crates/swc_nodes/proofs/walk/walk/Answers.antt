@@ -1,10 +1,8 @@
 use Rattle.std.proofs.Common.{length, map, reverse, subst, arith, ◌≡◌}
-use Rattle.swc_nodes.specs.Visits.{IsReady}
-use Rattle.swc_nodes.specs.Walking.{part_of}
+use Rattle.swc_nodes.specs.{Visits.IsReady, Visits.left_in, Walking.part_of}
 use Rattle.swc_nodes.proofs.Reaching.{going_first, has-reached, found-numbers, rising-apart}
 use Rattle.swc_nodes.proofs.Remembered.{taken}
 use Rattle.swc_nodes.proofs.Visited.{walks_first, turned, turned_less, entered, all_left, all_walked}
-use Rattle.swc_nodes.specs.Visits.{left_in}
 use Rattle.swc_nodes.proofs.walk.walk.Goals as goal
 
 pub loop-part-init : goal.loop-part-init

@@ -1,7 +1,5 @@
 use Rattle.std.proofs.Common.{length, map, reverse}
-use Rattle.swc_nodes.specs.Visits.{IsReady}
-use Rattle.swc_nodes.specs.Walking.{part_of}
-use Rattle.swc_nodes.specs.Weights.{ats, left_over}
+use Rattle.swc_nodes.specs.{Visits.IsReady, Walking.part_of, Weights.ats, Weights.left_over}
 use Rattle.swc_nodes.proofs.Visited.{Walks}
 use Rattle.swc_nodes.proofs.walk.walk.Given as goal
 

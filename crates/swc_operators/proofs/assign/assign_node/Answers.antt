@@ -1,9 +1,7 @@
 use Rattle.std.proofs.Common.{◌≡◌, ◌+◌, true, refl, sym, subst, arith}
-use Rattle.swc_context.specs.declared.operator.AssignOp.{AssignOp}
-use Rattle.swc_context.specs.declared.operator.AssignOp.TheVariants as write
+use Rattle.swc_context.specs.declared.operator.AssignOp.{AssignOp, AssignOp as write}
 use Rattle.swc_nodes.specs.GrowingNodes.{end_at, first_at, From}
-use Rattle.swc_nodes.specs.NodeParts.{expr_part, target_part}
-use Rattle.swc_nodes.specs.declared.node.TargetNode.{TargetNode}
+use Rattle.swc_nodes.specs.{NodeParts.expr_part, NodeParts.target_part, declared.node.TargetNode.TargetNode}
 use Rattle.swc_nodes.proofs.Standing.{grows-same}
 use Rattle.swc_steps.specs.Parsing.{itself, tree_of, GoesOn}
 use Rattle.swc_steps.proofs.Making as m

@@ -1,13 +1,9 @@
 use Rattle.std.proofs.Common.{sym, ap, subst, ◌∙◌}
 use Rattle.std.proofs.lemmas.Result.{err_from_is_err_and}
-use Rattle.swc_context.specs.declared.operator.AssignOp.{AssignOp}
-use Rattle.swc_context.specs.declared.operator.AssignOp.TheVariants as write
-use Rattle.swc_ast.specs.Targets.{is_target}
-use Rattle.swc_ast.specs.Tree.{Tree}
+use Rattle.swc_context.specs.declared.operator.AssignOp.{AssignOp, AssignOp as write}
+use Rattle.swc_ast.specs.{Targets.is_target, Tree.Tree}
 use Rattle.swc_grammar.specs.Cover.{is_pattern}
-use Rattle.swc_cover.specs.Clear.{is_clear}
-use Rattle.swc_cover.specs.PatTypes.{verdict_as, want_as}
-use Rattle.swc_cover.specs.declared.pat_type.PatType.TheVariants.{AssignPat}
+use Rattle.swc_cover.specs.{Clear.is_clear, PatTypes.verdict_as, PatTypes.want_as, declared.pat_type.PatType.TheVariants.AssignPat}
 use Rattle.swc_cover.proofs.Kept.{none-kept}
 use Rattle.swc_steps.specs.Parsing.{behind, On, scope, tree_of}
 use Rattle.swc_steps.proofs.Steps as s

@@ -5,8 +5,7 @@ use Rattle.swc_nodes.proofs.Targets.{target-from}
 use Rattle.swc_steps.specs.Parsing.{tree_of, Refuses}
 use Rattle.swc_steps.proofs.Steps.{check_passes, refuses_later}
 use Rattle.swc_operators.proofs.assign.check_assign_target.Goals as goal
-use Rattle.swc_operators.proofs.assign.check_assign_target.Goals.{in-Assign+in_ok-emit_err-in-Assign}
-use Rattle.swc_operators.proofs.assign.check_assign_target.Goals.{in_default+in_ok-emit_err-in_default}
+use Rattle.swc_operators.proofs.assign.check_assign_target.Goals.{in-Assign+in_ok-emit_err-in-Assign, in_default+in_ok-emit_err-in_default}
 
 pub returns-then-is_simple_target-clause-checks : goal.returns-then-is_simple_target-clause-checks
 returns-then-is_simple_target-clause-checks g c =

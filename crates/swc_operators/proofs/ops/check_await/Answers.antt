@@ -3,9 +3,7 @@ use Rattle.swc_input.specs.Buffer.{context}
 use Rattle.swc_grammar.specs.Tokens.{await_ok}
 use Rattle.swc_steps.proofs.Steps.{check_passes, not_and, not_false}
 use Rattle.swc_operators.proofs.ops.check_await.Goals as goal
-use Rattle.swc_operators.proofs.ops.check_await.Goals.{else-ctx-via-then-ctx+else-not-ctx, else-ctx-via-else-ctx}
-use Rattle.swc_operators.proofs.ops.check_await.Goals.{else-ctx-2-via-then-ctx-2+else-not-ctx-2}
-use Rattle.swc_operators.proofs.ops.check_await.Goals.{else-ctx-2-via-else-ctx-2}
+use Rattle.swc_operators.proofs.ops.check_await.Goals.{else-ctx-via-then-ctx+else-not-ctx, else-ctx-via-else-ctx, else-ctx-2-via-then-ctx-2+else-not-ctx-2, else-ctx-2-via-else-ctx-2}
 
 or_not : (a b : Bool) → b ≡ false → (a || not b) ≡ true
 or_not true b h = refl

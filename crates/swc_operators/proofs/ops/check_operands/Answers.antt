@@ -1,8 +1,7 @@
 use Rattle.std.proofs.Common.{◌∙◌, sym}
 use Rattle.swc_ast.specs.Trees.{is_logical, nullish_ok}
 use Rattle.swc_steps.specs.Parsing.{tree_of}
-use Rattle.swc_steps.proofs.Steps.{check_passes, check_later}
-use Rattle.swc_steps.proofs.Rules.{nullish_other, nullish_both}
+use Rattle.swc_steps.proofs.{Steps.check_passes, Steps.check_later, Rules.nullish_other, Rules.nullish_both}
 use Rattle.swc_operators.proofs.ops.check_operands.Goals as goal
 
 pub returns-then-not-is_nullish_op-clause-checks : goal.returns-then-not-is_nullish_op-clause-checks

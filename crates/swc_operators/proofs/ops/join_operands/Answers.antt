@@ -2,8 +2,7 @@ use Rattle.std.proofs.Common.{Ok, None, sym, ap, ◌∙◌}
 use Rattle.std.proofs.lemmas.Result.{err_from_is_err_and}
 use Rattle.swc_ast.specs.Trees.{nullish_ok, left_ok}
 use Rattle.swc_nodes.proofs.Standing.{grows-same}
-use Rattle.swc_steps.specs.Parsing.{tree_of}
-use Rattle.swc_steps.specs.Readers.{turned}
+use Rattle.swc_steps.specs.{Parsing.tree_of, Readers.turned}
 use Rattle.swc_steps.proofs.Building.{made_at}
 use Rattle.swc_steps.proofs.Making as m
 use Rattle.swc_steps.proofs.Rules as rule

@@ -1,10 +1,7 @@
 use Rattle.std.proofs.Common.{Ok, false, refl, sym, ap, ◌∙◌, arith}
 use Rattle.swc_context.specs.Spans.{from_to}
-use Rattle.swc_ast.specs.Targets.{is_target}
-use Rattle.swc_ast.specs.Tree.{span_of}
-use Rattle.swc_ast.specs.Trees.{update_e}
-use Rattle.swc_nodes.proofs.Held.{from_self}
-use Rattle.swc_nodes.proofs.Standing.{grows-same}
+use Rattle.swc_ast.specs.{Targets.is_target, Tree.span_of, Trees.update_e}
+use Rattle.swc_nodes.proofs.{Held.from_self, Standing.grows-same}
 use Rattle.swc_steps.specs.Parsing.{scope, tree_of}
 use Rattle.swc_operators.specs.Updates.{update_behind}
 use Rattle.swc_steps.proofs.Making as m

@@ -1,10 +1,8 @@
-use Rattle.std.proofs.Common.{◌≢◌, arith}
-use Rattle.std.proofs.lemmas.Result.{err_from_is_err_and}
+use Rattle.std.proofs.{Common.◌≢◌, Common.arith, lemmas.Result.err_from_is_err_and}
 use Rattle.swc_context.specs.declared.error.SyntaxError.TheVariants.{OutOfMemory}
 use Rattle.swc_nodes.proofs.Standing.{grows-same}
-use Rattle.swc_steps.proofs.Building.{made_from}
-use Rattle.swc_steps.proofs.Making.{not_recovered}
 use Rattle.swc_steps.proofs.Steps.{if_err, on_ok, tries_node}
+use Rattle.swc_steps.proofs.{Building.made_from, Making.not_recovered}
 use Rattle.swc_operators.proofs.ops.recover.Goals as goal
 
 pub returns-in_err-emit_error : goal.returns-in_err-emit_error

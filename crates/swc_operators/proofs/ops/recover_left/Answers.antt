@@ -2,8 +2,7 @@ use Rattle.std.proofs.Common.{◌≢◌, ◌∙◌, sym}
 use Rattle.swc_context.specs.declared.error.SyntaxError.TheVariants.{OutOfMemory}
 use Rattle.swc_nodes.proofs.Standing.{grows-same}
 use Rattle.swc_steps.proofs.Making.{not_recovered}
-use Rattle.swc_steps.proofs.Steps.{acts_after, falls_after, forgoes_on, forgoes_refuses, here_leads, if_err}
-use Rattle.swc_steps.proofs.Steps.{memory_is, memory_not, notes_after, on_ok, spent}
+use Rattle.swc_steps.proofs.Steps.{acts_after, falls_after, forgoes_on, forgoes_refuses, here_leads, if_err, memory_is, memory_not, notes_after, on_ok, spent}
 use Rattle.swc_operators.proofs.ops.recover_left.Goals as goal
 
 pub returns-then-is_out_of_memory-clause-recovers : goal.returns-then-is_out_of_memory-clause-recovers

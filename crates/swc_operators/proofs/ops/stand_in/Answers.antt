@@ -1,8 +1,6 @@
 use Rattle.std.proofs.lemmas.Result.{err_from_is_err_and}
 use Rattle.swc_nodes.proofs.Standing.{grows-same}
-use Rattle.swc_steps.proofs.Building.{made_at}
-use Rattle.swc_steps.proofs.Making.{not_recovered}
-use Rattle.swc_steps.proofs.Steps.{forgoes_later, forgoes_here}
+use Rattle.swc_steps.proofs.{Building.made_at, Making.not_recovered, Steps.forgoes_later, Steps.forgoes_here}
 use Rattle.swc_operators.proofs.ops.stand_in.Goals as goal
 
 pub returns-in_err-emit_err-clause-recovers : goal.returns-in_err-emit_err-clause-recovers

@@ -1,5 +1,4 @@
-use Rattle.std.proofs.Common.{arith}
-use Rattle.std.proofs.lemmas.Result.{err_from_is_err_and}
+use Rattle.std.proofs.{Common.arith, lemmas.Result.err_from_is_err_and}
 use Rattle.swc_input.specs.Buffer.{context}
 use Rattle.swc_ast.specs.Trees.{delete_ok}
 use Rattle.swc_nodes.proofs.Standing.{grows-same}

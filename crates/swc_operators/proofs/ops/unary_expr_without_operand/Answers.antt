@@ -1,10 +1,7 @@
-use Rattle.std.proofs.Common.{◌≢◌, arith}
-use Rattle.std.proofs.lemmas.Result.{err_from_is_err_and}
+use Rattle.std.proofs.{Common.◌≢◌, Common.arith, lemmas.Result.err_from_is_err_and}
 use Rattle.swc_context.specs.declared.error.SyntaxError.TheVariants.{OutOfMemory}
-use Rattle.swc_nodes.proofs.Held.{if_from}
-use Rattle.swc_nodes.proofs.Standing.{grows-then}
-use Rattle.swc_steps.specs.Parsing.{tree_of}
-use Rattle.swc_steps.specs.Readers.{unary_op_node}
+use Rattle.swc_nodes.proofs.{Held.if_from, Standing.grows-then}
+use Rattle.swc_steps.specs.{Parsing.tree_of, Readers.unary_op_node}
 use Rattle.swc_steps.proofs.Making as m
 use Rattle.swc_steps.proofs.Steps as s
 use Rattle.swc_operators.proofs.ops.unary_expr_without_operand.Goals as goal

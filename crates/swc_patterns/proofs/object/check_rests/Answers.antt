@@ -1,5 +1,4 @@
-use Rattle.std.proofs.Common.{arith}
-use Rattle.std.proofs.lemmas.Result.{err_from_is_err_and}
+use Rattle.std.proofs.{Common.arith, lemmas.Result.err_from_is_err_and}
 use Rattle.swc_nodes.specs.NodeParts.{pat_prop_parts}
 use Rattle.swc_steps.proofs.Steps as s
 use Rattle.swc_patterns.specs.Answers.{pat_prop_at}

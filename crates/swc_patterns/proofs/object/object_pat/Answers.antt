@@ -4,9 +4,7 @@ use Rattle.swc_nodes.proofs.Standing.{grows-same}
 use Rattle.swc_steps.proofs.Making as m
 use Rattle.swc_steps.proofs.Steps as s
 use Rattle.swc_patterns.specs.Answers.{pat_props_at}
-use Rattle.swc_patterns.proofs.PatNodes.{pat_node_on}
-use Rattle.swc_patterns.proofs.Objects.{object_splits}
-use Rattle.swc_patterns.proofs.PropRests.{pat_made_over}
+use Rattle.swc_patterns.proofs.{PatNodes.pat_node_on, Objects.object_splits, PropRests.pat_made_over}
 use Rattle.swc_patterns.proofs.object.object_pat.Goals as goal
 
 pub returns-in_err-check_rests : goal.returns-in_err-check_rests

@@ -5,8 +5,7 @@ use Rattle.swc_grammar.specs.Tokens.{is_rparen}
 use Rattle.swc_steps.specs.Parsing.{seen_of}
 use Rattle.swc_steps.proofs.Steps as s
 use Rattle.swc_patterns.specs.Rests.{stage_of, has_comma}
-use Rattle.swc_patterns.proofs.FormalParams.{next_param_none, next_param_closed, next_param_goes, closed_well}
-use Rattle.swc_patterns.proofs.FormalParams.{closed_ill}
+use Rattle.swc_patterns.proofs.FormalParams.{next_param_none, next_param_closed, next_param_goes, closed_well, closed_ill}
 use Rattle.swc_patterns.proofs.params.next_param.Goals as goal
 
 pub returns-then-not-branch-clause-next : goal.returns-then-not-branch-clause-next

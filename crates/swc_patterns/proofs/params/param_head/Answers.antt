@@ -2,8 +2,7 @@ use Rattle.std.proofs.Common.{Some, not, refl}
 use Rattle.std.proofs.lemmas.Result.{err_from_is_err_and}
 use Rattle.swc_grammar.specs.Tokens.{is_dots}
 use Rattle.swc_steps.proofs.Steps as s
-use Rattle.swc_patterns.specs.Rests.{has_rest}
-use Rattle.swc_patterns.specs.declared.params.NextParam.TheVariants as next
+use Rattle.swc_patterns.specs.{Rests.has_rest, declared.params.NextParam.NextParam as next}
 use Rattle.swc_patterns.proofs.FormalParams.{head_well, head_ill}
 use Rattle.swc_patterns.proofs.params.param_head.Goals as goal
 

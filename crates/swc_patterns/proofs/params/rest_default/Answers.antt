@@ -1,7 +1,6 @@
 use Rattle.std.proofs.Common.{false, refl}
 use Rattle.swc_nodes.specs.GrowingNodes.{first_at}
-use Rattle.swc_nodes.proofs.Held.{from-down}
-use Rattle.swc_nodes.proofs.Standing.{grows-same, grows-then}
+use Rattle.swc_nodes.proofs.{Held.from-down, Standing.grows-same, Standing.grows-then}
 use Rattle.swc_steps.specs.Readers.{nothing}
 use Rattle.swc_steps.proofs.Making as m
 use Rattle.swc_steps.proofs.Steps as s

@@ -3,9 +3,7 @@ use Rattle.std.proofs.lemmas.Result.{err_from_is_err_and}
 use Rattle.swc_input.specs.Buffer.{current}
 use Rattle.swc_grammar.specs.Tokens.{is_comma, is_dots}
 use Rattle.swc_steps.proofs.Steps as s
-use Rattle.swc_patterns.specs.Rests.{has_rest}
-use Rattle.swc_patterns.specs.Arrays.{head_by}
-use Rattle.swc_patterns.specs.declared.pat.NextElement.TheVariants as next
+use Rattle.swc_patterns.specs.{Rests.has_rest, Arrays.head_by, declared.pat.NextElement.NextElement as next}
 use Rattle.swc_patterns.proofs.Arrays.{head_here, head_of, head_well, head_ill}
 use Rattle.swc_patterns.proofs.pat.element_head.Goals as goal
 

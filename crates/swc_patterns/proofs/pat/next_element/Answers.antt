@@ -4,8 +4,7 @@ use Rattle.swc_input.specs.Kinds.{at_token}
 use Rattle.swc_grammar.specs.Tokens.{is_rbracket}
 use Rattle.swc_steps.proofs.Making as m
 use Rattle.swc_steps.proofs.Steps as s
-use Rattle.swc_patterns.specs.Rests.{stage_of, has_comma}
-use Rattle.swc_patterns.specs.declared.pat.NextElement.TheVariants as next
+use Rattle.swc_patterns.specs.{Rests.stage_of, Rests.has_comma, declared.pat.NextElement.NextElement as next}
 use Rattle.swc_patterns.proofs.Arrays.{next_ends, next_goes, ends_well, ends_ill}
 use Rattle.swc_patterns.proofs.pat.next_element.Goals as goal
 

@@ -1,6 +1,5 @@
 use Rattle.std.specs.Prelude.{true}
-use Rattle.swc_grammar.specs.Names.{may_bind}
-use Rattle.swc_grammar.specs.Words.{word}
+use Rattle.swc_grammar.specs.{Names.may_bind, Words.word}
 use Rattle.swc_steps.specs.Parsing.{binding_spelling}
 use Rattle.swc_steps.proofs.Naming.{parses_lower}
 use Rattle.swc_patterns.proofs.Bindings.{parses_binding}

@@ -6,8 +6,7 @@ use Rattle.swc_nodes.proofs.Standing.{grows-same}
 use Rattle.swc_steps.proofs.Making as m
 use Rattle.swc_steps.proofs.Steps as s
 use Rattle.swc_patterns.specs.Arrays.{plain_pat}
-use Rattle.swc_patterns.proofs.Arrays.{plain_splits, plain_no}
-use Rattle.swc_patterns.proofs.PatNodes.{pat_node}
+use Rattle.swc_patterns.proofs.{Arrays.plain_splits, Arrays.plain_no, PatNodes.pat_node}
 use Rattle.swc_patterns.proofs.pat.parse_plain_pat.Goals as goal
 
 pub returns-in_err-look : goal.returns-in_err-look

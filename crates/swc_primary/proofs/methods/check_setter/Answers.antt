@@ -1,5 +1,4 @@
-use Rattle.std.proofs.Common.{not}
-use Rattle.std.proofs.lemmas.Result.{err_from_is_err_and}
+use Rattle.std.proofs.{Common.not, lemmas.Result.err_from_is_err_and}
 use Rattle.swc_primary.specs.Methods.{just_one, begins_rest}
 use Rattle.swc_steps.proofs.Steps.{check_later}
 use Rattle.swc_primary.proofs.methods.check_setter.Goals as goal

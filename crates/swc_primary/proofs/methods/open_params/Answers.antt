@@ -1,6 +1,5 @@
 use Rattle.std.proofs.Common.{true, Err, refl, sym, ap, ◌∙◌}
-use Rattle.swc_context.specs.Contexts.{method_params}
-use Rattle.swc_context.specs.Contexts.{view as deciding}
+use Rattle.swc_context.specs.Contexts.{method_params, view as deciding}
 use Rattle.swc_grammar.specs.Tokens.{is_lparen}
 use Rattle.swc_steps.specs.Keys.{expected}
 use Rattle.swc_primary.specs.Methods.{async_in, generator_in}

@@ -1,14 +1,11 @@
 use Rattle.std.proofs.Common.{refl, sym, ap, ◌∙◌}
 use Rattle.std.proofs.lemmas.Result.{err_from_is_err_and}
-use Rattle.swc_input.specs.Kinds.{at_token}
+use Rattle.swc_input.specs.{Kinds.at_token, Buffer.current}
 use Rattle.swc_bodies.specs.Readings.{is_brace}
-use Rattle.swc_steps.specs.Parsing.{by_hook}
+use Rattle.swc_steps.specs.{Parsing.by_hook, declared.tokens.Sign.TheVariants.LBrace}
 use Rattle.swc_steps.proofs.Hearing as hearing
-use Rattle.swc_steps.proofs.Naming.{parses_lower}
+use Rattle.swc_steps.proofs.{Naming.parses_lower, Signs.sign_here}
 use Rattle.swc_steps.proofs.Keys as key
-use Rattle.swc_input.specs.Buffer.{current}
-use Rattle.swc_steps.specs.declared.tokens.Sign.TheVariants.{LBrace}
-use Rattle.swc_steps.proofs.Signs.{sign_here}
 use Rattle.swc_steps.proofs.Steps as s
 use Rattle.swc_primary.proofs.methods.parse_block.Goals as goal
 

@@ -1,6 +1,5 @@
 use Rattle.std.proofs.Common.{refl, ap, ◌∙◌}
-use Rattle.swc_context.specs.Contexts.{method_block}
-use Rattle.swc_context.specs.Contexts.{view as deciding}
+use Rattle.swc_context.specs.Contexts.{method_block, view as deciding}
 use Rattle.swc_steps.specs.Parsing.{by_hook}
 use Rattle.swc_steps.proofs.Keys as key
 use Rattle.swc_steps.proofs.Steps as s

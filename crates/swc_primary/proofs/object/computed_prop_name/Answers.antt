@@ -1,8 +1,7 @@
 use Rattle.std.proofs.Common.{Ok, Some, refl}
 use Rattle.swc_ast.specs.Trees.{to, computed_e}
 use Rattle.swc_nodes.specs.NodeParts.{expr_part}
-use Rattle.swc_nodes.proofs.Held.{apart-from, from_self}
-use Rattle.swc_nodes.proofs.Standing.{grows-same}
+use Rattle.swc_nodes.proofs.{Held.apart-from, Held.from_self, Standing.grows-same}
 use Rattle.swc_steps.specs.Parsing.{tree_of}
 use Rattle.swc_steps.proofs.Making as m
 use Rattle.swc_steps.proofs.Steps as s

@@ -1,5 +1,4 @@
-use Rattle.std.proofs.Common.{Some, refl}
-use Rattle.std.proofs.lemmas.Result.{err_from_is_err_and}
+use Rattle.std.proofs.{Common.Some, Common.refl, lemmas.Result.err_from_is_err_and}
 use Rattle.swc_steps.specs.Parsing.{ident_spelling}
 use Rattle.swc_primary.proofs.Properties.{cover_name_splits}
 use Rattle.swc_steps.proofs.Steps as s

@@ -1,5 +1,4 @@
-use Rattle.std.proofs.Common.{not}
-use Rattle.std.proofs.lemmas.Result.{err_from_is_err_and}
+use Rattle.std.proofs.{Common.not, lemmas.Result.err_from_is_err_and}
 use Rattle.swc_context.specs.Reserved.{is_reserved_word}
 use Rattle.swc_input.specs.Buffer.{context}
 use Rattle.swc_steps.specs.Parsing.{scope, name_spelling}

@@ -1,7 +1,6 @@
 use Rattle.std.proofs.Common.{Some, refl, sym, ap, ◌∙◌}
 use Rattle.std.proofs.lemmas.Result.{err_from_is_err_and}
-use Rattle.swc_input.specs.Plain.{plain}
-use Rattle.swc_input.specs.Kinds.{at_token}
+use Rattle.swc_input.specs.{Plain.plain, Kinds.at_token}
 use Rattle.swc_grammar.specs.Tokens.{is_word}
 use Rattle.swc_steps.specs.Keys.{named_key, name_key, literal_key, is_key_lit}
 use Rattle.swc_steps.proofs.Keys as key

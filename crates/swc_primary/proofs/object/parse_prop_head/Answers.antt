@@ -1,7 +1,5 @@
-use Rattle.std.proofs.Common.{refl, ◌∙◌}
-use Rattle.std.proofs.lemmas.Result.{err_from_is_err_and}
-use Rattle.swc_primary.specs.Methods.{method_tail}
-use Rattle.swc_primary.specs.Properties.{spread_prop_tail}
+use Rattle.std.proofs.{Common.refl, Common.◌∙◌, lemmas.Result.err_from_is_err_and}
+use Rattle.swc_primary.specs.{Methods.method_tail, Properties.spread_prop_tail}
 use Rattle.swc_primary.proofs.Begins.{begins_faulty}
 use Rattle.swc_primary.proofs.Properties as props
 use Rattle.swc_steps.proofs.Steps as s

@@ -1,5 +1,4 @@
-use Rattle.std.proofs.Common.{refl}
-use Rattle.std.proofs.lemmas.Result.{err_from_is_err_and}
+use Rattle.std.proofs.{Common.refl, lemmas.Result.err_from_is_err_and}
 use Rattle.swc_steps.proofs.Steps as s
 use Rattle.swc_primary.proofs.object.parse_questioned_name.Goals as goal
 

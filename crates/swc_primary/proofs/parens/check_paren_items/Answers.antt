@@ -1,7 +1,5 @@
 use Rattle.std.proofs.Common.{sym, ◌∙◌, arith}
-use Rattle.std.proofs.lemmas.Bool.{eqb-true}
-use Rattle.std.proofs.lemmas.Grind.{common_steps}
-use Rattle.std.proofs.lemmas.Result.{err_from_is_err_and}
+use Rattle.std.proofs.{lemmas.Bool.eqb-true, lemmas.Grind.common_steps, lemmas.Result.err_from_is_err_and}
 use Rattle.swc_steps.specs.Parsing.{tree_of}
 use Rattle.swc_primary.proofs.ParenItems.{paren_none, paren_checked, paren_refused}
 use Rattle.swc_steps.proofs.Steps as s

@@ -1,5 +1,4 @@
-use Rattle.std.proofs.Common.{sym, ◌∙◌}
-use Rattle.std.proofs.lemmas.Result.{err_from_is_err_and}
+use Rattle.std.proofs.{Common.sym, Common.◌∙◌, lemmas.Result.err_from_is_err_and}
 use Rattle.swc_steps.proofs.Steps as s
 use Rattle.swc_primary.proofs.PrivateNames.{in_goes, in_of, in_stops, not_in}
 use Rattle.swc_primary.proofs.primary.check_before_in.Goals as goal

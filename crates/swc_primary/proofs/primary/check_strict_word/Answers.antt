@@ -1,5 +1,4 @@
-use Rattle.std.proofs.Common.{not, ◌&&◌}
-use Rattle.std.proofs.lemmas.Result.{err_from_is_err_and}
+use Rattle.std.proofs.{Common.not, Common.◌&&◌, lemmas.Result.err_from_is_err_and}
 use Rattle.swc_input.specs.Buffer.{context}
 use Rattle.swc_steps.proofs.Steps.{and_true, not_and, check_passes, forgoes_here}
 use Rattle.swc_primary.proofs.primary.check_strict_word.Goals as goal

@@ -1,17 +1,11 @@
 use Rattle.std.proofs.Common.{map, sym, ap}
 use Rattle.swc_context.specs.Spans.{from_to}
-use Rattle.swc_ast.specs.Parts.{item_trees}
-use Rattle.swc_ast.specs.Trees.{paren_e, held_exprs}
-use Rattle.swc_ast.specs.declared.expr.ExprOrSpread.{ExprOrSpread}
-use Rattle.swc_nodes.specs.Lists.{seq_between}
-use Rattle.swc_nodes.specs.NodeParts.{args_parts}
-use Rattle.swc_nodes.specs.GrowingNodes.{first_start, last_end}
-use Rattle.swc_nodes.specs.declared.node.ExprId.{ExprId}
+use Rattle.swc_ast.specs.{Parts.item_trees, Trees.paren_e, Trees.held_exprs, declared.expr.ExprOrSpread.ExprOrSpread}
+use Rattle.swc_nodes.specs.{Lists.seq_between, NodeParts.args_parts, GrowingNodes.first_start, GrowingNodes.last_end, declared.node.ExprId.ExprId}
 use Rattle.swc_nodes.proofs.Standing.{grows-same}
 use Rattle.swc_steps.specs.Parsing.{tree_of}
-use Rattle.swc_steps.proofs.Building.{made_at, made_over}
+use Rattle.swc_steps.proofs.{Building.made_at, Building.made_over, Naming.goes, Naming.stops}
 use Rattle.swc_steps.proofs.Making as m
-use Rattle.swc_steps.proofs.Naming.{goes, stops}
 use Rattle.swc_steps.proofs.Steps as s
 use Rattle.swc_primary.proofs.ParenItems.{free_on, not_free}
 use Rattle.swc_primary.proofs.primary.paren_items.Goals as goal

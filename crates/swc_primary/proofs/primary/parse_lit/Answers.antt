@@ -1,9 +1,7 @@
 use Rattle.std.proofs.Common.{sym, ap, refl, ◌∙◌}
 use Rattle.std.proofs.lemmas.Result.{err_from_is_err_and}
-use Rattle.swc_input.specs.Plain.{plain}
-use Rattle.swc_input.specs.Kinds.{at_token}
-use Rattle.swc_grammar.specs.Parts.{lit_of}
-use Rattle.swc_grammar.specs.Clean.{is_lit}
+use Rattle.swc_input.specs.{Plain.plain, Kinds.at_token}
+use Rattle.swc_grammar.specs.{Parts.lit_of, Clean.is_lit}
 use Rattle.swc_steps.specs.Parsing.{lit_in}
 use Rattle.swc_steps.proofs.Steps as s
 use Rattle.swc_steps.proofs.Rules as rule

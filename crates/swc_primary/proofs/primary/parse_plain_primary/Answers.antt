@@ -1,17 +1,14 @@
 use Rattle.std.proofs.Common.{◌≡◌, sym, ap, subst, ◌∙◌}
-use Rattle.swc_input.specs.Kinds.{at_token}
+use Rattle.swc_input.specs.{Kinds.at_token, Buffer.context}
 use Rattle.swc_bodies.specs.Readings.{is_async}
 use Rattle.swc_nodes.proofs.Standing.{grows-count, grows-same}
 use Rattle.swc_steps.proofs.Building.{grows-kept}
-use Rattle.swc_input.specs.Buffer.{context}
 use Rattle.swc_steps.specs.Parsing.{seen, seen_of}
 use Rattle.swc_steps.proofs.Making as m
 use Rattle.swc_steps.proofs.Regexes as regex
 use Rattle.swc_steps.proofs.Rules as rule
 use Rattle.swc_steps.proofs.Steps as s
-use Rattle.swc_primary.specs.Openings.{primary_kind}
-use Rattle.swc_primary.specs.declared.primary.PrimaryKind.TheVariants.{Plain}
-use Rattle.swc_primary.specs.declared.primary.PlainKind.TheVariants as kind
+use Rattle.swc_primary.specs.{Openings.primary_kind, declared.primary.PrimaryKind.TheVariants.Plain, declared.primary.PlainKind.PlainKind as kind}
 use Rattle.swc_primary.proofs.Openings as opening
 use Rattle.swc_primary.proofs.primary.parse_plain_primary.Goals as goal
 

@@ -2,8 +2,7 @@ use Rattle.swc_context.specs.Spans.{from_to}
 use Rattle.swc_ast.specs.Trees.{to, private_e}
 use Rattle.swc_nodes.proofs.Standing.{grows-same}
 use Rattle.std.proofs.Common.{◌≡◌, sym, ap, ◌∙◌, arith}
-use Rattle.swc_input.specs.Plain.{plain}
-use Rattle.swc_input.specs.Kinds.{is_hash}
+use Rattle.swc_input.specs.{Plain.plain, Kinds.is_hash}
 use Rattle.swc_steps.specs.Readers.{private_expr_tail}
 use Rattle.swc_steps.proofs.Rules as rule
 use Rattle.swc_steps.proofs.Making as m

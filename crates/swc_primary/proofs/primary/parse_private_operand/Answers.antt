@@ -1,8 +1,7 @@
 use Rattle.std.proofs.Common.{Some}
 use Rattle.swc_ast.specs.Trees.{private_e}
 use Rattle.swc_nodes.proofs.Standing.{grows-same}
-use Rattle.swc_steps.specs.Parsing.{private_spelling}
-use Rattle.swc_steps.specs.Readers.{before_in}
+use Rattle.swc_steps.specs.{Parsing.private_spelling, Readers.before_in}
 use Rattle.swc_steps.proofs.Making as m
 use Rattle.swc_steps.proofs.Steps as s
 use Rattle.swc_primary.proofs.PrivateNames.{before_splits, operand_splits}

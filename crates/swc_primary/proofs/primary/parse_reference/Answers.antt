@@ -1,11 +1,7 @@
 use Rattle.std.proofs.Common.{◌≡◌, Some, None, true, Ok, ◌&&◌, refl, sym, ap, ◌∙◌}
 use Rattle.std.proofs.lemmas.Result.{err_from_is_err_and}
-use Rattle.swc_input.specs.Buffer.{context}
-use Rattle.swc_input.specs.Kinds.{at_token}
-use Rattle.swc_grammar.specs.Clean.{Out}
-use Rattle.swc_grammar.specs.Names.{may_refer}
-use Rattle.swc_grammar.specs.Tokens.{may_be_reference}
-use Rattle.swc_grammar.specs.Words.{◌>>=◌, word}
+use Rattle.swc_input.specs.{Buffer.context, Kinds.at_token}
+use Rattle.swc_grammar.specs.{Clean.Out, Names.may_refer, Tokens.may_be_reference, Words.◌>>=◌, Words.word}
 use Rattle.swc_steps.specs.Parsing.{ident_spelling, scope, seen, is_strict}
 use Rattle.swc_steps.proofs.Naming.{parses_lower}
 use Rattle.swc_steps.proofs.Rules as rule

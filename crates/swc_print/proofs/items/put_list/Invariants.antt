@@ -1,6 +1,5 @@
 use Rattle.std.proofs.Common.{◌≡◌, ◌++◌, take}
-use Rattle.swc_nodes.specs.NodeParts.{flat}
-use Rattle.swc_nodes.specs.Weights.{ats}
+use Rattle.swc_nodes.specs.{NodeParts.flat, Weights.ats}
 use Rattle.swc_print.specs.Numbers.{numbers}
 use Rattle.swc_print.proofs.items.put_list.Given as goal
 

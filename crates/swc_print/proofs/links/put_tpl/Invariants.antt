@@ -1,6 +1,5 @@
 use Rattle.std.proofs.Common.{◌≡◌, ◌++◌, take}
-use Rattle.swc_nodes.specs.NodeParts.{one_expr, flat}
-use Rattle.swc_nodes.specs.Weights.{ats}
+use Rattle.swc_nodes.specs.{NodeParts.one_expr, NodeParts.flat, Weights.ats}
 use Rattle.swc_print.specs.Numbers.{numbers}
 use Rattle.swc_print.proofs.links.put_tpl.Given as goal
 

@@ -1,9 +1,8 @@
 use Rattle.std.proofs.Common.{◌≡◌, [], ◌∷◌, refl, ap}
-use Rattle.swc_print.specs.Numbers.{numbers}
-use Rattle.swc_print.specs.declared.pieces.Piece.{Piece}
+use Rattle.swc_print.specs.{Numbers.numbers, declared.pieces.Piece.Piece}
 use Rattle.swc_print.proofs.Added.{text_taken, node_taken, last_taken}
-use Rattle.swc_print.proofs.print.next_node.Goals as goal
 use Rattle.swc_print.proofs.print.next_node.Goals.{in-Text, in-Count}
+use Rattle.swc_print.proofs.print.next_node.Goals as goal
 
 pub loop-piece-preserved : goal.loop-piece-preserved
 loop-piece-preserved c =

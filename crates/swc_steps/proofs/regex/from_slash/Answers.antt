@@ -1,6 +1,5 @@
 use Rattle.std.proofs.Common.{ap, sym}
-use Rattle.swc_context.specs.Spans.{from_to}
-use Rattle.swc_context.specs.declared.span.BytePos.{BytePos}
+use Rattle.swc_context.specs.{Spans.from_to, declared.span.BytePos.BytePos}
 use Rattle.swc_ast.specs.declared.lit.Regex.{Regex}
 use Rattle.swc_steps.proofs.regex.from_slash.Goals as goal
 

@@ -1,6 +1,5 @@
 use Rattle.std.proofs.Common.{arith}
-use Rattle.swc_ast.specs.declared.lit.Lit.TheVariants as lit
-use Rattle.swc_ast.specs.Parts.{lit_tree}
+use Rattle.swc_ast.specs.{declared.lit.Lit.Lit as lit, Parts.lit_tree}
 use Rattle.swc_nodes.proofs.Standing.{grows-same}
 use Rattle.swc_grammar.specs.Parts.{flags_ok}
 use Rattle.swc_steps.proofs.Regexes as rule

@@ -1,7 +1,6 @@
 use Rattle.std.proofs.Common.{refl, ap, sym, ◌∙◌}
 use Rattle.std.proofs.lemmas.Result.{err_from_is_err_and}
-use Rattle.swc_input.specs.Plain.{plain}
-use Rattle.swc_input.specs.Kinds.{at_token}
+use Rattle.swc_input.specs.{Plain.plain, Kinds.at_token}
 use Rattle.swc_steps.specs.Regexes.{regex_tail}
 use Rattle.swc_grammar.specs.Tokens.{is_slash, is_regex}
 use Rattle.swc_steps.proofs.Regexes.{on_slash, on_still, slash_was, text_opens, tail_not, tail_splits}

@@ -1,9 +1,7 @@
 use Rattle.std.proofs.Common.{Some, refl, sym, ap, ◌∙◌}
-use Rattle.swc_input.specs.Plain.{plain}
-use Rattle.swc_input.specs.Kinds.{at_token}
+use Rattle.swc_input.specs.{Plain.plain, Kinds.at_token}
 use Rattle.swc_steps.specs.Lists.{is_sign_token, eaten}
-use Rattle.swc_steps.proofs.Lists.{eaten_not, eaten_takes}
-use Rattle.swc_steps.proofs.Rules.{passes_plain}
+use Rattle.swc_steps.proofs.{Lists.eaten_not, Lists.eaten_takes, Rules.passes_plain}
 use Rattle.swc_steps.proofs.Steps as s
 use Rattle.swc_steps.proofs.tokens.eat.Goals as goal
 

@@ -1,5 +1,4 @@
-use Rattle.std.proofs.Common.{true, refl}
-use Rattle.std.proofs.lemmas.Result.{err_from_is_err_and}
+use Rattle.std.proofs.{Common.true, Common.refl, lemmas.Result.err_from_is_err_and}
 use Rattle.swc_steps.specs.Lists.{is_sign_token}
 use Rattle.swc_steps.proofs.Keys.{expected_splits}
 use Rattle.swc_steps.proofs.Steps as s

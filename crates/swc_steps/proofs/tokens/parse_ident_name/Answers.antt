@@ -1,6 +1,5 @@
 use Rattle.std.specs.Prelude.{true}
-use Rattle.swc_grammar.specs.Names.{may_name}
-use Rattle.swc_grammar.specs.Words.{word}
+use Rattle.swc_grammar.specs.{Names.may_name, Words.word}
 use Rattle.swc_ident.specs.Verdicts.{name_of_any}
 use Rattle.swc_steps.specs.Parsing.{name_spelling}
 use Rattle.swc_steps.proofs.Naming.{honest-name, parses_lower, parses_name}

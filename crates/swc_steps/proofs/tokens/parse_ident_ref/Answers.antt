@@ -1,6 +1,5 @@
 use Rattle.std.specs.Prelude.{true}
-use Rattle.swc_grammar.specs.Words.{word}
-use Rattle.swc_grammar.specs.Names.{may_refer}
+use Rattle.swc_grammar.specs.{Words.word, Names.may_refer}
 use Rattle.swc_ident.specs.Verdicts.{reference_verdict}
 use Rattle.swc_steps.specs.Parsing.{ident_spelling}
 use Rattle.swc_steps.proofs.Naming.{honest-reference, parses_lower, parses_name, parses_ref}

@@ -1,6 +1,5 @@
 use Rattle.swc_context.specs.declared.error.SyntaxError.TheVariants.{ParserFailed}
-use Rattle.swc_input.specs.Buffer.{current, last_position}
-use Rattle.swc_input.specs.Recording.{unfit}
+use Rattle.swc_input.specs.{Buffer.current, Buffer.last_position, Recording.unfit}
 use Rattle.swc_input.proofs.Refusals.{unfit-kind}
 use Rattle.swc_steps.proofs.Steps.{refused}
 use Rattle.swc_steps.proofs.tokens.unexpected.Goals as goal

@@ -1,8 +1,7 @@
 use Rattle.std.proofs.Common.{◌≡◌, Ok, refl, sym, ap, ◌∙◌}
 use Rattle.swc_ast.proofs.Equations.{call_expr_tree, new_tree, tagged_tree, arrow_tree}
 use Rattle.swc_ast.specs.Tree.{call, new, tagged, arrow, node}
-use Rattle.swc_ast.specs.Parts.{body_tree}
-use Rattle.swc_ast.specs.TreeOf.{boxed_tree}
+use Rattle.swc_ast.specs.{Parts.body_tree, TreeOf.boxed_tree}
 use Rattle.swc_nodes.specs.NodeParts.{flat, if_some, one_expr, one_pat, args_parts, body_parts, callee_parts}
 use Rattle.swc_trees.proofs.Assembled.{offers-along, offers-is, offers-first, offers-second, made-two, made-is, ok-is, ok-of}
 use Rattle.swc_trees.proofs.Agreed.{two, headed}

@@ -1,9 +1,9 @@
 use Rattle.std.proofs.Common.{[], ◌∷◌, ◌++◌, ap, ◌∙◌}
 use Rattle.swc_trees.proofs.Leaves.{bin_tree, assign_tree, cond_tree}
-use Rattle.swc_ast.specs.Tree.{bin, assign, cond, node}
-use Rattle.swc_nodes.specs.NodeParts.{one_expr, target_part}
 use Rattle.swc_trees.proofs.Assembled.{offers-is, offers-first, offers-second, offers-middle, offers-last, made-two, made-three, made-is}
 use Rattle.swc_trees.proofs.Agreed.{two, three}
+use Rattle.swc_ast.specs.Tree.{bin, assign, cond, node}
+use Rattle.swc_nodes.specs.NodeParts.{one_expr, target_part}
 use Rattle.swc_trees.proofs.assembling.assemble_choice.Goals as goal
 
 pub pop_expr-right-requires : goal.pop_expr-right-requires

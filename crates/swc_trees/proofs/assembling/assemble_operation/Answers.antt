@@ -1,8 +1,8 @@
 use Rattle.std.proofs.Common.{ap, ◌∙◌}
 use Rattle.swc_ast.proofs.Equations.{array_tree, object_tree, seq_tree, member_expr_tree, super_prop_expr_tree, opt_chain_tree, tpl_expr_tree}
 use Rattle.swc_trees.proofs.Leaves.{unary_tree, update_tree, paren_expr_tree, await_tree, yield_tree}
-use Rattle.swc_ast.specs.Tree.{array, object, unary, update, seq, await, yield, node, nil, cons, trees}
 use Rattle.swc_trees.proofs.Assembled.{made-one, made-is}
+use Rattle.swc_ast.specs.Tree.{array, object, unary, update, seq, await, yield, node, nil, cons, trees}
 use Rattle.swc_trees.proofs.assembling.assemble_operation.Goals as goal
 
 pub returns-in_ok-elems-in-Array : goal.returns-in_ok-elems-in-Array

@@ -1,12 +1,11 @@
 use Rattle.std.proofs.Common.{refl, sym, ap, ◌∙◌}
 use Rattle.swc_ast.proofs.Equations.{array_pat_tree, object_pat_tree}
 use Rattle.swc_trees.proofs.Leaves.{ident_pat_tree, invalid_pat_tree, rest_pat_tree, default_tree, expr_pat_tree}
-use Rattle.swc_ast.specs.Tree.{array, object, dots, rest, default, pat_expr, span_of, node, nil, cons, trees}
-use Rattle.swc_ast.specs.Parts.{leaf}
-use Rattle.swc_ast.specs.TreeOf.{boxed_tree}
-use Rattle.swc_nodes.specs.NodeParts.{one_expr, one_pat}
 use Rattle.swc_trees.proofs.Assembled.{offers-is, offers-first, offers-second, made-none, made-one, made-two, made-is, ok-is, ok-of}
 use Rattle.swc_trees.proofs.Agreed.{two}
+use Rattle.swc_ast.specs.Tree.{array, object, dots, rest, default, pat_expr, span_of, node, nil, cons, trees}
+use Rattle.swc_ast.specs.{Parts.leaf, TreeOf.boxed_tree}
+use Rattle.swc_nodes.specs.NodeParts.{one_expr, one_pat}
 use Rattle.swc_trees.proofs.assembling.assemble_pat.Goals as goal
 
 pub returns-in-PatIdent : goal.returns-in-PatIdent

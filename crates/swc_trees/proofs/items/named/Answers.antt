@@ -1,12 +1,11 @@
 use Rattle.std.proofs.Common.{refl, ap, ◌∙◌}
 use Rattle.swc_ast.proofs.Equations.{key_value_tree, method_tree, getter_tree, setter_tree}
-use Rattle.swc_trees.proofs.Leaves.{shorthand_tree, cover_prop_tree}
+use Rattle.swc_trees.proofs.Assembled.{offers-first, offers-second, made-none, made-one, made-two, ok-of}
+use Rattle.swc_trees.proofs.{Leaves.shorthand_tree, Leaves.cover_prop_tree, Agreed.two, Agreed.three}
 use Rattle.swc_ast.specs.Tree.{block, cover, key_value, method, getter, setter, node, nil, cons}
 use Rattle.swc_ast.specs.Parts.{leaf, ident_tree, prop_name_tree, function_tree}
 use Rattle.swc_ast.specs.TreeOf.{boxed_tree, pat_tree}
 use Rattle.swc_nodes.specs.NodeParts.{flat, one_expr, one_pat, key_parts, param_parts}
-use Rattle.swc_trees.proofs.Assembled.{offers-first, offers-second, made-none, made-one, made-two, ok-of}
-use Rattle.swc_trees.proofs.Agreed.{two, three}
 use Rattle.swc_trees.proofs.items.named.Goals as goal
 
 pub pop_expr-value-requires : goal.pop_expr-value-requires

@@ -1,6 +1,5 @@
 use Rattle.std.proofs.Common.{refl, ap}
-use Rattle.swc_ast.specs.Parts.{leaf}
-use Rattle.swc_ast.specs.Tree.{import}
+use Rattle.swc_ast.specs.{Parts.leaf, Tree.import}
 use Rattle.swc_trees.proofs.Splits.{split-none, split-one}
 use Rattle.swc_trees.proofs.parting.split_callee.Goals as goal
 

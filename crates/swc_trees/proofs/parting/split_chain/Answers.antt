@@ -1,7 +1,6 @@
 use Rattle.std.proofs.Common.{refl, ap, ◌∙◌}
-use Rattle.swc_ast.specs.Parts.{base_tree}
 use Rattle.swc_ast.specs.Tree.{node, cons, nil, opt_chain}
-use Rattle.swc_ast.specs.TreeOf.{boxed_tree}
+use Rattle.swc_ast.specs.{Parts.base_tree, TreeOf.boxed_tree}
 use Rattle.swc_trees.proofs.Splits.{split-one, split-is}
 use Rattle.swc_trees.proofs.parting.split_chain.Goals as goal
 

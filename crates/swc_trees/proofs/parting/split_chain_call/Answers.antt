@@ -1,7 +1,6 @@
 use Rattle.std.proofs.Common.{refl, ap}
 use Rattle.swc_ast.specs.Tree.{node, call}
-use Rattle.swc_trees.proofs.Agreed.{headed}
-use Rattle.swc_trees.proofs.Splits.{split-two}
+use Rattle.swc_trees.proofs.{Agreed.headed, Splits.split-two}
 use Rattle.swc_trees.proofs.parting.split_chain_call.Goals as goal
 
 pub returns : goal.returns

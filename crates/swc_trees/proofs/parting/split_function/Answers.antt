@@ -1,7 +1,6 @@
 use Rattle.std.proofs.Common.{refl, ap, ◌∙◌}
-use Rattle.swc_ast.specs.Parts.{leaf, function_tree}
 use Rattle.swc_ast.specs.Tree.{node, cons, block, function, trees}
-use Rattle.swc_ast.specs.TreeOf.{pat_tree}
+use Rattle.swc_ast.specs.{Parts.leaf, Parts.function_tree, TreeOf.pat_tree}
 use Rattle.swc_trees.proofs.Splits.{split-one}
 use Rattle.swc_trees.proofs.parting.split_function.Goals as goal
 

@@ -1,8 +1,6 @@
 use Rattle.std.proofs.Common.{refl, ap, ◌∙◌}
-use Rattle.swc_ast.specs.Tree.{node, key_value}
-use Rattle.swc_ast.specs.TreeOf.{pat_tree}
-use Rattle.swc_trees.proofs.Agreed.{two}
-use Rattle.swc_trees.proofs.Splits.{split-two}
+use Rattle.swc_ast.specs.{Tree.node, Tree.key_value, TreeOf.pat_tree}
+use Rattle.swc_trees.proofs.{Agreed.two, Splits.split-two}
 use Rattle.swc_trees.proofs.parting.split_key_pat.Goals as goal
 
 pub returns : goal.returns

@@ -1,7 +1,6 @@
 use Rattle.std.proofs.Common.{refl}
 use Rattle.swc_ast.specs.Tree.{node, cons, nil, method}
-use Rattle.swc_trees.proofs.Splits.{split-two}
-use Rattle.swc_trees.proofs.Agreed.{read-three}
+use Rattle.swc_trees.proofs.{Splits.split-two, Agreed.read-three}
 use Rattle.swc_trees.proofs.parting.split_method.Goals as goal
 
 pub returns : goal.returns

@@ -4,9 +4,7 @@ use Rattle.swc_ast.specs.Parts.{ident_tree, prop_name_tree, cover_tree}
 use Rattle.swc_ast.specs.Tree.{node, cons, nil, key_value, shorthand}
 use Rattle.swc_ast.specs.TreeOf.{boxed_tree, prop_tree}
 use Rattle.swc_trees.specs.Boxed.{HookedProp}
-use Rattle.swc_trees.proofs.Leaves.{shorthand_tree, cover_prop_tree}
-use Rattle.swc_trees.proofs.Splits.{split-none, split-eq}
-use Rattle.swc_trees.proofs.Agreed.{read-three}
+use Rattle.swc_trees.proofs.{Leaves.shorthand_tree, Leaves.cover_prop_tree, Splits.split-none, Splits.split-eq, Agreed.read-three}
 use Rattle.swc_trees.proofs.parting.split_named.Goals as goal
 
 pub returns-in_ok-taken_ident-in-Shorthand : goal.returns-in_ok-taken_ident-in-Shorthand

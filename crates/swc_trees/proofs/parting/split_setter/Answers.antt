@@ -1,9 +1,7 @@
 use Rattle.std.proofs.Common.{refl, ap, ◌∙◌}
-use Rattle.swc_ast.specs.Parts.{leaf}
 use Rattle.swc_ast.specs.Tree.{node, cons, nil, block, setter}
-use Rattle.swc_ast.specs.TreeOf.{pat_tree}
-use Rattle.swc_trees.proofs.Splits.{split-two}
-use Rattle.swc_trees.proofs.Agreed.{read-two}
+use Rattle.swc_ast.specs.{Parts.leaf, TreeOf.pat_tree}
+use Rattle.swc_trees.proofs.{Splits.split-two, Agreed.read-two}
 use Rattle.swc_trees.proofs.parting.split_setter.Goals as goal
 
 pub returns : goal.returns

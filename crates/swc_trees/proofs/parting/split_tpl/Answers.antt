@@ -1,8 +1,7 @@
 use Rattle.std.proofs.Common.{◌++◌, map, refl}
 use Rattle.swc_ast.specs.Parts.{quasi_tree}
 use Rattle.swc_ast.specs.Tree.{node, tpl, trees}
-use Rattle.swc_trees.proofs.Splits.{split-one}
-use Rattle.swc_trees.proofs.Agreed.{read-two}
+use Rattle.swc_trees.proofs.{Splits.split-one, Agreed.read-two}
 use Rattle.swc_trees.proofs.parting.split_tpl.Goals as goal
 
 pub returns : goal.returns

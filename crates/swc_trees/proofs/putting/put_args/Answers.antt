@@ -1,8 +1,6 @@
 use Rattle.std.proofs.Common.{refl}
-use Rattle.swc_nodes.specs.NodeParts.{args_parts}
-use Rattle.swc_nodes.specs.GrowingNodes.{tree_at}
-use Rattle.swc_trees.proofs.Agreed.{agrees-self}
-use Rattle.swc_trees.proofs.Puts.{puts-items}
+use Rattle.swc_nodes.specs.{NodeParts.args_parts, GrowingNodes.tree_at}
+use Rattle.swc_trees.proofs.{Agreed.agrees-self, Puts.puts-items}
 use Rattle.swc_trees.proofs.putting.put_args.Goals as goal
 
 pub returns-clause-apart : goal.returns-clause-apart

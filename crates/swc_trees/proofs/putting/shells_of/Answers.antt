@@ -1,8 +1,7 @@
 use Rattle.std.proofs.Common.{reverse, sym, subst, ◌∙◌}
 use Rattle.std.proofs.lemmas.List.{nil_from_length}
 use Rattle.swc_trees.specs.Shells.{Reads}
-use Rattle.swc_trees.proofs.Puts.{split-lighter}
-use Rattle.swc_trees.proofs.Shells.{reads-starts, reads-more}
+use Rattle.swc_trees.proofs.{Puts.split-lighter, Shells.reads-starts, Shells.reads-more}
 use Rattle.swc_trees.proofs.putting.shells_of.Goals as goal
 
 pub loop-tree-init : goal.loop-tree-init

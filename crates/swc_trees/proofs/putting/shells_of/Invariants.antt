@@ -1,6 +1,5 @@
 use Rattle.std.proofs.Common.{reverse}
-use Rattle.swc_trees.specs.Building.{built_tree}
-use Rattle.swc_trees.specs.Shells.{Reads}
+use Rattle.swc_trees.specs.{Building.built_tree, Shells.Reads}
 use Rattle.swc_trees.proofs.Weights.{weight_of}
 use Rattle.swc_trees.proofs.putting.shells_of.Given as goal
 

@@ -1,8 +1,7 @@
 use Rattle.std.proofs.Common.{sym, ap, ◌∙◌}
 use Rattle.swc_ast.specs.TreeOf.{expr_tree, pat_tree, target_tree}
 use Rattle.swc_trees.proofs.Splits.{split-view}
-use Rattle.swc_trees.specs.Building.{built_tree}
-use Rattle.swc_trees.specs.Splitting.{built_view, target_view}
+use Rattle.swc_trees.specs.{Building.built_tree, Splitting.built_view, Splitting.target_view}
 use Rattle.swc_trees.proofs.splitting.split.Goals as goal
 
 pub returns-in-Expr : goal.returns-in-Expr

@@ -1,9 +1,6 @@
 use Rattle.std.proofs.Common.{refl, ap, ◌∙◌}
-use Rattle.swc_ast.specs.Parts.{body_tree}
-use Rattle.swc_ast.specs.Tree.{node, arrow}
-use Rattle.swc_ast.specs.TreeOf.{boxed_tree}
-use Rattle.swc_trees.proofs.Agreed.{headed}
-use Rattle.swc_trees.proofs.Splits.{split-two, split-is}
+use Rattle.swc_ast.specs.{Parts.body_tree, Tree.node, Tree.arrow, TreeOf.boxed_tree}
+use Rattle.swc_trees.proofs.{Agreed.headed, Splits.split-two, Splits.split-is}
 use Rattle.swc_trees.proofs.splitting.split_arrow.Goals as goal
 
 pub returns : goal.returns

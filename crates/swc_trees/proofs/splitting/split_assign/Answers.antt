@@ -1,7 +1,6 @@
 use Rattle.std.proofs.Common.{refl, ap}
 use Rattle.swc_ast.specs.Tree.{node, assign}
-use Rattle.swc_trees.proofs.Agreed.{two}
-use Rattle.swc_trees.proofs.Splits.{split-two}
+use Rattle.swc_trees.proofs.{Agreed.two, Splits.split-two}
 use Rattle.swc_trees.proofs.splitting.split_assign.Goals as goal
 
 pub returns : goal.returns

@@ -1,7 +1,6 @@
 use Rattle.std.proofs.Common.{refl, ap}
 use Rattle.swc_ast.specs.Tree.{node, cond}
-use Rattle.swc_trees.proofs.Agreed.{three}
-use Rattle.swc_trees.proofs.Splits.{split-three}
+use Rattle.swc_trees.proofs.{Agreed.three, Splits.split-three}
 use Rattle.swc_trees.proofs.splitting.split_cond.Goals as goal
 
 pub returns : goal.returns

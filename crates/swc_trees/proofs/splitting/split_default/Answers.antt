@@ -1,8 +1,6 @@
 use Rattle.std.proofs.Common.{refl, ap, ◌∙◌}
-use Rattle.swc_ast.specs.Tree.{node, default}
-use Rattle.swc_ast.specs.TreeOf.{pat_tree}
-use Rattle.swc_trees.proofs.Agreed.{two}
-use Rattle.swc_trees.proofs.Splits.{split-two}
+use Rattle.swc_ast.specs.{Tree.node, Tree.default, TreeOf.pat_tree}
+use Rattle.swc_trees.proofs.{Agreed.two, Splits.split-two}
 use Rattle.swc_trees.proofs.splitting.split_default.Goals as goal
 
 pub returns : goal.returns

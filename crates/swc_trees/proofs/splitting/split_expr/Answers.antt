@@ -4,8 +4,7 @@ use Rattle.swc_ast.specs.Tree.{node, cons, nil, update, bin, cond, assign, yield
 use Rattle.swc_ast.specs.TreeOf.{expr_tree, boxed_tree, target_tree}
 use Rattle.swc_trees.specs.Boxed.{Hooked}
 use Rattle.swc_trees.proofs.Leaves.{update_tree, bin_tree, assign_tree, cond_tree, yield_tree}
-use Rattle.swc_trees.proofs.Splits.{split-tree}
-use Rattle.swc_trees.proofs.Agreed.{read-three, read-four}
+use Rattle.swc_trees.proofs.{Splits.split-tree, Agreed.read-three, Agreed.read-four}
 use Rattle.swc_trees.proofs.splitting.split_expr.Goals as goal
 
 pub returns-in-Update : goal.returns-in-Update

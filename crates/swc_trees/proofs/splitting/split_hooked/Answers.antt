@@ -3,9 +3,8 @@ use Rattle.swc_ast.proofs.Equations.{arrow_tree}
 use Rattle.swc_ast.specs.Parts.{body_tree}
 use Rattle.swc_ast.specs.Tree.{node, trees, cons, arrow}
 use Rattle.swc_ast.specs.TreeOf.{expr_tree, boxed_tree, pat_tree}
-use Rattle.swc_trees.proofs.Leaves.{fn_tree, class_tree}
-use Rattle.swc_trees.proofs.Splits.{split-none, split-tree}
 use Rattle.swc_trees.proofs.Whole.{none-out, fn-out, class-out, arrow-out}
+use Rattle.swc_trees.proofs.{Leaves.fn_tree, Leaves.class_tree, Splits.split-none, Splits.split-tree}
 use Rattle.swc_trees.proofs.splitting.split_hooked.Goals as goal
 
 pub unreachable-requires : goal.unreachable-requires

@@ -1,7 +1,6 @@
 use Rattle.std.proofs.Common.{refl, ap, ◌∙◌}
-use Rattle.swc_ast.specs.Parts.{leaf}
 use Rattle.swc_ast.specs.Tree.{node, cons, nil, dots, rest}
-use Rattle.swc_ast.specs.TreeOf.{pat_tree}
+use Rattle.swc_ast.specs.{Parts.leaf, TreeOf.pat_tree}
 use Rattle.swc_trees.proofs.Splits.{split-one}
 use Rattle.swc_trees.proofs.splitting.split_rest.Goals as goal
 

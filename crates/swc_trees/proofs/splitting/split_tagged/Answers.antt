@@ -1,9 +1,6 @@
 use Rattle.std.proofs.Common.{refl, ap, ◌∙◌}
-use Rattle.swc_ast.specs.Parts.{tpl_tree}
-use Rattle.swc_ast.specs.Tree.{node, tagged}
-use Rattle.swc_ast.specs.TreeOf.{boxed_tree}
-use Rattle.swc_trees.proofs.Agreed.{two}
-use Rattle.swc_trees.proofs.Splits.{split-two, split-is}
+use Rattle.swc_ast.specs.{Parts.tpl_tree, Tree.node, Tree.tagged, TreeOf.boxed_tree}
+use Rattle.swc_trees.proofs.{Agreed.two, Splits.split-two, Splits.split-is}
 use Rattle.swc_trees.proofs.splitting.split_tagged.Goals as goal
 
 pub returns : goal.returns

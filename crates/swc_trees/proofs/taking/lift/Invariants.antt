@@ -1,6 +1,5 @@
 use Rattle.std.proofs.Common.{map}
-use Rattle.swc_nodes.specs.GrowingNodes.{count}
-use Rattle.swc_nodes.specs.Walking.{part_of}
+use Rattle.swc_nodes.specs.{GrowingNodes.count, Walking.part_of}
 use Rattle.swc_trees.proofs.Lifting.{Lifting}
 use Rattle.swc_trees.proofs.taking.lift.Given as goal
 

@@ -1,6 +1,5 @@
 use Rattle.std.proofs.Common.{map, vec_len}
-use Rattle.swc_nodes.specs.GrowingNodes.{bare_at}
-use Rattle.swc_nodes.specs.Walking.{part_of}
+use Rattle.swc_nodes.specs.{GrowingNodes.bare_at, Walking.part_of}
 use Rattle.swc_trees.proofs.Lifting.{Raising}
 use Rattle.swc_trees.proofs.taking.take_all.Given as goal
 

@@ -1,12 +1,8 @@
 use Rattle.std.proofs.Common.{◌≡◌, map, ap}
-use Rattle.swc_ast.specs.Parts.{item_tree, args_tree}
 use Rattle.swc_ast.specs.Tree.{trees, node, args, no_span}
-use Rattle.swc_ast.specs.TreeOf.{boxed_tree}
-use Rattle.swc_nodes.specs.NodeTree.{expr_of}
-use Rattle.swc_nodes.specs.NodeParts.{args_parts}
-use Rattle.swc_nodes.specs.GrowingNodes.{bare_at}
-use Rattle.swc_trees.proofs.Rebuilt.{left-none, left-piece, piece-offered, piece-made}
-use Rattle.swc_trees.proofs.Rebuilt.{if_ok-as}
+use Rattle.swc_ast.specs.{Parts.item_tree, Parts.args_tree, TreeOf.boxed_tree}
+use Rattle.swc_nodes.specs.{NodeTree.expr_of, NodeParts.args_parts, GrowingNodes.bare_at}
+use Rattle.swc_trees.proofs.Rebuilt.{left-none, left-piece, piece-offered, piece-made, if_ok-as}
 use Rattle.swc_trees.proofs.taking.take_args.Goals as goal
 
 pub returns-in_err-parts-clause-left : goal.returns-in_err-parts-clause-left

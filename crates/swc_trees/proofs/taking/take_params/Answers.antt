@@ -1,8 +1,6 @@
 use Rattle.std.proofs.Common.{◌≡◌, map}
-use Rattle.swc_ast.specs.Parts.{param_tree}
-use Rattle.swc_ast.specs.TreeOf.{pat_tree}
-use Rattle.swc_nodes.specs.NodeParts.{flat, param_parts}
-use Rattle.swc_nodes.specs.NodeTree.{pat_of}
+use Rattle.swc_ast.specs.{Parts.param_tree, TreeOf.pat_tree}
+use Rattle.swc_nodes.specs.{NodeParts.flat, NodeParts.param_parts, NodeTree.pat_of}
 use Rattle.swc_trees.proofs.Rebuilt.{left-none, left-piece, piece-offered, piece-made}
 use Rattle.swc_trees.proofs.taking.take_params.Goals as goal
 

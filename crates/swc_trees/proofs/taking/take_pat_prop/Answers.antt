@@ -1,7 +1,6 @@
 use Rattle.std.proofs.Common.{◌≡◌}
 use Rattle.swc_ast.specs.TreeOf.{pat_prop_tree}
-use Rattle.swc_nodes.specs.NodeParts.{pat_prop_parts}
-use Rattle.swc_nodes.specs.NodeTree.{pat_prop_of}
+use Rattle.swc_nodes.specs.{NodeParts.pat_prop_parts, NodeTree.pat_prop_of}
 use Rattle.swc_trees.proofs.Rebuilt.{left-none, left-piece, piece-offered, piece-made}
 use Rattle.swc_trees.proofs.taking.take_pat_prop.Goals as goal
 

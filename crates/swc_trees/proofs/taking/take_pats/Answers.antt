@@ -1,7 +1,6 @@
 use Rattle.std.proofs.Common.{◌≡◌, map}
 use Rattle.swc_ast.specs.TreeOf.{pat_tree}
-use Rattle.swc_nodes.specs.Lists.{pats_parts}
-use Rattle.swc_nodes.specs.NodeTree.{pat_of}
+use Rattle.swc_nodes.specs.{Lists.pats_parts, NodeTree.pat_of}
 use Rattle.swc_trees.proofs.Rebuilt.{left-none, left-piece, piece-offered, piece-made}
 use Rattle.swc_trees.proofs.taking.take_pats.Goals as goal
 

@@ -1,8 +1,6 @@
 use Rattle.std.proofs.Common.{◌≡◌, IfOk, sym, ap, subst, ◌∙◌}
-use Rattle.swc_nodes.specs.GrowingNodes.{bare_at}
+use Rattle.swc_nodes.specs.{GrowingNodes.bare_at, NodeTree.prop_of, NodeParts.prop_parts}
 use Rattle.swc_trees.specs.Moving.{prop_or_spread_in, prop_node_as}
-use Rattle.swc_nodes.specs.NodeTree.{prop_of}
-use Rattle.swc_nodes.specs.NodeParts.{prop_parts}
 use Rattle.swc_ast.specs.TreeOf.{prop_or_spread_tree}
 use Rattle.swc_trees.proofs.Rebuilt.{left-none, left-piece, piece-offered, piece-made}
 use Rattle.swc_trees.proofs.taking.take_prop.Goals as goal

@@ -1,8 +1,6 @@
 use Rattle.std.proofs.Common.{◌≡◌}
-use Rattle.swc_ast.specs.Parts.{tpl_tree}
-use Rattle.swc_ast.specs.TreeOf.{boxed_tree}
-use Rattle.swc_nodes.specs.Lists.{exprs_parts}
-use Rattle.swc_nodes.specs.NodeTree.{expr_of}
+use Rattle.swc_ast.specs.{Parts.tpl_tree, TreeOf.boxed_tree}
+use Rattle.swc_nodes.specs.{Lists.exprs_parts, NodeTree.expr_of}
 use Rattle.swc_trees.proofs.Rebuilt.{left-none, left-piece, piece-offered, piece-made}
 use Rattle.swc_trees.proofs.taking.take_tpl.Goals as goal
 

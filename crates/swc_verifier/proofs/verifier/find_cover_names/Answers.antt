@@ -1,7 +1,5 @@
 use Rattle.std.proofs.Common.{[], false, map, ap, ◌∙◌}
-use Rattle.std.proofs.lemmas.List.{append-nil}
-use Rattle.std.proofs.lemmas.List.Elements.{All-cons, All-nil}
-use Rattle.std.proofs.lemmas.Result.{IfOk-weaker}
+use Rattle.std.proofs.{lemmas.List.append-nil, lemmas.List.Elements.All-cons, lemmas.List.Elements.All-nil, lemmas.Result.IfOk-weaker}
 use Rattle.swc_nodes.specs.GrowingNodes.{count, tree_at}
 use Rattle.swc_verifier.specs.CoverNames.{cover_names}
 use Rattle.swc_verifier.specs.Dues.{go, due_of, names_due, is_within}

@@ -2,8 +2,7 @@ use Rattle.std.proofs.Common.{◌++◌, true, map, sym, ap, ◌∙◌}
 use Rattle.std.proofs.lemmas.Result.{IfOk-weaker}
 use Rattle.swc_nodes.specs.GrowingNodes.{tree_at}
 use Rattle.swc_verifier.specs.Dues.{due_of, prop_dues, names_due}
-use Rattle.swc_verifier.proofs.Left.{begun-within-prop}
-use Rattle.swc_verifier.proofs.Names.{prop_names}
+use Rattle.swc_verifier.proofs.{Left.begun-within-prop, Names.prop_names}
 use Rattle.swc_verifier.proofs.verifier.find_covers_left_in_prop.Goals as goal
 
 pub find_due-requires : goal.find_due-requires

@@ -1,7 +1,6 @@
 use Rattle.std.proofs.Common.{◌≡◌, ◌∷◌, ◌++◌, [], arith, map, sym, ap, ◌∙◌}
 use Rattle.std.proofs.lemmas.Grind.{common_steps}
-use Rattle.swc_nodes.specs.GrowingNodes.{tree_at, Stood}
-use Rattle.swc_nodes.specs.Walking.{part_of}
+use Rattle.swc_nodes.specs.{GrowingNodes.tree_at, GrowingNodes.Stood, Walking.part_of}
 use Rattle.swc_verifier.specs.Dues.{due_of}
 use Rattle.swc_verifier.proofs.Shrinking.{taken, noted-within, noted-names, last-below, gone-within, gone-less, gone-names, found-all, none-found}
 use Rattle.swc_verifier.proofs.verifier.find_due.Goals as goal

@@ -1,7 +1,6 @@
 use Rattle.std.proofs.Common.{refl, ap, ◌∙◌, arith}
 use Rattle.std.proofs.lemmas.Result.{err_from_is_err_and}
-use Rattle.swc_input.specs.Buffer.{state_of}
-use Rattle.swc_input.specs.Recording.{is_silent}
+use Rattle.swc_input.specs.{Buffer.state_of, Recording.is_silent}
 use Rattle.swc_verifier.proofs.Recordings.{midway-first, midway-more, all-recorded, all-appended, all-listed, read-on, none-left, more-left}
 use Rattle.swc_verifier.proofs.verifier.record_cover_names.Goals as goal
 

@@ -4,8 +4,7 @@ use Rattle.swc_nodes.specs.GrowingNodes.{tree_at, Apart}
 use Rattle.swc_steps.specs.Parsing.{scope}
 use Rattle.swc_ecma_parser.specs.Calls.{buffer_of, nodes_of, Kept}
 use Rattle.swc_ecma_parser.specs.Finishing.{parts_done, ChecksAnswer}
-use Rattle.swc_ecma_parser.proofs.Finished.{checked-holds}
-use Rattle.swc_ecma_parser.proofs.Moving.{apart-kept}
+use Rattle.swc_ecma_parser.proofs.{Finished.checked-holds, Moving.apart-kept}
 use Rattle.swc_ecma_parser.proofs.parser.Parser.keep_checked.Goals as goal
 
 pub check_answer-answer-requires : goal.check_answer-answer-requires

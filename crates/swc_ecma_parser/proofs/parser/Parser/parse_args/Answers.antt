@@ -1,19 +1,15 @@
 use Rattle.std.proofs.Common.{refl, sym, ◌∙◌}
 use Rattle.std.proofs.lemmas.Result.{err_from_is_err_and}
-use Rattle.swc_grammar.specs.Symbols.{Arguments}
-use Rattle.swc_grammar.specs.Clean.{sym as at, run}
+use Rattle.swc_grammar.specs.{Symbols.Arguments, Clean.sym as at, Clean.run}
 use Rattle.swc_ast.specs.Parts.{args_tree}
-use Rattle.swc_nodes.specs.GrowingNodes.{tree_at, bare_at}
+use Rattle.swc_nodes.specs.{GrowingNodes.tree_at, GrowingNodes.bare_at, NodeParts.args_parts}
 use Rattle.swc_steps.specs.Parsing.{args_at}
-use Rattle.swc_nodes.specs.NodeParts.{args_parts}
 use Rattle.swc_nodes.proofs.Remembered.{args-commas}
 use Rattle.swc_ecma_parser.specs.Calls.{buffer_of, nodes_of, commas_of, tree_by}
 use Rattle.swc_ecma_parser.specs.Promise.{only_items}
 use Rattle.swc_ecma_parser.proofs.Finished.{args-checked, checked, meets-as-checked, recalled-checked}
-use Rattle.swc_ecma_parser.proofs.Placed.{arguments-placed}
-use Rattle.swc_ecma_parser.proofs.Calling.{promised, promised-again}
 use Rattle.swc_ecma_parser.proofs.Moving.{moved-by, args-bare, cut-back}
-use Rattle.swc_ecma_parser.proofs.Top.{args-stops, leaves-items}
+use Rattle.swc_ecma_parser.proofs.{Placed.arguments-placed, Calling.promised, Calling.promised-again, Top.args-stops, Top.leaves-items}
 use Rattle.swc_ecma_parser.proofs.parser.Parser.parse_args.Goals as goal
 
 pub returns-in_err-begin : goal.returns-in_err-begin

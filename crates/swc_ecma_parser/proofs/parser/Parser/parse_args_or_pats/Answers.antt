@@ -1,17 +1,13 @@
 use Rattle.std.proofs.Common.{false, refl, sym, ◌∙◌}
 use Rattle.std.proofs.lemmas.Result.{err_from_is_err_and}
-use Rattle.swc_grammar.specs.Symbols.{Arguments}
-use Rattle.swc_grammar.specs.Clean.{sym as at, run}
+use Rattle.swc_grammar.specs.{Symbols.Arguments, Clean.sym as at, Clean.run}
 use Rattle.swc_steps.specs.Parsing.{args_at}
-use Rattle.swc_nodes.specs.NodeParts.{args_parts}
-use Rattle.swc_nodes.specs.GrowingNodes.{tree_at}
+use Rattle.swc_nodes.specs.{NodeParts.args_parts, GrowingNodes.tree_at}
 use Rattle.swc_nodes.proofs.Remembered.{args-commas}
-use Rattle.swc_ecma_parser.specs.Calls.{nodes_of, commas_of}
-use Rattle.swc_ecma_parser.specs.Promise.{items_and_comma, list_tree}
-use Rattle.swc_ecma_parser.proofs.Placed.{list-placed}
-use Rattle.swc_ecma_parser.proofs.Calling.{promised, promised-again}
+use Rattle.swc_ecma_parser.specs.{Calls.nodes_of, Calls.commas_of, Promise.items_and_comma, Promise.list_tree}
 use Rattle.swc_ecma_parser.proofs.Moving.{moved-by, moved-list, bare_list, list-bare, cut-back, recalled, recalled-list}
 use Rattle.swc_ecma_parser.proofs.Top.{args-stops, leaves-list, meets-as}
+use Rattle.swc_ecma_parser.proofs.{Placed.list-placed, Calling.promised, Calling.promised-again}
 use Rattle.swc_ecma_parser.proofs.parser.Parser.parse_args_or_pats.Goals as goal
 
 pub returns-in_err-begin : goal.returns-in_err-begin

@@ -2,10 +2,9 @@ use Rattle.std.proofs.Common.{refl, sym, ◌∙◌}
 use Rattle.std.proofs.lemmas.Result.{err_from_is_err_and}
 use Rattle.swc_ast.specs.TreeOf.{pat_tree}
 use Rattle.swc_ecma_parser.specs.Calls.{buffer_of, nodes_of, commas_of, pats_tree}
-use Rattle.swc_ecma_parser.proofs.ArrowPromise.{bound-heads, heads-boxes-checked, heads-recalled, meets-heads}
 use Rattle.swc_ecma_parser.specs.Heads.{heads_items}
-use Rattle.swc_ecma_parser.proofs.Calling.{promised, promised-again}
-use Rattle.swc_ecma_parser.proofs.Moving.{cut-back}
+use Rattle.swc_ecma_parser.proofs.ArrowPromise.{bound-heads, heads-boxes-checked, heads-recalled, meets-heads}
+use Rattle.swc_ecma_parser.proofs.{Calling.promised, Calling.promised-again, Moving.cut-back}
 use Rattle.swc_ecma_parser.proofs.parser.Parser.parse_arrow_params.Goals as goal
 
 pub returns-in_err-begin-clause-promised : goal.returns-in_err-begin-clause-promised

@@ -1,14 +1,11 @@
 use Rattle.std.proofs.Common.{refl, sym, ◌∙◌}
 use Rattle.std.proofs.lemmas.Result.{err_from_is_err_and}
-use Rattle.swc_nodes.specs.GrowingNodes.{Apart}
-use Rattle.swc_nodes.specs.Lists.{pats_parts}
+use Rattle.swc_nodes.specs.{GrowingNodes.Apart, Lists.pats_parts}
 use Rattle.swc_patterns.specs.Answers.{pat_at}
 use Rattle.swc_ecma_parser.specs.Calls.{buffer_of, nodes_of, commas_of, pats_tree}
-use Rattle.swc_ecma_parser.proofs.ArrowPromise.{bound-kept, heads-checked, kept-recalled, meets-kept}
 use Rattle.swc_ecma_parser.specs.Heads.{heads_items}
-use Rattle.swc_ecma_parser.proofs.Calling.{promised, promised-again}
-use Rattle.swc_ecma_parser.proofs.Finished.{checked-holds}
-use Rattle.swc_ecma_parser.proofs.Moving.{kept-parts}
+use Rattle.swc_ecma_parser.proofs.ArrowPromise.{bound-kept, heads-checked, kept-recalled, meets-kept}
+use Rattle.swc_ecma_parser.proofs.{Calling.promised, Calling.promised-again, Finished.checked-holds, Moving.kept-parts}
 use Rattle.swc_ecma_parser.proofs.parser.Parser.parse_arrow_params_id.Goals as goal
 
 pub returns-in_err-begin-clause-promised : goal.returns-in_err-begin-clause-promised

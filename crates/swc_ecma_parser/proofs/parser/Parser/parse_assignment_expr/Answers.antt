@@ -1,16 +1,12 @@
 use Rattle.std.proofs.Common.{refl, sym, ◌∙◌}
 use Rattle.std.proofs.lemmas.Result.{err_from_is_err_and}
-use Rattle.swc_grammar.specs.Symbols.{Assign}
-use Rattle.swc_grammar.specs.Clean.{sym as at, run}
-use Rattle.swc_nodes.specs.GrowingNodes.{bare_at}
+use Rattle.swc_grammar.specs.{Symbols.Assign, Clean.sym as at, Clean.run}
+use Rattle.swc_nodes.specs.{GrowingNodes.bare_at, NodeParts.one_expr}
 use Rattle.swc_steps.specs.Parsing.{tree_of}
 use Rattle.swc_ast.specs.Trees.{unmarked}
-use Rattle.swc_nodes.specs.NodeParts.{one_expr}
 use Rattle.swc_ecma_parser.specs.Calls.{buffer_of, nodes_of, commas_of, tree_by}
 use Rattle.swc_ecma_parser.proofs.Finished.{checked, expr-boxes-checked, meets-boxes-checked, recalled-checked}
-use Rattle.swc_ecma_parser.proofs.Calling.{promised, promised-again}
-use Rattle.swc_ecma_parser.proofs.Moving.{moved-parses, cut-back}
-use Rattle.swc_ecma_parser.proofs.Top.{assign-stops}
+use Rattle.swc_ecma_parser.proofs.{Calling.promised, Calling.promised-again, Moving.moved-parses, Moving.cut-back, Top.assign-stops}
 use Rattle.swc_ecma_parser.proofs.parser.Parser.parse_assignment_expr.Goals as goal
 
 pub returns-in_err-begin : goal.returns-in_err-begin

@@ -1,15 +1,12 @@
 use Rattle.std.proofs.Common.{refl, sym, ◌∙◌}
 use Rattle.std.proofs.lemmas.Result.{err_from_is_err_and}
-use Rattle.swc_grammar.specs.Symbols.{Assign}
-use Rattle.swc_grammar.specs.Clean.{sym as at, run}
-use Rattle.swc_nodes.specs.GrowingNodes.{From}
-use Rattle.swc_nodes.specs.NodeParts.{expr_part, one_expr}
+use Rattle.swc_grammar.specs.{Symbols.Assign, Clean.sym as at, Clean.run}
+use Rattle.swc_nodes.specs.{GrowingNodes.From, NodeParts.expr_part, NodeParts.one_expr}
 use Rattle.swc_steps.specs.Parsing.{tree_of}
 use Rattle.swc_ecma_parser.specs.Calls.{buffer_of, nodes_of, commas_of}
 use Rattle.swc_ecma_parser.proofs.Finished.{checked, checked-holds, expr-checked, meets-number-checked, recalled-checked}
-use Rattle.swc_ecma_parser.proofs.Calling.{promised, promised-again}
 use Rattle.swc_ecma_parser.proofs.Moving.{kept-leaves, kept-moved, kept-parses}
-use Rattle.swc_ecma_parser.proofs.Top.{assign-stops}
+use Rattle.swc_ecma_parser.proofs.{Calling.promised, Calling.promised-again, Top.assign-stops}
 use Rattle.swc_ecma_parser.proofs.parser.Parser.parse_assignment_expr_id.Goals as goal
 
 pub returns-in_err-begin : goal.returns-in_err-begin

@@ -1,18 +1,12 @@
 use Rattle.std.proofs.Common.{refl, sym, ◌∙◌}
 use Rattle.std.proofs.lemmas.Result.{err_from_is_err_and}
-use Rattle.swc_ast.specs.TreeOf.{pat_tree}
-use Rattle.swc_ast.specs.Trees.{unmarked}
-use Rattle.swc_grammar.specs.Symbols.{Element}
-use Rattle.swc_grammar.specs.Clean.{sym as at, run}
-use Rattle.swc_nodes.specs.GrowingNodes.{bare_at}
-use Rattle.swc_nodes.specs.NodeParts.{one_pat}
+use Rattle.swc_ast.specs.{TreeOf.pat_tree, Trees.unmarked}
+use Rattle.swc_grammar.specs.{Symbols.Element, Clean.sym as at, Clean.run}
+use Rattle.swc_nodes.specs.{GrowingNodes.bare_at, NodeParts.one_pat}
 use Rattle.swc_patterns.specs.Answers.{pat_at}
 use Rattle.swc_ecma_parser.specs.Calls.{buffer_of, nodes_of, commas_of}
 use Rattle.swc_ecma_parser.proofs.Finished.{checked, pat-boxes-checked, meets-boxes-checked, recalled-checked}
-use Rattle.swc_ecma_parser.proofs.Calling.{promised, promised-again}
-use Rattle.swc_ecma_parser.proofs.Moving.{moved-parses, cut-back}
-use Rattle.swc_ecma_parser.proofs.Patterns.{bound-element}
-use Rattle.swc_ecma_parser.proofs.Top.{element-stops}
+use Rattle.swc_ecma_parser.proofs.{Calling.promised, Calling.promised-again, Moving.moved-parses, Moving.cut-back, Patterns.bound-element, Top.element-stops}
 use Rattle.swc_ecma_parser.proofs.parser.Parser.parse_binding_element.Goals as goal
 
 pub returns-in_err-begin-clause-promised : goal.returns-in_err-begin-clause-promised

@@ -1,13 +1,11 @@
 use Rattle.std.specs.Prelude.{true}
-use Rattle.std.proofs.Common.{refl}
-use Rattle.std.proofs.lemmas.Result.{err_from_is_err_and}
+use Rattle.std.proofs.{Common.refl, lemmas.Result.err_from_is_err_and}
 use Rattle.swc_grammar.specs.Names.{ReadsName, Binding}
 use Rattle.swc_ident.specs.Verdicts.{binding_verdict}
 use Rattle.swc_steps.specs.Parsing.{binding_spelling}
 use Rattle.swc_ecma_parser.specs.Promise.{Anywhere}
 use Rattle.swc_steps.proofs.Naming.{honest-binding, parses_name, word_of}
-use Rattle.swc_ecma_parser.proofs.Calling.{called, called-again}
-use Rattle.swc_ecma_parser.proofs.NameTop.{binding-is_complete, binding-is_sound}
+use Rattle.swc_ecma_parser.proofs.{Calling.called, Calling.called-again, NameTop.binding-is_complete, NameTop.binding-is_sound}
 use Rattle.swc_ecma_parser.proofs.Top as top
 use Rattle.swc_ecma_parser.proofs.parser.Parser.parse_binding_ident.Goals as goal
 

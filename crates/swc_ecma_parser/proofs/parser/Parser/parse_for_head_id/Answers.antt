@@ -1,12 +1,10 @@
 use Rattle.std.proofs.Common.{refl, sym, ◌∙◌}
 use Rattle.std.proofs.lemmas.Result.{err_from_is_err_and}
-use Rattle.swc_nodes.specs.GrowingNodes.{Apart}
-use Rattle.swc_nodes.specs.NodeParts.{for_head_parts}
+use Rattle.swc_nodes.specs.{GrowingNodes.Apart, NodeParts.for_head_parts}
 use Rattle.swc_ecma_parser.specs.Calls.{buffer_of, nodes_of, commas_of}
 use Rattle.swc_ecma_parser.specs.ForHeads.{for_head_at}
-use Rattle.swc_ecma_parser.proofs.Finished.{checked-holds}
 use Rattle.swc_ecma_parser.proofs.ForHeads.{head-again, head-checked, head-kept, head-marked, head-promised, head-recalled, head-told, promised-head}
-use Rattle.swc_ecma_parser.proofs.Moving.{kept-parts}
+use Rattle.swc_ecma_parser.proofs.{Finished.checked-holds, Moving.kept-parts}
 use Rattle.swc_ecma_parser.proofs.parser.Parser.parse_for_head_id.Goals as goal
 
 pub returns-in_err-begin : goal.returns-in_err-begin

@@ -1,16 +1,13 @@
 use Rattle.std.proofs.Common.{refl, sym, ap, ◌∙◌}
 use Rattle.std.proofs.lemmas.Result.{err_from_is_err_and}
-use Rattle.swc_nodes.specs.GrowingNodes.{bare_at}
-use Rattle.swc_nodes.specs.NodeParts.{one_expr}
-use Rattle.swc_nodes.specs.declared.node.ExprId.{ExprId}
+use Rattle.swc_nodes.specs.{GrowingNodes.bare_at, NodeParts.one_expr, declared.node.ExprId.ExprId}
 use Rattle.swc_steps.specs.Parsing.{tree_of}
 use Rattle.swc_ast.specs.Trees.{unmarked}
 use Rattle.swc_ecma_parser.specs.Calls.{buffer_of, nodes_of, commas_of, tree_by}
 use Rattle.swc_ecma_parser.specs.ForHeads.{own_head_expr}
-use Rattle.swc_ecma_parser.proofs.Calling.{promised}
-use Rattle.swc_ecma_parser.proofs.Finished.{expr-boxes-checked}
 use Rattle.swc_ecma_parser.proofs.ForHeadPrefix.{checked_prefix, meets-prefix, prefix-again, prefix-marked, prefix-words, words-of}
 use Rattle.swc_ecma_parser.proofs.Moving.{moved-parses, cut-back, recalled-by}
+use Rattle.swc_ecma_parser.proofs.{Calling.promised, Finished.expr-boxes-checked}
 use Rattle.swc_ecma_parser.proofs.parser.Parser.parse_for_head_prefix.Goals as goal
 
 pub returns-in_err-begin : goal.returns-in_err-begin

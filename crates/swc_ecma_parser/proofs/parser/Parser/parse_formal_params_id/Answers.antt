@@ -1,11 +1,9 @@
 use Rattle.std.proofs.Common.{refl, sym, ◌∙◌}
 use Rattle.std.proofs.lemmas.Result.{err_from_is_err_and}
-use Rattle.swc_nodes.specs.GrowingNodes.{Apart}
-use Rattle.swc_nodes.specs.NodeParts.{flat, param_parts}
+use Rattle.swc_nodes.specs.{GrowingNodes.Apart, NodeParts.flat, NodeParts.param_parts}
 use Rattle.swc_ecma_parser.specs.Calls.{buffer_of, nodes_of, commas_of}
-use Rattle.swc_ecma_parser.proofs.Finished.{checked-holds}
 use Rattle.swc_ecma_parser.proofs.FormalParams.{derives-marked, meets-params, params-again, params-alone, params-apart, params-checked, params-kept, promised-params}
-use Rattle.swc_ecma_parser.proofs.Moving.{kept-parts}
+use Rattle.swc_ecma_parser.proofs.{Finished.checked-holds, Moving.kept-parts}
 use Rattle.swc_ecma_parser.proofs.parser.Parser.parse_formal_params_id.Goals as goal
 
 pub returns-in_err-begin : goal.returns-in_err-begin

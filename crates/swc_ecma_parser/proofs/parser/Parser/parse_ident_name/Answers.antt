@@ -1,13 +1,11 @@
 use Rattle.std.specs.Prelude.{true}
-use Rattle.std.proofs.Common.{refl}
-use Rattle.std.proofs.lemmas.Result.{err_from_is_err_and}
+use Rattle.std.proofs.{Common.refl, lemmas.Result.err_from_is_err_and}
 use Rattle.swc_grammar.specs.Names.{ReadsName, Name}
 use Rattle.swc_ident.specs.Verdicts.{name_of_any}
 use Rattle.swc_steps.specs.Parsing.{name_spelling}
 use Rattle.swc_ecma_parser.specs.Promise.{Anywhere}
 use Rattle.swc_steps.proofs.Naming.{honest-name, parses_name, word_of}
-use Rattle.swc_ecma_parser.proofs.Calling.{called, called-again}
-use Rattle.swc_ecma_parser.proofs.NameTop.{name-is_complete, name-is_sound}
+use Rattle.swc_ecma_parser.proofs.{Calling.called, Calling.called-again, NameTop.name-is_complete, NameTop.name-is_sound}
 use Rattle.swc_ecma_parser.proofs.Top as top
 use Rattle.swc_ecma_parser.proofs.parser.Parser.parse_ident_name.Goals as goal
 

@@ -1,5 +1,4 @@
-use Rattle.std.proofs.Common.{refl}
-use Rattle.std.proofs.lemmas.Result.{err_from_is_err_and}
+use Rattle.std.proofs.{Common.refl, lemmas.Result.err_from_is_err_and}
 use Rattle.swc_ecma_parser.proofs.Calling.{called, called-again}
 use Rattle.swc_ecma_parser.proofs.parser.Parser.parse_label_ident.Goals as goal
 

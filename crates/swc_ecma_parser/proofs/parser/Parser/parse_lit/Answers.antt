@@ -1,8 +1,6 @@
 use Rattle.std.specs.Prelude.{true}
-use Rattle.std.proofs.Common.{refl, ◌∙◌}
-use Rattle.std.proofs.lemmas.Result.{err_from_is_err_and}
-use Rattle.swc_ecma_parser.proofs.Calling.{called, called-again}
-use Rattle.swc_ecma_parser.proofs.Top.{literal-meets}
+use Rattle.std.proofs.{Common.refl, Common.◌∙◌, lemmas.Result.err_from_is_err_and}
+use Rattle.swc_ecma_parser.proofs.{Calling.called, Calling.called-again, Top.literal-meets}
 use Rattle.swc_ecma_parser.proofs.parser.Parser.parse_lit.Goals as goal
 
 pub returns-in_err-begin : goal.returns-in_err-begin

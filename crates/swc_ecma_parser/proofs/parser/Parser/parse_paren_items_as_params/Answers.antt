@@ -1,17 +1,11 @@
 use Rattle.std.proofs.Common.{◌≡◌, map, sym, ◌∙◌}
-use Rattle.swc_input.specs.Buffer.{last_position}
-use Rattle.swc_input.specs.Recording.{no_memory}
-use Rattle.swc_ast.specs.Tree.{trees}
-use Rattle.swc_ast.specs.TreeOf.{pat_tree}
-use Rattle.swc_ast.specs.Trees.{are_valid, all_unmarked}
-use Rattle.swc_cover.specs.Items.{want_items}
-use Rattle.swc_cover.specs.Refining.{pats_at}
-use Rattle.swc_nodes.specs.GrowingNodes.{tree_at}
-use Rattle.swc_nodes.specs.Lists.{pats_parts}
+use Rattle.swc_input.specs.{Buffer.last_position, Recording.no_memory}
+use Rattle.swc_ast.specs.{Tree.trees, TreeOf.pat_tree, Trees.are_valid, Trees.all_unmarked}
+use Rattle.swc_cover.specs.{Items.want_items, Refining.pats_at}
+use Rattle.swc_nodes.specs.{GrowingNodes.tree_at, Lists.pats_parts}
 use Rattle.swc_ecma_parser.specs.Calls.{buffer_of, nodes_of, commas_of}
 use Rattle.swc_ecma_parser.specs.Refinement.{boxed_items, marked_items, params_of}
-use Rattle.swc_ecma_parser.proofs.Refined.{cut-kept, meets-refinement, moved-pats, of-answer}
-use Rattle.swc_ecma_parser.proofs.Refined.{promised-refinement, records-moved, refinement-again, whichever}
+use Rattle.swc_ecma_parser.proofs.Refined.{cut-kept, meets-refinement, moved-pats, of-answer, promised-refinement, records-moved, refinement-again, whichever}
 use Rattle.swc_ecma_parser.proofs.parser.Parser.parse_paren_items_as_params.Goals as goal
 
 pub lift_out-answer-requires : goal.lift_out-answer-requires

@@ -1,16 +1,12 @@
 use Rattle.std.proofs.Common.{refl, sym, ◌∙◌}
 use Rattle.std.proofs.lemmas.Result.{err_from_is_err_and}
-use Rattle.swc_grammar.specs.Symbols.{Pat}
-use Rattle.swc_grammar.specs.Clean.{sym as at, run}
-use Rattle.swc_nodes.specs.GrowingNodes.{From}
-use Rattle.swc_nodes.specs.NodeParts.{pat_part, one_pat}
+use Rattle.swc_grammar.specs.{Symbols.Pat, Clean.sym as at, Clean.run}
+use Rattle.swc_nodes.specs.{GrowingNodes.From, NodeParts.pat_part, NodeParts.one_pat}
 use Rattle.swc_patterns.specs.Answers.{pat_at}
 use Rattle.swc_ecma_parser.specs.Calls.{buffer_of, nodes_of, commas_of}
 use Rattle.swc_ecma_parser.proofs.Finished.{checked, checked-holds, pat-checked, meets-number-checked, recalled-checked}
-use Rattle.swc_ecma_parser.proofs.Calling.{promised, promised-again}
 use Rattle.swc_ecma_parser.proofs.Moving.{kept-leaves, kept-moved, kept-parses}
-use Rattle.swc_ecma_parser.proofs.Patterns.{bound-marked}
-use Rattle.swc_ecma_parser.proofs.Top.{pat-stops}
+use Rattle.swc_ecma_parser.proofs.{Calling.promised, Calling.promised-again, Patterns.bound-marked, Top.pat-stops}
 use Rattle.swc_ecma_parser.proofs.parser.Parser.parse_pat_id.Goals as goal
 
 pub returns-in_err-begin-clause-promised : goal.returns-in_err-begin-clause-promised

@@ -1,13 +1,9 @@
 use Rattle.std.specs.Prelude.{true}
-use Rattle.std.proofs.Common.{refl}
-use Rattle.std.proofs.lemmas.Result.{err_from_is_err_and}
-use Rattle.swc_grammar.specs.Words.{hash_word}
-use Rattle.swc_grammar.specs.Names.{ReadsName, Private}
+use Rattle.std.proofs.{Common.refl, lemmas.Result.err_from_is_err_and}
+use Rattle.swc_grammar.specs.{Words.hash_word, Names.ReadsName, Names.Private}
 use Rattle.swc_steps.specs.Parsing.{private_spelling}
 use Rattle.swc_ecma_parser.specs.Promise.{Anywhere}
-use Rattle.swc_ecma_parser.proofs.PrivateNames.{parses_private}
-use Rattle.swc_ecma_parser.proofs.Calling.{called, called-again}
-use Rattle.swc_ecma_parser.proofs.NameTop.{private-is_complete, private-is_sound}
+use Rattle.swc_ecma_parser.proofs.{PrivateNames.parses_private, Calling.called, Calling.called-again, NameTop.private-is_complete, NameTop.private-is_sound}
 use Rattle.swc_ecma_parser.proofs.Top as top
 use Rattle.swc_ecma_parser.proofs.parser.Parser.parse_private_name.Goals as goal
 

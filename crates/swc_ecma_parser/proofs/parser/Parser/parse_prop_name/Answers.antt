@@ -1,18 +1,13 @@
 use Rattle.std.proofs.Common.{refl, sym, ◌∙◌}
 use Rattle.std.proofs.lemmas.Result.{err_from_is_err_and}
-use Rattle.swc_grammar.specs.Symbols.{Key}
-use Rattle.swc_grammar.specs.Clean.{sym as at, run}
-use Rattle.swc_ast.specs.Parts.{prop_name_tree}
-use Rattle.swc_nodes.specs.GrowingNodes.{tree_at, bare_at}
-use Rattle.swc_nodes.proofs.Unmarked.{unmarked-key}
+use Rattle.swc_grammar.specs.{Symbols.Key, Clean.sym as at, Clean.run}
+use Rattle.swc_ast.specs.{Parts.prop_name_tree, Trees.unmarked}
+use Rattle.swc_nodes.specs.{GrowingNodes.tree_at, GrowingNodes.bare_at, NodeParts.key_parts}
+use Rattle.swc_nodes.proofs.{Unmarked.unmarked-key, Remembered.key-commas}
 use Rattle.swc_steps.specs.Parsing.{key_at, tree_of}
-use Rattle.swc_ast.specs.Trees.{unmarked}
-use Rattle.swc_nodes.specs.NodeParts.{key_parts}
-use Rattle.swc_nodes.proofs.Remembered.{key-commas}
 use Rattle.swc_ecma_parser.specs.Calls.{nodes_of, commas_of, tree_by}
-use Rattle.swc_ecma_parser.proofs.Calling.{promised, promised-again}
 use Rattle.swc_ecma_parser.proofs.Moving.{moved-parses, cut-back, recalled}
-use Rattle.swc_ecma_parser.proofs.Top.{key-stops, meets-in-boxes}
+use Rattle.swc_ecma_parser.proofs.{Calling.promised, Calling.promised-again, Top.key-stops, Top.meets-in-boxes}
 use Rattle.swc_ecma_parser.proofs.parser.Parser.parse_prop_name.Goals as goal
 
 pub returns-in_err-begin : goal.returns-in_err-begin

@@ -1,15 +1,12 @@
 use Rattle.std.proofs.Common.{refl, sym, ◌∙◌}
 use Rattle.std.proofs.lemmas.Result.{err_from_is_err_and}
-use Rattle.swc_grammar.specs.Symbols.{Key}
-use Rattle.swc_grammar.specs.Clean.{sym as at, run}
-use Rattle.swc_nodes.specs.GrowingNodes.{tree_at}
-use Rattle.swc_nodes.specs.NodeParts.{key_parts}
+use Rattle.swc_grammar.specs.{Symbols.Key, Clean.sym as at, Clean.run}
+use Rattle.swc_nodes.specs.{GrowingNodes.tree_at, NodeParts.key_parts}
 use Rattle.swc_nodes.proofs.Remembered.{key-commas}
 use Rattle.swc_steps.specs.Parsing.{key_at}
 use Rattle.swc_ecma_parser.specs.Calls.{nodes_of, commas_of}
-use Rattle.swc_ecma_parser.proofs.Calling.{promised, promised-again}
 use Rattle.swc_ecma_parser.proofs.Moving.{kept-moved, kept-parses, kept-parts, recalled}
-use Rattle.swc_ecma_parser.proofs.Top.{key-stops, meets-by-number}
+use Rattle.swc_ecma_parser.proofs.{Calling.promised, Calling.promised-again, Top.key-stops, Top.meets-by-number}
 use Rattle.swc_ecma_parser.proofs.parser.Parser.parse_prop_name_id.Goals as goal
 
 pub returns-in_err-begin : goal.returns-in_err-begin

@@ -1,17 +1,13 @@
 use Rattle.std.proofs.Common.{refl, sym, ◌∙◌}
 use Rattle.std.proofs.lemmas.Result.{err_from_is_err_and}
-use Rattle.swc_grammar.specs.Symbols.{Template}
-use Rattle.swc_grammar.specs.Clean.{sym as at, run}
-use Rattle.swc_ast.specs.Parts.{tpl_tree}
-use Rattle.swc_nodes.specs.GrowingNodes.{tree_at, bare_at}
+use Rattle.swc_grammar.specs.{Symbols.Template, Clean.sym as at, Clean.run}
+use Rattle.swc_ast.specs.{Parts.tpl_tree, Trees.unmarked}
+use Rattle.swc_nodes.specs.{GrowingNodes.tree_at, GrowingNodes.bare_at, Lists.exprs_parts}
 use Rattle.swc_productions.specs.Pieces.{tpl_at}
-use Rattle.swc_ast.specs.Trees.{unmarked}
-use Rattle.swc_nodes.specs.Lists.{exprs_parts}
 use Rattle.swc_nodes.proofs.Remembered.{tpl-commas}
 use Rattle.swc_ecma_parser.specs.Calls.{nodes_of, commas_of, tree_by}
-use Rattle.swc_ecma_parser.proofs.Calling.{promised, promised-again}
 use Rattle.swc_ecma_parser.proofs.Moving.{moved-parses, tpl-bare, cut-back, recalled}
-use Rattle.swc_ecma_parser.proofs.Top.{tpl-stops, meets-in-boxes}
+use Rattle.swc_ecma_parser.proofs.{Calling.promised, Calling.promised-again, Top.tpl-stops, Top.meets-in-boxes}
 use Rattle.swc_ecma_parser.proofs.parser.Parser.parse_tpl.Goals as goal
 
 pub returns-in_err-begin : goal.returns-in_err-begin

@@ -1,7 +1,5 @@
-use Rattle.std.proofs.Common.{refl, ◌∙◌}
-use Rattle.std.proofs.lemmas.Result.{err_from_is_err_and}
-use Rattle.swc_ecma_parser.proofs.Calling.{called, called-again}
-use Rattle.swc_ecma_parser.proofs.HookTop.{hook-reads}
+use Rattle.std.proofs.{Common.refl, Common.◌∙◌, lemmas.Result.err_from_is_err_and}
+use Rattle.swc_ecma_parser.proofs.{Calling.called, Calling.called-again, HookTop.hook-reads}
 use Rattle.swc_ecma_parser.proofs.parser.Parser.read_block.Goals as goal
 
 pub returns-in_err-begin : goal.returns-in_err-begin

@@ -1,13 +1,10 @@
 use Rattle.std.proofs.Common.{◌≤◌, ap, arith, subst}
 use Rattle.swc_input.specs.Buffer.{context, last_position}
 use Rattle.swc_cover.proofs.Checked.{unfit-memory}
-use Rattle.swc_cover.specs.Noting.{JudgesBy}
-use Rattle.swc_cover.specs.PatTypes.{verdict_as}
-use Rattle.swc_nodes.specs.Marking.{Marks}
-use Rattle.swc_nodes.specs.GrowingNodes.{count}
+use Rattle.swc_cover.specs.{Noting.JudgesBy, PatTypes.verdict_as}
+use Rattle.swc_nodes.specs.{Marking.Marks, GrowingNodes.count}
 use Rattle.swc_nodes.proofs.Held.{from-down}
-use Rattle.swc_ecma_parser.specs.Calls.{buffer_of, nodes_of}
-use Rattle.swc_ecma_parser.specs.Refinement.{marks_of}
+use Rattle.swc_ecma_parser.specs.{Calls.buffer_of, Calls.nodes_of, Refinement.marks_of}
 use Rattle.swc_ecma_parser.proofs.Recast.{from-put, kept-put, recasts-expr, tree-put}
 use Rattle.swc_ecma_parser.proofs.parser.Parser.recast_expr.Goals as goal
 

@@ -1,13 +1,9 @@
 use Rattle.std.proofs.Common.{ap, subst}
 use Rattle.swc_input.specs.Buffer.{context, last_position}
 use Rattle.swc_cover.proofs.Checked.{unfit-memory}
-use Rattle.swc_cover.specs.Faults.{params_verdict}
-use Rattle.swc_cover.specs.Items.{want_items}
-use Rattle.swc_cover.specs.Noting.{names_bound, JudgesParams}
-use Rattle.swc_nodes.specs.Marking.{Marks}
-use Rattle.swc_nodes.specs.NodeParts.{args_parts}
-use Rattle.swc_ecma_parser.specs.Calls.{buffer_of}
-use Rattle.swc_ecma_parser.specs.Refinement.{marks_of}
+use Rattle.swc_cover.specs.{Faults.params_verdict, Items.want_items, Noting.names_bound, Noting.JudgesParams}
+use Rattle.swc_nodes.specs.{Marking.Marks, NodeParts.args_parts}
+use Rattle.swc_ecma_parser.specs.{Calls.buffer_of, Refinement.marks_of}
 use Rattle.swc_ecma_parser.proofs.Recast.{apart-put, items-put, kept-put, recasts-items}
 use Rattle.swc_ecma_parser.proofs.Moving.{apart-low}
 use Rattle.swc_ecma_parser.proofs.parser.Parser.recast_items.Goals as goal

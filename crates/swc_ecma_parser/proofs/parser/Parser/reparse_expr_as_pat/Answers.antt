@@ -1,13 +1,11 @@
 use Rattle.std.proofs.Common.{sym, ◌∙◌}
-use Rattle.swc_ast.specs.TreeOf.{pat_tree}
-use Rattle.swc_ast.specs.Trees.{is_valid, unmarked}
+use Rattle.swc_ast.specs.{TreeOf.pat_tree, Trees.is_valid, Trees.unmarked}
 use Rattle.swc_cover.specs.PatTypes.{want_as}
 use Rattle.swc_nodes.specs.NodeParts.{one_pat}
 use Rattle.swc_patterns.specs.Answers.{pat_at}
 use Rattle.swc_ecma_parser.specs.Calls.{nodes_of, commas_of, tree_by}
 use Rattle.swc_ecma_parser.specs.Refinement.{marked_expr, pattern_of}
-use Rattle.swc_ecma_parser.proofs.Refined.{cut-kept, meets-refinement, of-answer, promised-refinement, records-moved, refinement-again}
-use Rattle.swc_ecma_parser.proofs.Refined.{whichever}
+use Rattle.swc_ecma_parser.proofs.Refined.{cut-kept, meets-refinement, of-answer, promised-refinement, records-moved, refinement-again, whichever}
 use Rattle.swc_ecma_parser.proofs.parser.Parser.reparse_expr_as_pat.Goals as goal
 
 pub lift_out-answer-requires : goal.lift_out-answer-requires

@@ -2,9 +2,8 @@ use Rattle.std.proofs.Common.{sym, ◌∙◌}
 use Rattle.swc_input.specs.Buffer.{last_position}
 use Rattle.swc_nodes.specs.GrowingNodes.{count}
 use Rattle.swc_ecma_parser.specs.Calls.{buffer_of, nodes_of, commas_of, tree_by}
-use Rattle.swc_ecma_parser.proofs.Bare.{bare-boxed}
-use Rattle.swc_ecma_parser.proofs.Moving.{cut-back}
 use Rattle.swc_ecma_parser.proofs.Verified.{meets-verification, moved-given, promised-verification}
+use Rattle.swc_ecma_parser.proofs.{Bare.bare-boxed, Moving.cut-back}
 use Rattle.swc_ecma_parser.proofs.parser.Parser.verify_expr.Goals as goal
 
 pub returns-in-Ok : goal.returns-in-Ok

@@ -1,5 +1,4 @@
-use Rattle.std.proofs.Common.{arith}
-use Rattle.std.proofs.lemmas.Result.{err_from_is_err_and}
+use Rattle.std.proofs.{Common.arith, lemmas.Result.err_from_is_err_and}
 use Rattle.swc_ast.specs.TreeOf.{pat_prop_tree}
 use Rattle.swc_patterns.proofs.PropRests.{seen_none, seen_more, seen_all}
 use Rattle.swc_steps.proofs.Steps.{forgoes_later, unheard_memory}

@@ -1,6 +1,5 @@
 use Rattle.std.proofs.Common.{map, take}
-use Rattle.swc_ast.specs.Tree.{trees}
-use Rattle.swc_ast.specs.TreeOf.{pat_prop_tree}
+use Rattle.swc_ast.specs.{Tree.trees, TreeOf.pat_prop_tree}
 use Rattle.swc_patterns.proofs.PropRests.{RestsSeen}
 use Rattle.swc_ecma_parser.proofs.RestsNoted.{RestsNoted}
 use Rattle.swc_ecma_parser.proofs.parser.object.check_rests.Given as goal

@@ -1,7 +1,5 @@
 use Rattle.std.specs.Prelude.{[]}
-use Rattle.swc_input.specs.Buffer.{current, last_position}
-use Rattle.swc_input.specs.Laws.{Read-same}
-use Rattle.swc_input.specs.Recording.{error_token}
+use Rattle.swc_input.specs.{Buffer.current, Buffer.last_position, Laws.Read-same, Recording.error_token}
 use Rattle.swc_input.proofs.Emits.{recorded_by, read_by, no_memory_by, kept_by}
 use Rattle.swc_input.proofs.buffer.Buffer.emit_error.Goals as goal
 

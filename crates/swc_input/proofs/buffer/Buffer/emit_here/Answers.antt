@@ -1,6 +1,4 @@
-use Rattle.swc_input.specs.Buffer.{current}
-use Rattle.swc_input.specs.Recording.{error_token}
-use Rattle.swc_input.specs.Laws.{Read-still}
+use Rattle.swc_input.specs.{Buffer.current, Recording.error_token, Laws.Read-still}
 use Rattle.swc_input.proofs.buffer.Buffer.emit_here.Goals as goal
 
 pub returns-in-Ok-clause-read : goal.returns-in-Ok-clause-read

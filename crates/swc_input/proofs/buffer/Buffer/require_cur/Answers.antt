@@ -2,10 +2,8 @@ use Rattle.std.proofs.Common.{ap, ◌∙◌}
 use Rattle.swc_context.specs.declared.error.SyntaxError.TheVariants.{Eof}
 use Rattle.swc_input.specs.Buffer.{current, source, last_position}
 use Rattle.swc_input.specs.Recording.{refusal, unfit}
-use Rattle.swc_input.proofs.Emits.{unfit_by}
-use Rattle.swc_input.proofs.Refusals.{unfit-unknown, unfit-error}
+use Rattle.swc_input.proofs.{Emits.unfit_by, Refusals.unfit-unknown, Refusals.unfit-error, buffer.Buffer.require_cur.Goals.else-knows_cur-via-then-knows_cur+else-not-is_error, buffer.Buffer.require_cur.Goals.else-knows_cur-via-else-knows_cur}
 use Rattle.swc_input.proofs.buffer.Buffer.require_cur.Goals as goal
-use Rattle.swc_input.proofs.buffer.Buffer.require_cur.Goals.{else-knows_cur-via-then-knows_cur+else-not-is_error, else-knows_cur-via-else-knows_cur}
 
 pub returns-clause-refused : goal.returns-clause-refused
 returns-clause-refused g c =

@@ -1,7 +1,6 @@
 use Rattle.std.proofs.Common.{map, sym, ap, ◌∙◌}
 use Rattle.swc_nodes.specs.Commas.{body_part, comma_at, outer_parts, part_commas, recalled}
-use Rattle.swc_nodes.specs.GrowingNodes.{tree_at, Stood}
-use Rattle.swc_nodes.specs.Walking.{part_of}
+use Rattle.swc_nodes.specs.{GrowingNodes.tree_at, GrowingNodes.Stood, Walking.part_of}
 use Rattle.swc_nodes.proofs.Remembered.{outer-first, taken, turn_commas}
 use Rattle.swc_nodes.proofs.Weighed.{apart_numbers, last_below, turn_less, turn_numbers}
 use Rattle.swc_nodes.proofs.commas.TrailingCommas.remember_all.Goals as goal

@@ -1,8 +1,7 @@
 use Rattle.std.proofs.Common.{◌≡◌, ℕ, map}
 use Rattle.swc_nodes.specs.Commas.{comma_at, part_commas, recalled}
-use Rattle.swc_nodes.specs.GrowingNodes.{tree_at}
-use Rattle.swc_nodes.specs.Walking.{part_of}
 use Rattle.swc_nodes.specs.Weights.{ats, left_over, AreNumbers}
+use Rattle.swc_nodes.specs.{GrowingNodes.tree_at, Walking.part_of}
 use Rattle.swc_nodes.proofs.commas.TrailingCommas.remember_all.Given as goal
 
 -- what is due, after what is remembered, is all that was to be remembered

@@ -1,5 +1,4 @@
-use Rattle.swc_nodes.specs.Lists.{pats_parts}
-use Rattle.swc_nodes.specs.NodeParts.{body_parts}
+use Rattle.swc_nodes.specs.{Lists.pats_parts, NodeParts.body_parts}
 use Rattle.swc_nodes.proofs.ArrowNodes.{apart-back, arrow-made}
 use Rattle.swc_nodes.proofs.nodes.Nodes.arrow_expr.Goals as goal
 

@@ -1,6 +1,5 @@
 use Rattle.std.proofs.Common.{◌≡◌}
-use Rattle.swc_nodes.specs.NodeParts.{expr_part}
-use Rattle.swc_nodes.specs.GrowingNodes.{seat_at, From}
+use Rattle.swc_nodes.specs.{NodeParts.expr_part, GrowingNodes.seat_at, GrowingNodes.From}
 use Rattle.swc_nodes.proofs.nodes.Nodes.end.Given as goal
 
 abbrev pub invariant-loop-operand : goal.invariant-loop-operand

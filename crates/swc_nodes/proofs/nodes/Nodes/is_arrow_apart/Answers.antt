@@ -1,8 +1,6 @@
 use Rattle.std.proofs.Common.{◌++◌}
-use Rattle.swc_nodes.specs.Lists.{pats_parts}
-use Rattle.swc_nodes.specs.NodeParts.{body_parts}
-use Rattle.swc_nodes.proofs.ArrowNodes.{walked-both}
-use Rattle.swc_nodes.proofs.Walked.{walked_apart}
+use Rattle.swc_nodes.specs.{Lists.pats_parts, NodeParts.body_parts}
+use Rattle.swc_nodes.proofs.{ArrowNodes.walked-both, Walked.walked_apart}
 use Rattle.swc_nodes.proofs.nodes.Nodes.is_arrow_apart.Goals as goal
 
 pub returns : goal.returns

@@ -1,5 +1,4 @@
-use Rattle.swc_nodes.proofs.Covers.{object-covers, object-is}
-use Rattle.swc_nodes.proofs.Held.{stood-is}
+use Rattle.swc_nodes.proofs.{Covers.object-covers, Covers.object-is, Held.stood-is}
 use Rattle.swc_nodes.proofs.nodes.Nodes.props.Goals as goal
 
 pub returns-in-Object : goal.returns-in-Object

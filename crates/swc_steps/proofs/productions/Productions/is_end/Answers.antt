@@ -1,5 +1,4 @@
-use Rattle.std.proofs.Common.{Ok, Err}
-use Rattle.std.proofs.lemmas.Result.{err_from_is_err_and}
+use Rattle.std.proofs.{Common.Ok, Common.Err, lemmas.Result.err_from_is_err_and}
 use Rattle.swc_steps.proofs.Steps.{looks}
 use Rattle.swc_steps.proofs.productions.Productions.is_end.Goals as goal
 

@@ -1,11 +1,10 @@
 use Rattle.std.proofs.Common.{ap, ◌∙◌}
 use Rattle.swc_ast.proofs.Equations.{pat_key_value_tree}
-use Rattle.swc_trees.proofs.Leaves.{binding_prop_tree, rest_prop_tree}
+use Rattle.swc_trees.proofs.Assembled.{offers-first, offers-second, made-one, made-two}
+use Rattle.swc_trees.proofs.{Leaves.binding_prop_tree, Leaves.rest_prop_tree, Agreed.two}
 use Rattle.swc_ast.specs.Tree.{dots, key_value, binding_prop, rest, node, nil, cons}
 use Rattle.swc_ast.specs.Parts.{leaf, binding_tree}
 use Rattle.swc_nodes.specs.NodeParts.{one_pat, key_parts}
-use Rattle.swc_trees.proofs.Assembled.{offers-first, offers-second, made-one, made-two}
-use Rattle.swc_trees.proofs.Agreed.{two}
 use Rattle.swc_trees.proofs.items.PatPropNodeItem.assemble.Goals as goal
 
 pub boxed_pat-requires : goal.boxed_pat-requires

@@ -1,8 +1,7 @@
 use Rattle.std.proofs.Common.{ap, ◌∙◌}
-use Rattle.swc_trees.proofs.Leaves.{spread_item_tree, prop_item_tree}
+use Rattle.swc_trees.proofs.{Leaves.spread_item_tree, Leaves.prop_item_tree, Assembled.made-one, Assembled.ok-of}
 use Rattle.swc_ast.specs.Tree.{spread, dots, node, nil, cons}
 use Rattle.swc_ast.specs.Parts.{leaf}
-use Rattle.swc_trees.proofs.Assembled.{made-one, ok-of}
 use Rattle.swc_trees.proofs.items.PropNodeItem.assemble.Goals as goal
 
 pub returns-in-Spread : goal.returns-in-Spread

@@ -3,9 +3,7 @@ use Rattle.swc_ast.proofs.Equations.{pat_key_value_tree}
 use Rattle.swc_ast.specs.Parts.{or_hole, binding_tree, prop_name_tree, rest_tree}
 use Rattle.swc_ast.specs.Tree.{node, cons, nil, key_value, binding_prop}
 use Rattle.swc_ast.specs.TreeOf.{boxed_tree, pat_tree, pat_prop_tree}
-use Rattle.swc_trees.proofs.Leaves.{binding_prop_tree, rest_prop_tree}
-use Rattle.swc_trees.proofs.Splits.{split-eq}
-use Rattle.swc_trees.proofs.Agreed.{read-three}
+use Rattle.swc_trees.proofs.{Leaves.binding_prop_tree, Leaves.rest_prop_tree, Splits.split-eq, Agreed.read-three}
 use Rattle.swc_trees.proofs.parting.ObjectPatPropWhole.split.Goals as goal
 
 pub returns-in-KeyValue : goal.returns-in-KeyValue

@@ -1,8 +1,7 @@
 use Rattle.std.proofs.Common.{sym, ap, ◌∙◌}
 use Rattle.swc_ast.specs.Parts.{spread_tree}
 use Rattle.swc_ast.specs.TreeOf.{boxed_tree, prop_tree, prop_or_spread_tree}
-use Rattle.swc_trees.proofs.Leaves.{spread_item_tree, prop_item_tree}
-use Rattle.swc_trees.proofs.Splits.{split-eq}
+use Rattle.swc_trees.proofs.{Leaves.spread_item_tree, Leaves.prop_item_tree, Splits.split-eq}
 use Rattle.swc_trees.proofs.parting.PropOrSpreadWhole.split.Goals as goal
 
 pub returns-in-Spread : goal.returns-in-Spread

@@ -1,19 +1,13 @@
 use Rattle.std.proofs.Common.{refl, sym, ◌∙◌}
 use Rattle.std.proofs.lemmas.Result.{err_from_is_err_and}
-use Rattle.swc_grammar.specs.Symbols.{Prop}
-use Rattle.swc_grammar.specs.Clean.{sym as at, run}
-use Rattle.swc_ast.specs.TreeOf.{prop_or_spread_tree}
-use Rattle.swc_nodes.specs.NodeTree.{prop_of as prop_tree}
-use Rattle.swc_nodes.specs.GrowingNodes.{tree_at, bare_at}
-use Rattle.swc_nodes.proofs.Unmarked.{unmarked-prop}
+use Rattle.swc_grammar.specs.{Symbols.Prop, Clean.sym as at, Clean.run}
+use Rattle.swc_ast.specs.{TreeOf.prop_or_spread_tree, Trees.unmarked}
+use Rattle.swc_nodes.specs.{NodeTree.prop_of as prop_tree, GrowingNodes.tree_at, GrowingNodes.bare_at, NodeParts.prop_parts}
+use Rattle.swc_nodes.proofs.{Unmarked.unmarked-prop, Remembered.prop-commas}
 use Rattle.swc_steps.specs.Parsing.{prop_at}
-use Rattle.swc_ast.specs.Trees.{unmarked}
-use Rattle.swc_nodes.specs.NodeParts.{prop_parts}
-use Rattle.swc_nodes.proofs.Remembered.{prop-commas}
 use Rattle.swc_ecma_parser.specs.Calls.{nodes_of, commas_of, tree_by}
-use Rattle.swc_ecma_parser.proofs.Calling.{promised, promised-again}
 use Rattle.swc_ecma_parser.proofs.Moving.{moved-parses, cut-back, recalled}
-use Rattle.swc_ecma_parser.proofs.Top.{prop-stops, meets-in-boxes}
+use Rattle.swc_ecma_parser.proofs.{Calling.promised, Calling.promised-again, Top.prop-stops, Top.meets-in-boxes}
 use Rattle.swc_ecma_parser.proofs.parser.object.ParserParseObjectBoxExprOf.parse_object_prop.Goals as goal
 
 pub returns-in_err-begin : goal.returns-in_err-begin

@@ -1,18 +1,11 @@
 use Rattle.std.proofs.Common.{refl, sym, ◌∙◌}
 use Rattle.std.proofs.lemmas.Result.{err_from_is_err_and}
-use Rattle.swc_ast.specs.TreeOf.{pat_prop_tree}
-use Rattle.swc_ast.specs.Trees.{unmarked}
+use Rattle.swc_ast.specs.{TreeOf.pat_prop_tree, Trees.unmarked}
 use Rattle.swc_grammar.specs.Reads.{Reads}
-use Rattle.swc_nodes.specs.GrowingNodes.{tree_at, bare_at}
-use Rattle.swc_nodes.specs.NodeParts.{pat_prop_parts}
-use Rattle.swc_nodes.specs.NodeTree.{pat_prop_of}
-use Rattle.swc_nodes.specs.declared.node.PatPropNode.{PatPropNode}
-use Rattle.swc_nodes.proofs.Remembered.{pat-prop-commas}
-use Rattle.swc_nodes.proofs.Unmarked.{unmarked-pat-prop}
-use Rattle.swc_patterns.specs.Answers.{pat_prop_at}
-use Rattle.swc_patterns.specs.Objects.{pat_prop_item}
-use Rattle.swc_ecma_parser.specs.Calls.{nodes_of, commas_of}
-use Rattle.swc_ecma_parser.specs.Promise.{PropOrRest}
+use Rattle.swc_nodes.specs.{GrowingNodes.tree_at, GrowingNodes.bare_at, NodeParts.pat_prop_parts, NodeTree.pat_prop_of, declared.node.PatPropNode.PatPropNode}
+use Rattle.swc_nodes.proofs.{Remembered.pat-prop-commas, Unmarked.unmarked-pat-prop}
+use Rattle.swc_patterns.specs.{Answers.pat_prop_at, Objects.pat_prop_item}
+use Rattle.swc_ecma_parser.specs.{Calls.nodes_of, Calls.commas_of, Promise.PropOrRest}
 use Rattle.swc_ecma_parser.proofs.Calling.{promised}
 use Rattle.swc_ecma_parser.proofs.Moving.{moved-parses, cut-back, recalled-by}
 use Rattle.swc_ecma_parser.proofs.Patterns.{either-sound, meets-pat-prop, rest-answered, pat-prop-again, promised-pat-prop}
