@@ -1,93 +1,58 @@
 // The layout of an expression as a text.
-use crate::kinds::put_numbered;
-use crate::pieces::{Piece, Pieces};
-use reporting::expr::Nodes;
+use crate::brackets::mark_brackets;
+use crate::gaps::parts_of;
+use crate::marks::Marks;
+use crate::operators::mark_nodes;
+use crate::print::print;
+use crate::units::{bodies_of, units_of};
+use reporting::expr::{Nodes, read_part};
 use std::alloc::{AllocError, Global};
-use swc_ecma_parser::context::span::Span;
+use swc_ecma_parser::context::context::Context;
 use swc_ecma_parser::nodes::node::ExprId;
+use swc_lexer::reader::End;
 
-/// No line is indented by more levels: so the layout of what is nested deeply stays short.
-const MOST_LEVELS: usize = 16;
-
-/// A layout, as far as it is written.
-#[derive(Drop)]
-struct LayoutWriter {
-    out: String,
-    /// How many literals are open whose items stand on lines of their own.
-    level: usize,
-    /// What is to be written yet, the next piece last.
-    due: Pieces,
-}
-
-/// The layout of an expression: parentheses as they are, and each property of an object literal on a line of its own.
-/// Names, numbers, strings, texts of templates, functions, classes and blocks are as they are written in the source.
-/// Comments elsewhere are left out. Read again it gives the same tree, places apart.
+/// The layout of the expression of a text, which has the number among its nodes and was read in the context.
+///
+/// All tokens and comments are written as they are in the text, in their order, and so are functions, classes and
+/// blocks as a whole. Between them only blanks and line breaks change: so the layout, read again, gives the same tree,
+/// places apart, and is its own layout.
+///
+/// **Blanks.** One is on each side of an operator of two or three operands and of `=>`, after a comma, after the colon
+/// of a property, within braces, before a block, and where two words meet. One is on each side of a comment, but none
+/// after an opening bracket, before a closing one or before a comma.
+///
+/// **Lines.** A group is on one line if it and what follows it up to the next place for a line break take no more than
+/// 100 columns; otherwise each of its parts begins a line. A group within one that is on one line is so too. Line breaks
+/// in functions, classes, blocks, templates and comments end a line, but don't break a group by themselves. Groups are:
+///
+/// - what brackets hold, with a part for each item, and a line for the closing bracket. Brackets that hold nothing but
+///   brackets, as in `f({..})`, are no group. What `[` or `{` holds is broken where a function, a class, a block or the
+///   text of a template in it has a line break;
+/// - operands of operators of the same precedence, as in `a + b - c`, after each operator;
+/// - `a ? b : c`, before `?` and `:`, where `c` may be such an expression of the same group;
+/// - a chain in which two members or more are called, as in `a.b().c()`, before each of these;
+/// - a list of expressions that is the whole text, after each comma.
+///
+/// Parts of a group are indented by 4 columns more than its first line, but for this list. No line is indented by more
+/// than 64 columns. What is in `${` and `}` of a template is on one line.
+///
+/// **Comments.** A line break next to a comment stays. Where a comment shares its line with tokens on both sides, the
+/// line of a broken group begins before it, and before a closing bracket after it.
+///
+/// Takes time in proportion to the text. The only error is out of memory.
 pub fn layout(
     alloc: Global,
-    source: &str,
+    text: &str,
     nodes: &Nodes,
     expr: ExprId,
+    context: Context,
 ) -> Result<String, AllocError> {
-    let mut writer = LayoutWriter {
-        out: String::new(alloc),
-        level: 0,
-        due: vec![in alloc; Piece::Node(expr.0)]?,
-    };
-    // No node is a part of two, so none comes twice.
-    for _ in 0..nodes.len() {
-        match writer.write_to_node(source)? {
-            Some(number) => writer.begin(alloc, nodes, number)?,
-            None => break,
-        }
-    }
-    writer.write_to_node(source)?;
-    Ok(writer.out)
-}
-
-impl LayoutWriter {
-    /// Puts the pieces of a node before all that is due.
-    fn begin(&mut self, alloc: Global, nodes: &Nodes, number: usize) -> Result<(), AllocError> {
-        let mut pieces = Vec::new(alloc);
-        put_numbered(&mut pieces, nodes, number)?;
-        pieces.reverse();
-        self.due.append(&mut pieces)?;
-        Ok(())
-    }
-
-    /// Writes the pieces before the next node, and takes out this.
-    fn write_to_node(&mut self, source: &str) -> Result<Option<usize>, AllocError> {
-        while let Some(piece) = self.due.pop() {
-            match piece {
-                Piece::Node(number) => return Ok(Some(number)),
-                Piece::Text(text) => self.out.push_str(text)?,
-                Piece::Source(span) => self.out.push_str(part(source, span))?,
-                Piece::Open => {
-                    self.level = self.level.saturating_add(1);
-                    put_line(&mut self.out, self.level)?;
-                }
-                Piece::Line => put_line(&mut self.out, self.level)?,
-                Piece::Close => {
-                    self.level = self.level.saturating_sub(1);
-                    put_line(&mut self.out, self.level)?;
-                }
-            }
-        }
-        Ok(None)
-    }
-}
-
-/// Begins a line of the level.
-fn put_line(out: &mut String, level: usize) -> Result<(), AllocError> {
-    out.push_str("\n")?;
-    for _ in 0..level.min(MOST_LEVELS) {
-        out.push_str("    ")?;
-    }
-    Ok(())
-}
-
-/// What stands in the source there.
-fn part(source: &str, span: Span) -> &str {
-    source
-        .get(span.lo.0 as usize..span.hi.0 as usize)
-        .unwrap_or("")
+    let part = read_part(alloc, text, 0, End::Whole, context)?;
+    let bodies = bodies_of(alloc, nodes, expr)?;
+    let units = units_of(alloc, &part.tokens, &bodies)?;
+    let mut marks = Marks::new(alloc, units)?;
+    mark_nodes(alloc, &mut marks, nodes, expr)?;
+    mark_brackets(alloc, text, &mut marks)?;
+    let parts = parts_of(alloc, text, &marks)?;
+    print(alloc, text, &parts)
 }

@@ -1,8 +1,10 @@
 //! Expressions as texts, in a layout of their own.
 #![tactic(auto)]
 
-mod items;
-mod kinds;
+mod brackets;
+mod gaps;
 pub mod layout;
-mod links;
-mod pieces;
+mod marks;
+mod operators;
+mod print;
+mod units;

@@ -1,14 +1,13 @@
-//! Writes the expression on standard input in a layout of its own.
+//! Writes the expression on standard input in a layout of its own. The argument says how it is read
+//! (`reporting::input`).
 #![tactic(auto)]
 
 use expr_layout::layout::layout;
-use reporting::expr::{Nodes, read_expr};
-use reporting::{DONE, read_text, report, report_failure};
-use std::io::Write;
+use reporting::expr::read_expr;
+use reporting::input::read_input;
+use reporting::{DONE, report, report_failure};
+use std::io;
 use std::process::ExitCode;
-use std::{io, str};
-use swc_ecma_parser::context::span::BytePos;
-use swc_ecma_parser::nodes::node::ExprId;
 
 fn main(rt: HostRuntime) -> ExitCode {
     match run(&rt) {
@@ -19,18 +18,16 @@ fn main(rt: HostRuntime) -> ExitCode {
 
 /// Reads, and writes. Answers the program's status.
 fn run(rt: &HostRuntime) -> io::Result<u8> {
-    let text = read_text(rt)?;
-    match read_expr(rt.alloc(), &text, BytePos(0)) {
-        Ok((nodes, expr)) => write_layout(rt, &text, &nodes, expr),
-        Err(fault) => Ok(report(rt, &text, &fault)),
+    let (text, context) = match read_input(rt)? {
+        Ok(input) => input,
+        Err(status) => return Ok(status),
+    };
+    match read_expr(rt.alloc(), text.as_str(), context) {
+        Ok((nodes, expr)) => {
+            let laid_out = layout(rt.alloc(), text.as_str(), &nodes, expr, context)?;
+            println!(rt; "{laid_out}")?;
+            Ok(DONE)
+        }
+        Err(fault) => Ok(report(rt, text.as_str().as_bytes(), &fault)),
     }
-}
-
-/// Writes the layout of an expression of the text, which is ASCII, since its tokens could be read.
-fn write_layout(rt: &HostRuntime, text: &[u8], nodes: &Nodes, expr: ExprId) -> io::Result<u8> {
-    let source = str::from_utf8(text).unwrap_or("");
-    let laid_out = layout(rt.alloc(), source, nodes, expr)?;
-    let laid_out = laid_out.as_str();
-    println!(rt; "{laid_out}")?;
-    Ok(DONE)
 }

@@ -1,67 +1,57 @@
-//! Reads a text as one expression, and reports each `==` and each call of `eval` in it, with line and column.
+//! Reads a script, and reports each `==` and each call of `eval` in it, within functions too.
 #![tactic(auto)]
 
+use reporting::LEVELS;
+use statement_trees::tree::{Goal, Program};
 use std::io;
 use swc_ecma_parser::prelude::*;
 
-/// How deeply an expression may be nested, for a stack of 8 MB.
-const LEVELS: usize = 800;
-
-/// What is wrong with a part of an expression, and where.
-fn finding(nodes: &NodesOf<NoBodies>, text: &str, part: PartId) -> Option<(Span, &'static str)> {
-    match nodes.node(part)? {
+/// What is wrong with an expression, and where.
+fn finding(program: &Program, text: &str, expr: ExprId) -> Option<(Span, &'static str)> {
+    let nodes = &program.nodes;
+    match nodes.node(expr)? {
         Node::Bin {
             op: BinaryOp::EqEq,
             ..
         } => Some((
-            operator_span(nodes, text, part)?,
+            operator_span(nodes, text, expr)?,
             "`===` is safer than `==`",
         )),
         Node::Call {
             callee: Callee::Expr(callee),
             ..
-        } if is_eval(nodes, *callee) => Some((nodes.span_of(part)?, "`eval` runs any text")),
+        } => match nodes.node(*callee)? {
+            Node::Ident(name) if name.sym.as_str() == "eval" => {
+                Some((nodes.span_of(expr)?, "`eval` runs any text"))
+            }
+            _ => None,
+        },
         _ => None,
     }
 }
 
-fn is_eval(nodes: &NodesOf<NoBodies>, callee: ExprId) -> bool {
-    matches!(nodes.node(callee), Some(Node::Ident(name)) if name.sym.as_str() == "eval")
-}
-
-/// Reports what is wrong with an expression: what is found at a node comes before what is found in its parts.
-fn report(rt: &HostRuntime, nodes: &NodesOf<NoBodies>, text: &str, expr: ExprId) -> io::Result<()> {
-    for visit in walk(nodes, &expr)? {
-        if visit.step == Step::Enter
-            && let Some((span, message)) = finding(nodes, text, visit.part)
-        {
-            println!(rt; "{}: {message}", span.line_column(text.as_bytes()))?;
+/// Reports what is wrong, in the order of the text.
+fn lint(rt: &HostRuntime, program: &Program, text: &str) -> io::Result<()> {
+    let mut found = Vec::new(rt.alloc());
+    for number in 0..program.nodes.len() {
+        if let Some(wrong) = finding(program, text, ExprId(number)) {
+            found.push(wrong)?;
         }
+    }
+    found.sort_by_key(|wrong: &(Span, &str)| wrong.0.lo.0)?;
+    for (span, message) in &found {
+        println!(rt; "{}: {message}", span.line_column(text.as_bytes()))?;
     }
     Ok(())
 }
 
-/// Reports what is wrong with the text, or why it isn't one expression.
-fn lint(rt: &HostRuntime, text: &str) -> io::Result<()> {
-    let (context, syntax, target) = (Context::script(), Syntax::default(), EsVersion::default());
-    let whole = parse_text_expr(rt.alloc(), text, context, syntax, target, NoBodies, LEVELS);
-    let Whole {
-        read,
-        nodes,
-        recorded,
-        too_deep: _,
-    } = whole;
-    for fault in recorded {
-        println!(rt; "{}: {fault}", fault.span().line_column(text.as_bytes()))?;
-    }
-    match read {
-        Ok((expr, false)) => report(rt, &nodes, text, expr),
-        Ok((_, true)) => println!(rt; "tokens are left after the expression"),
-        Err(fault) => println!(rt; "{}: {fault}", fault.span().line_column(text.as_bytes())),
-    }
-}
-
 fn main(rt: HostRuntime) -> io::Result<()> {
     let text = io::read_to_string(rt.alloc(), rt.reader())?;
-    lint(&rt, text.as_str())
+    match Program::read(rt.alloc(), text.as_str(), Goal::Script, LEVELS) {
+        Ok(program) => lint(&rt, &program, text.as_str()),
+        Err(refusal) => {
+            let place = refusal.span().line_column(text.as_str().as_bytes());
+            println!(rt; "{place}: this is no script")
+        }
+    }
 }

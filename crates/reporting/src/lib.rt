@@ -1,14 +1,18 @@
-//! What programs over the parser share: reading standard input, reading a text as an expression, and saying what is
-//! wrong with a text, and where.
+//! What programs over the parser share: reading their argument and standard input, reading a text as an expression, and
+//! saying what is wrong with a text, and where.
 #![tactic(auto)]
 
 pub mod expr;
+pub mod input;
 pub mod lines;
+pub mod openers;
 
-use std::io;
+use std::alloc::AllocError;
 use std::io::Read;
+use std::{io, str};
 use swc_ecma_parser::context::error::{Error, SyntaxError};
-use swc_ecma_parser::context::span::{LineColumn, Span};
+use swc_ecma_parser::context::frame::Frame;
+use swc_ecma_parser::context::span::{BytePos, LineColumn, Span};
 
 /// How deeply an expression may be nested (`Parser::limit_nesting`). So deep it takes at most two thirds of a stack of
 /// 8 MB (docs/SPEED.md).
@@ -20,7 +24,7 @@ pub const DONE: u8 = 0;
 /// The status where the text is refused.
 pub const REFUSED: u8 = 1;
 
-/// The status where memory runs out, or where standard input or output fails.
+/// The status where memory runs out, where standard input or output fails, and where the arguments are bad.
 pub const FAILED: u8 = 3;
 
 /// Why a text isn't read.
@@ -30,11 +34,20 @@ pub enum Refusal {
     Fault(Error),
     /// It is nested too deeply, there.
     TooDeep(Span),
+    /// It has this fault, and what opens there isn't closed.
+    Unclosed { fault: Error, opener: Span },
 }
 
 impl From<Error> for Refusal {
     fn from(fault: Error) -> Refusal {
         Refusal::Fault(fault)
+    }
+}
+
+impl From<AllocError> for Refusal {
+    fn from(_failure: AllocError) -> Refusal {
+        let nowhere = Span::new(BytePos(0), BytePos(0));
+        Refusal::Fault(Error::new(nowhere, SyntaxError::OutOfMemory))
     }
 }
 
@@ -51,47 +64,95 @@ impl Refusal {
     /// Where it is.
     pub fn span(&self) -> Span {
         match self {
-            Refusal::Fault(fault) => fault.span(),
+            Refusal::Fault(fault) | Refusal::Unclosed { fault, .. } => fault.span(),
             Refusal::TooDeep(span) => *span,
+        }
+    }
+
+    /// Whether memory ran out, so that the text has no fault.
+    pub fn is_failure(&self) -> bool {
+        match self {
+            Refusal::Fault(fault) | Refusal::Unclosed { fault, .. } => is_failure(fault.kind()),
+            Refusal::TooDeep(_) => false,
+        }
+    }
+
+    /// Whether the text ends too early.
+    pub fn is_end(&self) -> bool {
+        match self {
+            Refusal::Fault(fault) | Refusal::Unclosed { fault, .. } => {
+                matches!(fault.kind(), SyntaxError::Eof)
+            }
+            Refusal::TooDeep(_) => false,
+        }
+    }
+
+    /// The refusal that also tells what isn't closed, unless it tells of something else that isn't.
+    pub fn with_opener(self, opener: Span) -> Refusal {
+        match self {
+            Refusal::Fault(fault) => Refusal::Unclosed { fault, opener },
+            other => other,
+        }
+    }
+
+    /// Where what isn't closed opens, if the refusal tells of that.
+    pub fn opener(&self) -> Option<Span> {
+        match self {
+            Refusal::Unclosed { opener, .. } => Some(*opener),
+            _ => None,
         }
     }
 }
 
 /// Standard input, whole.
 pub fn read_text(rt: &HostRuntime) -> io::Result<Vec<u8>> {
-    let mut text = Vec::new(rt.alloc());
-    rt.reader().read_to_end(&mut text)?;
-    Ok(text)
+    let mut bytes = Vec::new(rt.alloc());
+    rt.reader().read_to_end(&mut bytes)?;
+    Ok(bytes)
 }
 
-/// Says on standard error what is wrong with the text, as `line:column: message`, and answers the program's status.
-/// Where memory ran out, that has no place in the text: then standard error has the message alone.
+/// Says on standard error what is wrong with the text, as `line:column: message`, and shows the line with marks below the
+/// fault. Answers the program's status. Where memory ran out, that has no place in the text: then standard error has the
+/// message alone.
 pub fn report(rt: &HostRuntime, text: &[u8], refusal: &Refusal) -> u8 {
-    report_at(rt, refusal.span().line_column(text), refusal)
+    let opener = refusal.opener().map(|span| span.line_column(text));
+    report_at(rt, text, refusal.span().line_column(text), opener, refusal)
 }
 
-/// Says on standard error what is wrong at a place, as `report` does where the place isn't known.
-pub fn report_at(rt: &HostRuntime, place: LineColumn, refusal: &Refusal) -> u8 {
-    match refusal {
-        Refusal::Fault(fault) => report_fault(rt, place, fault),
-        Refusal::TooDeep(_) => {
-            let _ = eprintln!(rt; "{place}: nested too deeply");
-            REFUSED
-        }
-    }
-}
-
-/// Says on standard error which fault there is, and where.
-fn report_fault(rt: &HostRuntime, place: LineColumn, fault: &Error) -> u8 {
-    let message = fault.kind().message();
-    if is_failure(fault.kind()) {
-        let _ = eprintln!(rt; "{message}");
+/// Says on standard error what is wrong at a place, as `report` does, by the places of the fault and of what isn't
+/// closed.
+pub fn report_at(
+    rt: &HostRuntime,
+    text: &[u8],
+    place: LineColumn,
+    opener: Option<LineColumn>,
+    refusal: &Refusal,
+) -> u8 {
+    if refusal.is_failure() {
+        let _ = eprintln!(rt; "out of memory");
         return FAILED;
     }
-    let _ = eprint!(rt; "{place}: {message}");
-    let _ = say_more(rt, fault.kind());
-    let _ = eprintln!(rt; "");
+    let _ = eprint!(rt; "{place}: ");
+    let _ = match refusal {
+        Refusal::Fault(fault) | Refusal::Unclosed { fault, .. } => {
+            let explained = fault.explain(text);
+            eprint!(rt; "{explained}")
+        }
+        Refusal::TooDeep(_) => eprint!(rt; "nested too deeply"),
+    };
+    if let (Some(place), Some(opener)) = (opener, refusal.opener()) {
+        let sign = text_at(text, opener);
+        let _ = eprint!(rt; "; '{sign}' at {place} isn't closed");
+    }
+    let frame = Frame::new(text, refusal.span());
+    let _ = eprintln!(rt; "\n{frame}");
     REFUSED
+}
+
+/// What is in a text at a place; nothing, if that isn't UTF-8.
+fn text_at(text: &[u8], place: Span) -> &str {
+    let bytes = text.get(place.lo.0 as usize..place.hi.0 as usize);
+    str::from_utf8(bytes.unwrap_or(&[])).unwrap_or("")
 }
 
 /// Says on standard error why a program failed that has no fault of the text to tell: memory runs out, or standard
@@ -104,20 +165,4 @@ pub fn report_failure(rt: &HostRuntime, failure: &io::Error) -> u8 {
 /// Whether memory ran out, so that the text has no fault.
 pub fn is_failure(kind: &SyntaxError) -> bool {
     matches!(kind, SyntaxError::OutOfMemory | SyntaxError::ParserFailed)
-}
-
-/// Writes after a message what the fault holds.
-fn say_more(rt: &HostRuntime, kind: &SyntaxError) -> io::Result<()> {
-    match kind {
-        SyntaxError::Expected(wanted) | SyntaxError::Unexpected(wanted) => {
-            eprint!(rt; ": {wanted}")
-        }
-        SyntaxError::WithLabel { inner, note, .. } => {
-            let message = inner.kind().message();
-            eprint!(rt; ": {message} ({note})")
-        }
-        SyntaxError::InvalidIdentInStrict(word) => eprint!(rt; ": {word}"),
-        SyntaxError::DuplicatedRegExpFlags(flag) => eprint!(rt; ": {flag}"),
-        _ => Ok(()),
-    }
 }

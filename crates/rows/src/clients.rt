@@ -1,34 +1,53 @@
 // What the clients make of texts.
-use crate::row::show_unread;
+use crate::row::{Row, show_unread};
 use crate::shown::begin_part;
 use expr_layout::layout::layout;
-use expr_names::names::{Name, Use, names};
-use reporting::Refusal;
-use reporting::expr::{Nodes, read_expr};
-use statement_trees::tree_of;
+use program_names::names::{Use, names};
+use reporting::expr::{parse_part, read_expr, read_part};
+use reporting::input::context_named;
+use reporting::{LEVELS, Refusal};
+use statement_outline::tree_of;
+use statement_trees::tree::{Goal, Program};
 use std::alloc::{AllocError, Global};
-use swc_ecma_parser::context::span::BytePos;
-use swc_ecma_parser::nodes::node::ExprId;
+use swc_ecma_parser::context::context::Context;
 use swc_ecma_parser::printing::print::PrintNodes;
+use swc_lexer::reader::End;
 use template_pieces::template::{Piece, Template, parse};
 
-/// Writes what the client of the name makes of the text: the names of an expression; its layout, and whether that is
-/// read as the same tree; its tree, where it begins at a place of a whole; the pieces of a template; the tree of a
-/// program.
-pub(crate) fn show_made_of(
+/// Writes what the client of the name makes of the text, in the context that the row's setting names.
+pub(crate) fn show_client(
+    alloc: Global,
+    out: &mut String,
+    row: Row<'_>,
+    text: &str,
+) -> Result<(), AllocError> {
+    match context_named(row.setting) {
+        Some(context) => show_made_of(alloc, out, row.calls, text, context),
+        None => show_unread(out, "no such context"),
+    }
+}
+
+/// Writes what the client of the name makes of the text: the layout of an expression, and whether that is read as the same
+/// tree; its tree, where it begins at a place of the text; the pieces of a template; the names or the tree of a program.
+fn show_made_of(
     alloc: Global,
     out: &mut String,
     client: &str,
     text: &str,
+    context: Context,
 ) -> Result<(), AllocError> {
     match client {
-        "names" => show_names_in(alloc, out, text),
-        "pieces" => show_pieces(out, &parse(alloc, text.as_bytes())?),
-        "layout" => show_layout(alloc, out, text),
-        "layout again" => show_whether_laid_out(alloc, out, text),
-        "statements" => show_tree(out, tree_of(alloc, text.as_bytes())),
+        "names" => show_names_of(alloc, out, text, Goal::Script),
+        "module names" => show_names_of(alloc, out, text, Goal::Module),
+        "CommonJS names" => show_names_of(alloc, out, text, Goal::CommonJs),
+        "pieces" => show_pieces(out, &parse(alloc, text, context)?),
+        "layout" => show_layout(alloc, out, text, context),
+        "layout again" => show_whether_laid_out(alloc, out, text, context),
+        "statements" => show_tree(out, tree_of(alloc, text, Goal::Script)),
+        "modules" => show_tree(out, tree_of(alloc, text, Goal::Module)),
+        "CommonJS" => show_tree(out, tree_of(alloc, text, Goal::CommonJs)),
         place => match place.parse() {
-            Ok(start) => show_tree(out, expr_tree(alloc, text, start)),
+            Ok(start) => show_tree(out, expr_tree(alloc, text, start, context)),
             Err(_) => show_unread(out, "no such client"),
         },
     }
@@ -36,7 +55,7 @@ pub(crate) fn show_made_of(
 
 /// Writes the tree of the program, or its fault.
 pub(crate) fn show_program(alloc: Global, out: &mut String, text: &str) -> Result<(), AllocError> {
-    match tree_of(alloc, text.as_bytes()) {
+    match tree_of(alloc, text, Goal::Script) {
         Ok(tree) => out.push_str(tree.as_str()),
         Err(refusal) => {
             show_refused(out, &refusal)?;
@@ -50,6 +69,7 @@ pub(crate) fn show_refused(out: &mut String, refusal: &Refusal) -> Result<(), Al
     match refusal {
         Refusal::Fault(fault) => write!(out, "{}", fault.brief()),
         Refusal::TooDeep(span) => write!(out, "nested too deeply {span}"),
+        Refusal::Unclosed { fault, opener } => { write!(out, "{} (open {opener})", fault.brief()) }
     }
 }
 
@@ -71,19 +91,26 @@ fn show_lines(out: &mut String, text: &str) -> Result<(), AllocError> {
     Ok(())
 }
 
-fn expr_tree(alloc: Global, text: &str, start: u32) -> Result<String, Refusal> {
-    let (nodes, expr) = read_expr(alloc, text.as_bytes(), BytePos(start))?;
+/// The tree of the part of the text that begins at the place.
+fn expr_tree(alloc: Global, text: &str, start: usize, context: Context) -> Result<String, Refusal> {
+    let part = read_part(alloc, text, start, End::BeforeBrace, context)?;
+    let (nodes, expr) = parse_part(alloc, part, context)?;
     Ok(nodes.print_expr(expr)?)
 }
 
 /// Writes the layout of the text, and a word more where that isn't read as the same tree, or not laid out as itself.
-fn show_layout(alloc: Global, out: &mut String, text: &str) -> Result<(), AllocError> {
-    match read_expr(alloc, text.as_bytes(), BytePos(0)) {
+fn show_layout(
+    alloc: Global,
+    out: &mut String,
+    text: &str,
+    context: Context,
+) -> Result<(), AllocError> {
+    match read_expr(alloc, text, context) {
         Ok((nodes, expr)) => {
-            let first = layout(alloc, text, &nodes, expr)?;
+            let first = layout(alloc, text, &nodes, expr, context)?;
             show_lines(out, first.as_str())?;
             let tree = nodes.print_expr(expr).ok();
-            if is_laid_out(alloc, first.as_str(), tree)? {
+            if is_laid_out(alloc, first.as_str(), tree, context)? {
                 Ok(())
             } else {
                 out.push_str(" read otherwise")
@@ -94,12 +121,17 @@ fn show_layout(alloc: Global, out: &mut String, text: &str) -> Result<(), AllocE
 }
 
 /// Writes whether the layout of the text is read as the same tree, and is laid out as itself.
-fn show_whether_laid_out(alloc: Global, out: &mut String, text: &str) -> Result<(), AllocError> {
-    match read_expr(alloc, text.as_bytes(), BytePos(0)) {
+fn show_whether_laid_out(
+    alloc: Global,
+    out: &mut String,
+    text: &str,
+    context: Context,
+) -> Result<(), AllocError> {
+    match read_expr(alloc, text, context) {
         Ok((nodes, expr)) => {
-            let first = layout(alloc, text, &nodes, expr)?;
+            let first = layout(alloc, text, &nodes, expr, context)?;
             let tree = nodes.print_expr(expr).ok();
-            let is_same = is_laid_out(alloc, first.as_str(), tree)?;
+            let is_same = is_laid_out(alloc, first.as_str(), tree, context)?;
             out.push_str(if is_same {
                 "read as the same tree"
             } else {
@@ -111,45 +143,47 @@ fn show_whether_laid_out(alloc: Global, out: &mut String, text: &str) -> Result<
 }
 
 /// Whether the text is read as the tree, and laid out as itself.
-fn is_laid_out(alloc: Global, text: &str, tree: Option<String>) -> Result<bool, AllocError> {
-    match read_expr(alloc, text.as_bytes(), BytePos(0)) {
+fn is_laid_out(
+    alloc: Global,
+    text: &str,
+    tree: Option<String>,
+    context: Context,
+) -> Result<bool, AllocError> {
+    match read_expr(alloc, text, context) {
         Ok((nodes, expr)) => {
-            let again = layout(alloc, text, &nodes, expr)?;
+            let again = layout(alloc, text, &nodes, expr, context)?;
             Ok(again.as_str() == text && nodes.print_expr(expr).ok() == tree)
         }
         Err(_) => Ok(false),
     }
 }
 
-fn show_names_in(alloc: Global, out: &mut String, text: &str) -> Result<(), AllocError> {
-    match read_expr(alloc, text.as_bytes(), BytePos(0)) {
-        Ok((nodes, expr)) => show_names(alloc, out, &nodes, expr),
+/// Writes the names of the program.
+fn show_names_of(
+    alloc: Global,
+    out: &mut String,
+    text: &str,
+    goal: Goal,
+) -> Result<(), AllocError> {
+    match Program::read(alloc, text, goal, LEVELS) {
+        Ok(program) => show_names(alloc, out, &program),
         Err(refusal) => show_refused(out, &refusal),
     }
 }
 
-fn show_names(
-    alloc: Global,
-    out: &mut String,
-    nodes: &Nodes,
-    expr: ExprId,
-) -> Result<(), AllocError> {
-    let found = names(alloc, nodes, expr)?;
-    for (at, Name { text, span, how }) in found.iter().enumerate() {
+fn show_names(alloc: Global, out: &mut String, program: &Program) -> Result<(), AllocError> {
+    let found = names(alloc, program)?;
+    for (at, name) in found.iter().enumerate() {
         begin_part(out, at, "; ")?;
-        write!(out, "{text} {span} {}", words(*how))?;
+        let (text, how) = (name.text, name.how.as_str());
+        write!(out, "{text} {} {how}", name.span)?;
+        match (name.how, name.binding) {
+            (Use::Bound, _) => {}
+            (_, None) => out.push_str(" free")?,
+            (_, Some(place)) => write!(out, " bound {place}")?,
+        }
     }
     show_none(out, found.is_empty())
-}
-
-/// What is done with a name, in words.
-fn words(how: Use) -> &'static str {
-    match how {
-        Use::Read => "read",
-        Use::Written => "written",
-        Use::ReadAndWritten => "read and written",
-        Use::Bound => "bound",
-    }
 }
 
 /// Writes the pieces, and after a bar the faults, if there are any.

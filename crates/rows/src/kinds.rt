@@ -2,7 +2,7 @@
 use crate::again::{is_whole_expr, show_again};
 use crate::both_ways::show_both_ways;
 use crate::buffers::show_called;
-use crate::clients::show_made_of;
+use crate::clients::show_client;
 use crate::contexts::show_made;
 use crate::faults::{show_fault, show_line};
 use crate::hooked::show_hooked;
@@ -39,7 +39,7 @@ pub(crate) fn show_answers(
 /// Writes what a row of the kind answers.
 fn show_kind(alloc: Global, out: &mut String, kind: &str, row: Row<'_>) -> Result<(), AllocError> {
     match kind {
-        "client" => show_made_of(alloc, out, row.calls, unescaped(alloc, row.text)?.as_str()),
+        "client" => show_client(alloc, out, row, unescaped(alloc, row.text)?.as_str()),
         "program" => show_run(alloc, out, row),
         "tokens" if row.calls == "kept" => show_kept_tokens(alloc, out, row.text),
         "tokens" => match row.calls.parse() {

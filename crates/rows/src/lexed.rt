@@ -10,7 +10,7 @@ use swc_lexer::comments::{Comment, CommentKind, read_comments};
 use swc_lexer::legacy::legacy_faults;
 use swc_lexer::lines::Lines;
 use swc_lexer::place::Kind;
-use swc_lexer::read::read_text;
+use swc_lexer::read::read_bytes;
 use swc_lexer::reader::End;
 use swc_lexer::stack::Start;
 
@@ -21,23 +21,36 @@ pub(crate) fn show_lexed(alloc: Global, out: &mut String, row: Row<'_>) -> Resul
     let Some(bytes) = bytes_of(alloc, row.text)? else {
         return show_unread(out, "no such byte");
     };
-    let Ok(text) = str::from_utf8(&bytes) else {
-        return show_unread(out, "no text");
-    };
     let kind = Kind {
         awaits: row.setting == "module",
         yields: false,
     };
-    match row.calls {
-        "lines" => show_end(alloc, out, text),
-        "comments" => match read_comments(alloc, text, Start::Statements, End::Whole, kind) {
-            Ok(comments) => show_comments(out, &comments),
-            Err(fault) => write!(out, "refused: {}", fault.brief()),
-        },
-        calls => match read_text(alloc, text, Start::Statements, End::Whole, kind) {
-            Ok(tokens) => show_read(alloc, out, calls, &tokens),
-            Err(fault) => write!(out, "refused: {}", fault.brief()),
-        },
+    if matches!(row.calls, "comments" | "lines") {
+        return show_around(alloc, out, row.calls, kind, &bytes);
+    }
+    match read_bytes(alloc, &bytes, Start::Statements, End::Whole, kind) {
+        Ok(tokens) => show_read(alloc, out, row.calls, &tokens),
+        Err(fault) => write!(out, "refused: {}", fault.brief()),
+    }
+}
+
+/// Writes the comments of a text, or the line and the column of its end.
+fn show_around(
+    alloc: Global,
+    out: &mut String,
+    calls: &str,
+    kind: Kind,
+    bytes: &[u8],
+) -> Result<(), AllocError> {
+    let Ok(text) = str::from_utf8(bytes) else {
+        return show_unread(out, "no text");
+    };
+    if calls == "lines" {
+        return show_end(alloc, out, text);
+    }
+    match read_comments(alloc, text, Start::Statements, End::Whole, kind) {
+        Ok(comments) => show_comments(out, &comments),
+        Err(fault) => write!(out, "refused: {}", fault.brief()),
     }
 }
 

@@ -3,13 +3,14 @@ use crate::clients::show_refused;
 use crate::parsing::{TestNodes, TestParser, parser_of};
 use crate::row::{Row, show_unread, unescaped};
 use expr_layout::layout::layout;
-use expr_names::names::names;
+use program_names::names::names;
 use reporting::expr::read_expr;
 use reporting::{LEVELS, Refusal};
-use statement_trees::tree_of;
+use statement_outline::tree_of;
+use statement_trees::tree::{Goal, Program};
 use std::alloc::{AllocError, Global};
+use swc_context::context::Context;
 use swc_context::error::Error;
-use swc_context::span::BytePos;
 use swc_ecma_parser::PatType;
 use swc_nodes::node::ExprId;
 use swc_trees::letting_go::let_go_pat;
@@ -20,8 +21,9 @@ pub(crate) fn show_long(alloc: Global, out: &mut String, row: Row<'_>) -> Result
     let text = long_text(alloc, unescaped(alloc, row.text)?.as_str())?;
     match row.calls {
         "names" => show_names(alloc, out, text.as_str()),
-        "statements" => show_length(out, tree_of(alloc, text.as_str().as_bytes())),
-        "pieces" => show_pieces(out, &parse(alloc, text.as_str().as_bytes())?),
+        "layout" => show_layout(alloc, out, text.as_str()),
+        "statements" => show_length(out, tree_of(alloc, text.as_str(), Goal::Script)),
+        "pieces" => show_pieces(out, &parse(alloc, text.as_str(), Context::script())?),
         "nodes" | "whole" | "boxes" => {
             let text = text.as_str();
             show_parsed(alloc, out, Row { text, ..row })
@@ -124,14 +126,21 @@ fn show_end(out: &mut String, parser: &mut TestParser, word: &str) -> Result<(),
     out.push_str(if is_end { word } else { "not read to the end" })
 }
 
-/// Writes how many names an expression has, and whether it is laid out as its text.
+/// Writes how many names a program has.
 fn show_names(alloc: Global, out: &mut String, text: &str) -> Result<(), AllocError> {
-    match read_expr(alloc, text.as_bytes(), BytePos(0)) {
+    match Program::read(alloc, text, Goal::Script, LEVELS) {
+        Ok(program) => write!(out, "{} names", names(alloc, &program)?.len()),
+        Err(refusal) => show_refused(out, &refusal),
+    }
+}
+
+/// Writes in how many lines an expression is laid out.
+fn show_layout(alloc: Global, out: &mut String, text: &str) -> Result<(), AllocError> {
+    let context = Context::script();
+    match read_expr(alloc, text, context) {
         Ok((nodes, expr)) => {
-            let count = names(alloc, &nodes, expr)?.len();
-            let is_itself = layout(alloc, text, &nodes, expr)?.as_str() == text;
-            let how = if is_itself { "itself" } else { "another text" };
-            write!(out, "{count} names, laid out as {how}")
+            let laid_out = layout(alloc, text, &nodes, expr, context)?;
+            write!(out, "{} lines", laid_out.split('\n').count())
         }
         Err(refusal) => show_refused(out, &refusal),
     }

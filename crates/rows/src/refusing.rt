@@ -2,6 +2,7 @@
 // was asked for before.
 use crate::calls::call;
 use crate::hooks::TestBodies;
+use crate::lexed::show_lexed;
 use crate::parsing::{TestExpr, TestParser, parser_over};
 use crate::row::{Row, UNREAD, show_unread};
 use crate::settings::input_of;
@@ -29,6 +30,8 @@ const ROOM: usize = 16384;
 /// In a setting that ends with `slashes` an expression is read while its tokens are kept, and again of these, and then
 /// the calls are made on each of the two parsers. After any other setting, and ` with `, there may be a hook and a
 /// number: `NoBodies`, or the number of the call at which the hook does otherwise than `TokenBodies`.
+///
+/// With the calls `lexed: tokens` or the like it is such a row, whose text is written as there.
 pub(crate) fn lines_of(alloc: Global, row: &[u8]) -> Option<String> {
     let (words, rest) = str::from_utf8(row).ok()?.split_once('\n')?;
     let (calls, text) = rest.split_once('\n')?;
@@ -46,6 +49,10 @@ pub(crate) fn lines_of(alloc: Global, row: &[u8]) -> Option<String> {
 }
 
 fn write_lines(alloc: Global, out: &mut String, row: Row<'_>, hook: &str) -> Option<()> {
+    if let Some(calls) = row.calls.strip_prefix("lexed: ") {
+        show_lexed(alloc, out, Row { calls, ..row }).ok()?;
+        return out.push_str("\n").ok();
+    }
     if row.calls == "try_clone" {
         return show_copies(out, &tokens_of(alloc, row.text)?).ok();
     }

@@ -3,12 +3,13 @@ use Rattle.std.proofs.Common.{◌≡◌, ◌≤◌, ◌<◌, ◌+◌, ℕ, Bool,
 use Rattle.std.specs.Prelude.{OnOk}
 use Rattle.swc_context.specs.declared.error.Error.{Error}
 use Rattle.swc_ast.specs.declared.ident.PrivateName.{PrivateName}
+use Rattle.swc_ast.specs.declared.lit.Lit.{Lit}
 use Rattle.swc_ast.specs.declared.spanned.Spanned.{Ghosts}
 use Rattle.swc_bodies.specs.Readings.{Hook, Reading}
 use Rattle.swc_input.specs.declared.buffer.Buffer.{Buffer}
 use Rattle.swc_input.specs.declared.token.TokenAndSpan.{TokenAndSpan}
-use Rattle.swc_input.specs.declared.listed.TokensInput.{TokensInput}
-use Rattle.swc_input.specs.Listed.{listed_model}
+use Rattle.program_tokens.specs.declared.source.ProgramInput.{ProgramInput}
+use Rattle.program_tokens.specs.Source.{program_model}
 use Rattle.swc_input.specs.Source.{Model}
 use Rattle.swc_input.specs.Buffer.{context, to_come, Read, Looked}
 use Rattle.swc_grammar.specs.Names.{NameKind, Spelling}
@@ -17,7 +18,7 @@ use Rattle.swc_ident.specs.Naming.{SpellsPrivate}
 use Rattle.swc_steps.specs.Parsing.{Consumes, Acts}
 use Rattle.swc_ecma_parser.specs.Calls.{buffer_of, has_failed, Called, ReadsAName}
 use Rattle.swc_ecma_parser.specs.ForHeads.{HeadAnswer, PromisedHead}
-use Rattle.swc_ecma_parser.specs.Promise.{Answer, Derivation, ParamsAnswer, Promised, PromisedName, PromisedParams, HookReads}
+use Rattle.swc_ecma_parser.specs.Promise.{Answer, Derivation, ParamsAnswer, Promised, PromisedLit, PromisedName, PromisedParams, HookReads}
 use Rattle.swc_ecma_parser.specs.declared.parser.Parser.{Parser}
 use Rattle.statement_trees.specs.Contexts.{effort}
 
@@ -121,28 +122,28 @@ module _ {S H F C K : Type 0} {fg : Ghosts F} {cg : Ghosts C} {kg : Ghosts K} (m
   hash_falls {r = r} h = either_falls model p q _ r (has_failed p) refl (λ f. (h.again f).1)
       (λ f. private_falls model _ _ r (h.effect f).names)
 
+  pub literal_keeps : {hook : Hook F C K} {r : Result Lit Error} → Called (PromisedLit model hook) p r q → Keeps model (buffer_of p) (buffer_of q)
+  literal_keeps {r = r} h = either model p q (has_failed p) refl (λ f. (h.again f).0) (λ f. consumes_keeps model _ _ r (h.effect f).reads)
+
   pub params_keep : {T : Type 0} {sure : Bool} {hook : Hook F C K} {answer : ParamsAnswer T F C K fg cg kg} {r : Result T Error}
       → PromisedParams model sure hook answer p r q → Keeps model (buffer_of p) (buffer_of q)
   params_keep {r = r} h = either model p q (has_failed p) refl (λ f. (h.again f).0) (λ f. acts_keeps model _ _ r (h.acts f))
 
 -- what is left to do, where as much is due, and no more tokens are to come, or fewer
-module _ (b c : Buffer TokensInput) (n : ℕ) where
-  pub lower_effort : to_come listed_model c ≤ to_come listed_model b → effort c n ≤ effort b n
+module _ (b c : Buffer ProgramInput) (n : ℕ) where
+  pub lower_effort : to_come program_model c ≤ to_come program_model b → effort c n ≤ effort b n
   unfolding effort
   lower_effort h = omega (arith, h)
 
-  pub takes_effort : to_come listed_model c < to_come listed_model b → effort c n + 5 ≤ effort b n
+  pub takes_effort : to_come program_model c < to_come program_model b → effort c n + 5 ≤ effort b n
   unfolding effort
   takes_effort h = omega (arith, h)
 
--- the same, after what was read before
-module _ (a b c : Buffer TokensInput) (k n : ℕ) where
-  pub lower_after : effort b n ≤ effort a k → to_come listed_model c ≤ to_come listed_model b → effort c n ≤ effort a k
-  lower_after l h = let step : effort c n ≤ effort b n = lower_effort b c n h in omega (arith, l, step)
-
-  pub takes_after : effort b n ≤ effort a k → to_come listed_model c < to_come listed_model b → effort c n + 5 ≤ effort a k
-  takes_after l h = let step : effort c n + 5 ≤ effort b n = takes_effort b c n h in omega (arith, l, step)
-
-  -- where one part is due after it
-  pub puts_after : effort b n ≤ effort a k → to_come listed_model c < to_come listed_model b → effort c n + 1 < effort a k
-  puts_after l h = let step : effort c n + 5 ≤ effort b n = takes_effort b c n h in omega (arith, l, step)
+-- of a call that answers
+module _ {T : Type 0} (b c : Buffer ProgramInput) (n : ℕ) (r : Result T Error) where
+  pub takes_ok : OnOk r (to_come program_model c < to_come program_model b) → OnOk r (effort c n + 5 ≤ effort b n)
+  takes_ok h = ok r h
+    where
+      ok : (r : Result T Error) → OnOk r (to_come program_model c < to_come program_model b) → OnOk r (effort c n + 5 ≤ effort b n)
+      ok (Ok t) h = takes_effort b c n h
+      ok (Err e) h = tt

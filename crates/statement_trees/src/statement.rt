@@ -1,295 +1,358 @@
-// Statements (ECMA-262, 14). What is due lies on a stack: so statements in one another take no recursion. Reading ends,
-// since each step takes a part from the stack, and puts off five at most where it consumes a token.
-ghost use Rattle.std.specs.Prelude.{◌≡◌, ◌+◌, ◌<◌, ◌≤◌, true, length, IfOk, IfSome, OnOk};
-ghost use Rattle.statement_trees.specs.Contexts.{context_of, work, Takes};
+// Statements (ECMA-262, 14). What is begun and not ended is on a stack: so statements in one another take no recursion.
+// Reading ends, since each step takes a frame from the stack, and puts off two at most where it consumes a token.
+ghost use Rattle.std.specs.Prelude.{◌≡◌, ◌+◌, ◌≤◌, OnOk};
+ghost use Rattle.statement_trees.specs.Contexts.{context_of, work, Takes, SameModule};
 
-use crate::script::Script;
+use crate::frame::{Clause, Frame, List, Owner, Part, Switch};
+use crate::reader::Reader;
+use crate::tree::{StatementId, StatementKind, SwitchCase, VariableKind};
+use swc_ecma_parser::ast::ident::Ident;
 use swc_ecma_parser::context::context::Context;
 use swc_ecma_parser::context::error::{Error, PResult, SyntaxError, Wanted};
-use swc_ecma_parser::context::operator::AssignOp;
+use swc_ecma_parser::context::span::BytePos;
 use swc_ecma_parser::context::word::Keyword;
 use swc_ecma_parser::input::token::Token;
-use swc_ecma_parser::nodes::node::ForHeadId;
+use swc_ecma_parser::nodes::node::ExprId;
 
-/// What is due: a part of a statement, or the end of a line of the tree.
-#[derive(Clone, Copy, PartialEq, Eq)]
-pub(crate) enum Due {
-    /// Statements, up to what begins none.
-    List,
-    /// The clauses of a `switch`, and the `}` after them.
-    Clauses,
-    /// A statement that is a part of another one.
-    Body,
-    /// `else` and its statement, or nothing.
-    Else,
-    /// The `while` of a `do`.
-    DoTest,
-    /// What handles a `try`, or its `finally`.
-    Catch,
-    /// `finally` with its block, or nothing.
-    Finally,
-    /// The parameter of a `catch`, or nothing.
-    Param,
-    /// An expression in parentheses.
-    Parens,
-    /// The head of a `for`, after that word.
-    Head,
-    /// Names that are declared, with their values.
-    Names(Keyword),
-    /// What is thrown, on the line of the word.
-    Thrown,
-    /// What is returned, or nothing.
-    Returned,
-    /// The label after `break` or `continue`, or nothing.
-    Target,
-    /// `{`, the end of the line, and then statements and `}`.
-    Block,
-    /// `{`, and the end of the line.
-    Open,
-    /// `}`
-    Close,
-    /// A semicolon, or nothing.
-    Semicolon,
-    /// Parameters, with their parentheses.
-    Params,
-    /// A block that waits for its pass.
-    Deferred,
-    /// `=` and a value, or nothing.
-    Value,
-    /// A semicolon, or nothing where it may be left out, and the end of the line.
-    End,
-    /// The end of the line.
-    Line,
-}
-
-/// What is due after the `while` of a `do`.
-const DO_TEST: &[Due] = &[Due::Parens, Due::Semicolon, Due::Line];
-
-/// What is due after `else`.
-const BRANCH: &[Due] = &[Due::Line, Due::Body];
-
-/// What is due after `finally`.
-const LAST: &[Due] = &[Due::Block];
-
-/// What is due after `catch`.
-const HANDLER: &[Due] = &[Due::Param, Due::Block, Due::Finally];
-
-/// What is due after the keyword of a statement, if one begins with it.
-fn behind(word: Keyword) -> Option<&'static [Due]>
-    ensures { IfSome result (λ rest. length rest.now ≤ 4) }
-{
-    match word {
-        Keyword::If => Some(&[Due::Parens, Due::Line, Due::Body, Due::Else]),
-        Keyword::While | Keyword::With => Some(&[Due::Parens, Due::Line, Due::Body]),
-        Keyword::Do => Some(&[Due::Line, Due::Body, Due::DoTest]),
-        Keyword::For => Some(&[Due::Head, Due::Line, Due::Body]),
-        Keyword::Switch => Some(&[Due::Parens, Due::Open, Due::Clauses]),
-        Keyword::Try => Some(&[Due::Block, Due::Catch]),
-        Keyword::Break | Keyword::Continue => Some(&[Due::Target, Due::End]),
-        Keyword::Return => Some(&[Due::Returned, Due::End]),
-        Keyword::Throw => Some(&[Due::Thrown, Due::End]),
-        Keyword::Var => Some(&[Due::Names(Keyword::Var), Due::End]),
-        Keyword::Let => Some(&[Due::Names(Keyword::Let), Due::End]),
-        Keyword::Const => Some(&[Due::Names(Keyword::Const), Due::End]),
-        Keyword::Debugger => Some(&[Due::End]),
-        _ => None,
-    }
-}
-
-impl Script {
-    /// Reads what is due, the first of it at depth 0.
-    pub(crate) fn read(&mut self, first: Due) -> PResult<()>
+impl Reader {
+    /// Reads statements up to what begins none. A prologue that has `"use strict"` makes what is after it strict.
+    pub(crate) fn list(&mut self, owner: Owner) -> PResult<Vec<StatementId>>
         ensures context { context_of self.new ≡ context_of self.old }
     {
-        self.put_off(0, &[first]);
-        while let Some((due, depth)) = self.next_due() {
-            self.step(due, depth)?;
+        let before = self.context();
+        let answer = self.rest_of_list(owner);
+        self.set_context(before);
+        answer?;
+        Ok(std::mem::replace(&mut self.list, Vec::new(self.alloc)))
+    }
+
+    /// Reads statements up to what begins none, after which the code may be strict.
+    fn rest_of_list(&mut self, owner: Owner) -> PResult<()>
+        ensures module { SameModule self.old self.new }
+    {
+        let items = match owner {
+            Owner::StaticBlock => Vec::new(self.alloc),
+            _ => self.prologue()?,
+        };
+        self.put_off(Frame::List(List { owner, items }))?;
+        while let Some(frame) = self.next_frame() {
+            self.step(frame)?;
         }
         Ok(())
     }
 
-    /// Reads a part, and puts off what is due after its beginning.
-    fn step(&mut self, due: Due, depth: usize) -> PResult<()>
+    /// Reads the directives with which a program or a body begins, and an expression after them that begins with a
+    /// string (ECMA-262, 11.2.1). After `"use strict"` the code is strict.
+    fn prologue(&mut self) -> PResult<Vec<StatementId>>
+        ensures module { SameModule self.old self.new }
+        ensures lower { work self.new ≤ work self.old }
+    {
+        let mut items = Vec::new(self.alloc);
+        let mut goes_on = true;
+        while goes_on && self.at_string() {
+            let start = self.start();
+            let expr = self.expr()?;
+            self.end_statement()?;
+            goes_on = self.is_string(expr);
+            let kind = if goes_on {
+                StatementKind::Directive(expr)
+            } else {
+                StatementKind::Expr(expr)
+            };
+            if self.is_use_strict(expr) {
+                self.make_strict();
+            }
+            self.finish(start, kind)?;
+            let pushed = items.push(self.last);
+            self.kept(pushed)?;
+        }
+        Ok(items)
+    }
+
+    /// Makes the code strict that is read from now on.
+    fn make_strict(&mut self)
+        ensures module { SameModule self.old self.new }
+        ensures lower { work self.new ≤ work self.old }
+    {
+        let context = self.context();
+        self.set_context(Context {
+            strict: true,
+            ..context
+        });
+    }
+
+    /// Goes on with what was put off last.
+    fn step(&mut self, frame: Frame) -> PResult<()>
         ensures context { context_of self.new ≡ context_of self.old }
         ensures lower { OnOk result (work self.new ≤ work self.old) }
     {
-        let inside = depth.saturating_add(1);
-        match due {
-            Due::List if self.at_end() => {}
-            Due::Clauses if self.eat(&Token::RBrace) => {}
-            Due::Body
-                if matches!(
-                    self.keyword(),
-                    Some(Keyword::Class | Keyword::Const | Keyword::Let)
-                ) => {
-                return Err(self.wants(Wanted::LBrace));
+        match frame {
+            Frame::Body => self.body(),
+            Frame::List(list) => self.next_item(list),
+            Frame::Item(mut list) => {
+                let pushed = list.items.push(self.last);
+                self.kept(pushed)?;
+                self.next_item(list)
             }
-            Due::List => {
-                let rest = self.statement(inside)?;
-                self.put_off(depth, &[Due::List]);
-                self.put_off(inside, rest);
-            }
-            Due::Body => {
-                let rest = self.statement(inside)?;
-                self.put_off(inside, rest);
-            }
-            Due::Clauses => {
-                self.clause(inside)?;
-                self.put_off(depth, &[Due::Clauses]);
-                self.put_off(inside, &[Due::Line, Due::List]);
-            }
-            Due::Else if self.begin(Keyword::Else, depth) => self.put_off(depth, BRANCH),
-            Due::DoTest if self.begin(Keyword::While, depth) => self.put_off(depth, DO_TEST),
-            Due::Catch if self.begin(Keyword::Catch, depth) => self.put_off(depth, HANDLER),
-            Due::Catch | Due::Finally if self.begin(Keyword::Finally, depth) => self.put_off(
-                depth, LAST,
-            ),
-            Due::Block => {
-                self.open()?;
-                self.put_off(depth, &[Due::List, Due::Close]);
-            }
-            Due::Catch => return Err(self.wants(Wanted::Keyword(Keyword::Catch))),
-            Due::DoTest => return Err(self.wants(Wanted::Keyword(Keyword::While))),
-            _ => self.part(due)?,
+            Frame::Part(start, part) => self.after_part(start, part),
         }
-        Ok(())
     }
 
-    /// Reads a part after whose beginning nothing is due.
-    #[tactic(auto, unfolding(crate::specs::Contexts::effort))]
-    pub(crate) fn part(&mut self, due: Due) -> PResult<()>
+    /// Reads a statement that is a part of another one, which is no declaration but a function.
+    fn body(&mut self) -> PResult<()>
         ensures context { context_of self.new ≡ context_of self.old }
-        ensures lower { work self.new ≤ work self.old }
+        ensures falls { OnOk result (work self.new + 3 ≤ work self.old) }
     {
-        match due {
-            Due::Param if self.eat(&Token::LParen) => {
-                self.pat()?;
-                self.expect(&Token::RParen, Wanted::RParen)?;
-            }
-            Due::Parens => {
-                self.expect(&Token::LParen, Wanted::LParen)?;
-                self.expr()?;
-                self.expect(&Token::RParen, Wanted::RParen)?;
-            }
-            Due::Head => self.for_head()?,
-            Due::Names(word) => {
-                let _ = self.names(word, false)?;
-            }
-            Due::Thrown if self.parser.buffer().had_line_break_before_cur() => {
-                return Err(self.parser.buffer().unexpected(SyntaxError::TS1109));
-            }
-            Due::Thrown => self.expr()?,
-            Due::Returned => self.returned()?,
-            Due::Target if !self.at_semicolon() => self.label()?,
-            Due::Open => self.open()?,
-            Due::Close => self.expect(&Token::RBrace, Wanted::RBrace)?,
-            Due::Semicolon => {
-                let _ = self.eat(&Token::Semi);
-            }
-            Due::End => self.end_statement()?,
-            Due::Params => self.params()?,
-            Due::Deferred => self.deferred_block()?,
-            Due::Value => self.value(false)?,
-            Due::Line => self.end_line(),
-            _ => {}
+        match self.keyword() {
+            Some(Keyword::Class | Keyword::Const) => Err(self.wants(Wanted::LBrace)),
+            Some(Keyword::Let) if self.at_let() => Err(self.wants(Wanted::LBrace)),
+            _ => self.statement(),
         }
-        Ok(())
+    }
+
+    /// Reads the next statement of a list, or ends it.
+    fn next_item(&mut self, list: List) -> PResult<()>
+        ensures context { context_of self.new ≡ context_of self.old }
+        ensures lower { OnOk result (work self.new ≤ work self.old) }
+    {
+        if self.at_end() {
+            return self.end_list(list);
+        }
+        let is_module = matches!(list.owner, Owner::Program) && self.context().module;
+        self.put_off(Frame::Item(list))?;
+        if is_module {
+            return self.module_item();
+        }
+        self.statement()
+    }
+
+    /// Ends a list.
+    fn end_list(&mut self, list: List) -> PResult<()>
+        ensures context { context_of self.new ≡ context_of self.old }
+        ensures lower { OnOk result (work self.new ≤ work self.old) }
+    {
+        let List { owner, items } = list;
+        match owner {
+            Owner::Program | Owner::Function | Owner::StaticBlock => {
+                self.list = items;
+                Ok(())
+            }
+            Owner::Block(start) => {
+                self.expect(&Token::RBrace, Wanted::RBrace)?;
+                self.finish(start, StatementKind::Block(items))
+            }
+            Owner::Clause(mut switch, clause) => {
+                let case = SwitchCase {
+                    span: self.span_from(clause.start),
+                    test: clause.test,
+                    consequent: items,
+                };
+                let pushed = switch.cases.push(case);
+                self.kept(pushed)?;
+                self.next_clause(switch)
+            }
+        }
+    }
+
+    /// Reads the beginning of the next clause of a `switch`, or ends it.
+    fn next_clause(&mut self, switch: Switch) -> PResult<()>
+        ensures context { context_of self.new ≡ context_of self.old }
+        ensures lower { OnOk result (work self.new ≤ work self.old) }
+    {
+        if self.eat(&Token::RBrace) {
+            let kind = StatementKind::Switch {
+                discriminant: switch.discriminant,
+                cases: switch.cases,
+            };
+            return self.finish(switch.start, kind);
+        }
+        let clause = self.clause()?;
+        self.put_off(Frame::List(List {
+            owner: Owner::Clause(switch, clause),
+            items: Vec::new(self.alloc),
+        }))
     }
 
     /// What a clause of a `switch` begins with, up to its `:`.
-    fn clause(&mut self, depth: usize) -> PResult<()>
+    fn clause(&mut self) -> PResult<Clause>
         ensures context { context_of self.new ≡ context_of self.old }
+        ensures lower { work self.new ≤ work self.old }
         ensures takes { OnOk result (Takes self.old self.new) }
     {
-        if self.begin(Keyword::Case, depth) {
-            self.expr()?;
-        } else if !self.begin(Keyword::Default_, depth) {
+        let start = self.start();
+        let test = if self.eat_keyword(Keyword::Case) {
+            Some(self.expr()?)
+        } else if self.eat_keyword(Keyword::Default_) {
+            None
+        } else {
             return Err(self.wants(Wanted::Keyword(Keyword::Case)));
-        }
+        };
         self.expect(&Token::Colon, Wanted::Colon)?;
-        Ok(())
+        Ok(Clause { start, test })
     }
 
-    /// A statement, up to what is due after its beginning.
-    fn statement(&mut self, depth: usize) -> PResult<&'static [Due]>
+    /// Reads a statement, up to its first part.
+    pub(crate) fn statement(&mut self) -> PResult<()>
         ensures context { context_of self.new ≡ context_of self.old }
-        ensures falls { IfOk result (λ rest. work self.new + length rest.now < work self.old) }
+        ensures falls { OnOk result (work self.new + 3 ≤ work self.old) }
     {
-        self.outline.begin(depth);
-        if let Some(rest) = self.take_word() {
-            return Ok(rest);
+        let start = self.start();
+        match self.keyword() {
+            Some(Keyword::If | Keyword::While | Keyword::With) => self.tested(start),
+            Some(Keyword::Do | Keyword::For) => self.repeated(start),
+            Some(Keyword::Switch) => self.switch(start),
+            Some(Keyword::Try) => self.try_block(start),
+            Some(
+                Keyword::Break
+                | Keyword::Continue
+                | Keyword::Return
+                | Keyword::Throw
+                | Keyword::Debugger,
+            ) => self.simple(start),
+            Some(Keyword::Var | Keyword::Const | Keyword::Class) => self.declaration(start),
+            Some(Keyword::Let) if self.at_let() => self.declaration(start),
+            _ => self.other_statement(start),
         }
+    }
+
+    /// `if`, `while` or `with`, up to its first part.
+    fn tested(&mut self, start: BytePos) -> PResult<()>
+        ensures context { context_of self.new ≡ context_of self.old }
+        ensures falls { OnOk result (work self.new + 3 ≤ work self.old) }
+    {
+        if self.eat_keyword(Keyword::If) {
+            let test = self.parens()?;
+            return self.put_off_part(start, Part::If(test));
+        }
+        if self.eat_keyword(Keyword::While) {
+            let test = self.parens()?;
+            return self.put_off_part(start, Part::While(test));
+        }
+        self.expect_keyword(Keyword::With)?;
+        let object = self.parens()?;
+        self.put_off_part(start, Part::With(object))
+    }
+
+    /// `do` or `for`, up to its part.
+    fn repeated(&mut self, start: BytePos) -> PResult<()>
+        ensures context { context_of self.new ≡ context_of self.old }
+        ensures falls { OnOk result (work self.new + 3 ≤ work self.old) }
+    {
+        if self.eat_keyword(Keyword::Do) {
+            return self.put_off_part(start, Part::Do);
+        }
+        self.expect_keyword(Keyword::For)?;
+        let head = self.for_head()?;
+        self.put_off_part(start, Part::For(head))
+    }
+
+    /// `switch`, up to its first clause.
+    fn switch(&mut self, start: BytePos) -> PResult<()>
+        ensures context { context_of self.new ≡ context_of self.old }
+        ensures falls { OnOk result (work self.new + 3 ≤ work self.old) }
+    {
+        self.expect_keyword(Keyword::Switch)?;
+        let discriminant = self.parens()?;
+        self.expect(&Token::LBrace, Wanted::LBrace)?;
+        self.next_clause(Switch {
+            start,
+            discriminant,
+            cases: Vec::new(self.alloc),
+        })
+    }
+
+    /// `try`, up to its block.
+    fn try_block(&mut self, start: BytePos) -> PResult<()>
+        ensures context { context_of self.new ≡ context_of self.old }
+        ensures falls { OnOk result (work self.new + 3 ≤ work self.old) }
+    {
+        self.expect_keyword(Keyword::Try)?;
+        self.put_off(Frame::Part(start, Part::Try))?;
+        self.open_block()
+    }
+
+    /// `{`, and the statements after it are put off.
+    pub(crate) fn open_block(&mut self) -> PResult<()>
+        ensures context { context_of self.new ≡ context_of self.old }
+        ensures falls { OnOk result (work self.new + 3 ≤ work self.old) }
+    {
+        let start = self.start();
+        self.expect(&Token::LBrace, Wanted::LBrace)?;
+        self.put_off(Frame::List(List {
+            owner: Owner::Block(start),
+            items: Vec::new(self.alloc),
+        }))
+    }
+
+    /// `break`, `continue`, `return`, `throw` or `debugger`.
+    fn simple(&mut self, start: BytePos) -> PResult<()>
+        ensures context { context_of self.new ≡ context_of self.old }
+        ensures falls { OnOk result (work self.new + 3 ≤ work self.old) }
+    {
+        let kind = if self.eat_keyword(Keyword::Break) {
+            StatementKind::Break(self.target()?)
+        } else if self.eat_keyword(Keyword::Continue) {
+            StatementKind::Continue(self.target()?)
+        } else if self.eat_keyword(Keyword::Return) {
+            StatementKind::Return(self.returned()?)
+        } else if self.eat_keyword(Keyword::Throw) {
+            StatementKind::Throw(self.thrown()?)
+        } else {
+            self.expect_keyword(Keyword::Debugger)?;
+            StatementKind::Debugger
+        };
+        self.end_statement()?;
+        self.finish(start, kind)
+    }
+
+    /// `var`, `let`, `const` or `class`.
+    pub(crate) fn declaration(&mut self, start: BytePos) -> PResult<()>
+        ensures context { context_of self.new ≡ context_of self.old }
+        ensures falls { OnOk result (work self.new + 3 ≤ work self.old) }
+    {
+        let kind = match self.keyword() {
+            Some(Keyword::Class) => {
+                let class = self.read_class()?;
+                return self.finish(start, StatementKind::Class(class));
+            }
+            Some(Keyword::Let) => VariableKind::Let,
+            Some(Keyword::Const) => VariableKind::Const,
+            _ => VariableKind::Var,
+        };
+        let mut variables = self.variables(kind, false)?.0;
+        self.end_statement()?;
+        variables.span = self.span_from(start);
+        self.finish(start, StatementKind::Variables(variables))
+    }
+
+    /// A statement that begins with no keyword of its own, up to its first part.
+    fn other_statement(&mut self, start: BytePos) -> PResult<()>
+        ensures context { context_of self.new ≡ context_of self.old }
+        ensures falls { OnOk result (work self.new + 3 ≤ work self.old) }
+    {
         if self.at(&Token::LBrace) {
-            self.outline.put("block");
-            self.open()?;
-            return Ok(&[Due::List, Due::Close]);
+            return self.open_block();
         }
         if self.eat(&Token::Semi) {
-            self.outline.put("empty");
-            return Ok(&[Due::Line]);
+            return self.finish(start, StatementKind::Empty);
         }
         if self.at_function() {
-            self.outline.put("function");
-            let _ = self.parser.read_fun()?;
-            return Ok(&[Due::Line]);
-        }
-        if self.keyword() == Some(Keyword::Class) {
-            self.outline.put("class");
-            let _ = self.parser.read_class()?;
-            return Ok(&[Due::Line]);
+            let function = self.read_fun()?;
+            return self.finish(start, StatementKind::Function(function));
         }
         if self.at_label() {
-            self.outline.put("label");
-            self.label()?;
+            let label = self.label()?;
             self.expect(&Token::Colon, Wanted::Colon)?;
-            return Ok(&[Due::Line, Due::Body]);
+            return self.put_off_part(start, Part::Label(label));
         }
-        self.outline.put("expr");
-        self.expr()?;
-        Ok(&[Due::End])
-    }
-
-    /// Consumes the keyword of a statement where one is current, and writes it. What is due after it.
-    fn take_word(&mut self) -> Option<&'static [Due]>
-        ensures context { context_of self.new ≡ context_of self.old }
-        ensures lower { work self.new ≤ work self.old }
-        ensures takes { IfSome result (λ rest. work self.new + length rest.now < work self.old) }
-    {
-        let word = self.keyword()?;
-        let rest = behind(word)?;
-        if !self.eat_keyword(word) {
-            return None;
-        }
-        self.outline.put(word.as_str());
-        Some(rest)
-    }
-
-    fn label(&mut self) -> PResult<()>
-        ensures context { context_of self.new ≡ context_of self.old }
-        ensures lower { work self.new ≤ work self.old }
-    {
-        let label = self.parser.parse_label_ident()?;
-        self.outline.put_word(label.sym.as_str());
-        Ok(())
-    }
-
-    /// Consumes the keyword where it is current, and begins a line with it. Says whether it was.
-    fn begin(&mut self, word: Keyword, depth: usize) -> bool
-        ensures context { context_of self.new ≡ context_of self.old }
-        ensures lower { work self.new ≤ work self.old }
-        ensures takes { result ≡ true → Takes self.old self.new }
-    {
-        if !self.eat_keyword(word) {
-            return false;
-        }
-        self.outline.begin(depth);
-        self.outline.put(word.as_str());
-        true
+        let expr = self.expr()?;
+        self.end_statement()?;
+        self.finish(start, StatementKind::Expr(expr))
     }
 
     /// What is returned, or nothing. Outside functions the word is refused.
     #[tactic(auto, unfolding(crate::specs::Contexts::effort))]
-    fn returned(&mut self) -> PResult<()>
+    fn returned(&mut self) -> PResult<Option<ExprId>>
         ensures context { context_of self.new ≡ context_of self.old }
         ensures lower { work self.new ≤ work self.old }
     {
@@ -299,123 +362,31 @@ impl Script {
             return Err(Error::new(span, SyntaxError::Unexpected(wanted)));
         }
         if self.at_semicolon() {
-            Ok(())
-        } else {
-            self.expr()
+            return Ok(None);
         }
+        Ok(Some(self.expr()?))
     }
 
-    /// Declared names and patterns, with their values (ECMA-262, 14.3). In the head of a `for` one may stand alone
-    /// before `of` or `in`; says whether it does.
-    fn names(&mut self, word: Keyword, in_head: bool) -> PResult<bool>
-        ensures context { context_of self.new ≡ context_of self.old }
-        ensures lower { work self.new ≤ work self.old }
-    {
-        let mut may_stand_alone = in_head;
-        loop {
-            let is_name = !self.at(&Token::LBracket) && !self.at(&Token::LBrace);
-            self.pat()?;
-            let is_of = self.at_word("of");
-            if may_stand_alone && (is_of || self.keyword() == Some(Keyword::In)) {
-                return Ok(true);
-            }
-            self.value(!is_name || word == Keyword::Const)?;
-            if !self.eat(&Token::Comma) {
-                return Ok(false);
-            }
-            self.outline.put(",");
-            may_stand_alone = false;
-        }
-    }
-
-    /// `=` and a value, or nothing where there need be none.
-    fn value(&mut self, needs_value: bool) -> PResult<()>
-        ensures context { context_of self.new ≡ context_of self.old }
-        ensures lower { work self.new ≤ work self.old }
-    {
-        if self.eat(&Token::AssignOp(AssignOp::Assign)) {
-            self.outline.put(" =");
-            return self.assignment_expr();
-        }
-        if needs_value {
-            return Err(self.wants(Wanted::Assign));
-        }
-        Ok(())
-    }
-
-    /// The head of a `for` (ECMA-262, 14.7.4 and 14.7.5), after that word. `await` is in async code alone.
-    fn for_head(&mut self) -> PResult<()>
-        ensures context { context_of self.new ≡ context_of self.old }
-        ensures lower { work self.new ≤ work self.old }
-    {
-        let context = self.context();
-        let is_await = context.in_async && self.eat_keyword(Keyword::Await);
-        self.outline.put(if is_await { " await" } else { "" });
-        self.expect(&Token::LParen, Wanted::LParen)?;
-        self.set_context(Context {
-            include_in_expr: false,
-            ..context
-        });
-        let is_each = self.head_start(is_await);
-        self.set_context(context);
-        if is_each? {
-            self.head_list(is_await)?;
-        } else if is_await {
-            return Err(self.wants(Wanted::Of));
-        } else {
-            self.head_part(&Token::Semi)?;
-            self.head_part(&Token::RParen)?;
-        }
-        self.expect(&Token::RParen, Wanted::RParen)
-    }
-
-    /// What the head begins with. Says whether `of` or `in` has to follow.
-    fn head_start(&mut self, is_await: bool) -> PResult<bool>
-        ensures context { context_of self.new ≡ context_of self.old }
-        ensures lower { work self.new ≤ work self.old }
-    {
-        if let Some(word @ (Keyword::Const | Keyword::Let | Keyword::Var)) = self.keyword() {
-            let _ = self.eat_keyword(word);
-            self.outline.put_word(word.as_str());
-            return self.names(word, true);
-        }
-        if self.at(&Token::Semi) {
-            return Ok(false);
-        }
-        let head = self.head(is_await)?;
-        self.outline.put(" ");
-        match head {
-            ForHeadId::Target(pat) => self.outline.put_pat(self.parser.nodes(), pat)?,
-            ForHeadId::Expr(expr) => self.outline.put_expr(self.parser.nodes(), expr)?,
-        }
-        Ok(matches!(head, ForHeadId::Target(_)))
-    }
-
-    /// `of` or `in`, and what is gone through.
+    /// What is thrown, on the line of the word.
     #[tactic(auto, unfolding(crate::specs::Contexts::effort))]
-    fn head_list(&mut self, is_await: bool) -> PResult<()>
+    fn thrown(&mut self) -> PResult<ExprId>
         ensures context { context_of self.new ≡ context_of self.old }
         ensures lower { work self.new ≤ work self.old }
     {
-        if !is_await && self.eat_keyword(Keyword::In) {
-            self.outline.put(" in");
-            return self.expr();
+        if self.parser.buffer().had_line_break_before_cur() {
+            return Err(self.parser.buffer().unexpected(SyntaxError::TS1109));
         }
-        if !self.at_word("of") {
-            return Err(self.wants(Wanted::Of));
-        }
-        let _ = self.parser.buffer().bump();
-        self.outline.put(" of");
-        self.assignment_expr()
+        self.expr()
     }
 
-    /// `;` and an expression, or none where the token follows.
-    fn head_part(&mut self, end: &Token) -> PResult<()>
+    /// The label after `break` or `continue`, or nothing.
+    fn target(&mut self) -> PResult<Option<Ident>>
         ensures context { context_of self.new ≡ context_of self.old }
         ensures lower { work self.new ≤ work self.old }
     {
-        self.expect(&Token::Semi, Wanted::Semi)?;
-        self.outline.put(";");
-        if self.at(end) { Ok(()) } else { self.expr() }
+        if self.at_semicolon() {
+            return Ok(None);
+        }
+        Ok(Some(self.label()?))
     }
 }

@@ -6,11 +6,11 @@ ghost use Rattle.swc_ecma_parser.specs.Calls.{buffer_of};
 ghost use Rattle.swc_input.specs.Buffer.{current};
 ghost use Rattle.statement_trees.specs.Contexts.{context_of, work, Takes};
 
-use crate::script::Script;
+use crate::reader::Reader;
 use swc_ecma_parser::context::word::{Keyword, Word};
 use swc_ecma_parser::input::token::Token;
 
-impl Script {
+impl Reader {
     /// Whether the word is current, which is no keyword.
     pub(crate) fn at_word(&mut self, word: &str) -> bool
         ensures current { result ≡ true → IsSome (current (buffer_of self.new.parser)) }
@@ -23,7 +23,20 @@ impl Script {
         }
     }
 
-    /// Consumes the word and writes it, unless what follows says that it is the key of a member. Says whether it did.
+    /// Consumes the word where it is current, which is no keyword. Says whether it did.
+    pub(crate) fn eat_word(&mut self, word: &str) -> bool
+        ensures context { context_of self.new ≡ context_of self.old }
+        ensures lower { work self.new ≤ work self.old }
+        ensures takes { result ≡ true → Takes self.old self.new }
+    {
+        if !self.at_word(word) {
+            return false;
+        }
+        let _ = self.parser.buffer().bump();
+        true
+    }
+
+    /// Consumes the word, unless what follows says that it is the key of a member. Says whether it did.
     pub(crate) fn eat_modifier(&mut self, word: &str) -> bool
         ensures context { context_of self.new ≡ context_of self.old }
         ensures lower { work self.new ≤ work self.old }
@@ -33,7 +46,6 @@ impl Script {
             return false;
         }
         let _ = self.parser.buffer().bump();
-        self.outline.put_word(word);
         true
     }
 
@@ -73,5 +85,38 @@ impl Script {
     {
         let input = self.parser.buffer();
         matches!(input.cur(), Some(Token::Word(_))) && matches!(input.peek(), Some(Token::Colon))
+    }
+
+    /// Whether a declaration begins with the keyword that is current: `import` doesn't before `(` and `.`.
+    pub(crate) fn at_import(&mut self) -> bool
+        ensures context { context_of self.new ≡ context_of self.old }
+        ensures lower { work self.new ≤ work self.old }
+    {
+        let input = self.parser.buffer();
+        matches!(
+            input.cur(),
+            Some(Token::Word(Word::Keyword(Keyword::Import)))
+        ) && !matches!(input.peek(), Some(Token::LParen | Token::Dot))
+    }
+
+    /// Whether `let` is current and begins a declaration (ECMA-262, 14.5): what is after it is a name or a pattern.
+    pub(crate) fn at_let(&mut self) -> bool
+        ensures context { context_of self.new ≡ context_of self.old }
+        ensures lower { work self.new ≤ work self.old }
+    {
+        let input = self.parser.buffer();
+        matches!(input.cur(), Some(Token::Word(Word::Keyword(Keyword::Let))))
+            && match input.peek() {
+                Some(Token::Word(Word::Keyword(Keyword::In | Keyword::InstanceOf))) => false,
+                next => matches!(next, Some(Token::Word(_) | Token::LBracket | Token::LBrace)),
+            }
+    }
+
+    /// Whether a string is current.
+    pub(crate) fn at_string(&mut self) -> bool
+        ensures context { context_of self.new ≡ context_of self.old }
+        ensures lower { work self.new ≤ work self.old }
+    {
+        matches!(self.parser.buffer().cur(), Some(Token::Str { .. }))
     }
 }

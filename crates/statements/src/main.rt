@@ -1,24 +1,66 @@
 //! Reads an ECMAScript program on standard input, and writes its tree.
+//!
+//!     statements [script|module|commonjs]
+//!
+//! Without a word the program is a script.
 #![tactic(auto)]
 
-use reporting::{DONE, read_text, report, report_failure};
-use statement_trees::tree_of;
-use std::io;
+use reporting::{DONE, FAILED, read_text, report, report_failure};
+use statement_outline::tree_of;
+use statement_trees::tree::Goal;
 use std::process::ExitCode;
+use std::{env, io, str};
+
+/// What a program is read as, by the words after the program's name.
+fn goal_of(word: &str) -> Option<Goal> {
+    match word {
+        "script" => Some(Goal::Script),
+        "module" => Some(Goal::Module),
+        "commonjs" => Some(Goal::CommonJs),
+        _ => None,
+    }
+}
+
+/// The words after the program's name.
+fn arguments(rt: &HostRuntime) -> io::Result<Vec<String>> {
+    let mut all = Vec::new(rt.alloc());
+    for argument in env::args(rt)?.skip(1) {
+        all.push(argument)?;
+    }
+    Ok(all)
+}
+
+/// What standard input is to be read as, if the words after the program's name say so.
+fn asked(rt: &HostRuntime) -> Option<Goal> {
+    let words = arguments(rt).ok()?;
+    match words.as_slice() {
+        [] => Some(Goal::Script),
+        [word] => goal_of(word.as_str()),
+        _ => None,
+    }
+}
 
 /// Writes the tree of the program, or says what is wrong with it. Answers the status.
-fn show(rt: &HostRuntime) -> io::Result<u8> {
-    let text = read_text(rt)?;
-    match tree_of(rt.alloc(), &text) {
+fn show(rt: &HostRuntime, goal: Goal) -> io::Result<u8> {
+    let bytes = read_text(rt)?;
+    let Ok(text) = str::from_utf8(&bytes) else {
+        eprintln!(rt; "standard input is no UTF-8")?;
+        return Ok(FAILED);
+    };
+    match tree_of(rt.alloc(), text, goal) {
         Ok(tree) => {
             print!(rt; "{tree}")?;
             Ok(DONE)
         }
-        Err(fault) => Ok(report(rt, &text, &fault)),
+        Err(fault) => Ok(report(rt, &bytes, &fault)),
     }
 }
 
 fn main(rt: HostRuntime) -> ExitCode {
-    let status = show(&rt).unwrap_or_else(|failure| report_failure(&rt, &failure));
+    let Some(goal) = asked(&rt) else {
+        let _ = eprintln!(rt; "usage: statements [script|module|commonjs]");
+        return ExitCode::from(FAILED);
+    };
+    let status = show(&rt, goal).unwrap_or_else(|failure| report_failure(&rt, &failure));
     ExitCode::from(status)
 }

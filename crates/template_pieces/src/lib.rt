@@ -1,5 +1,4 @@
 //! Texts with expressions in them, as `Hello {{ user.name }}!`: their pieces, and what is wrong with them.
 #![tactic(auto)]
 
-mod hole;
 pub mod template;

@@ -1,0 +1,120 @@
+// What is noted at the units of a layout: what comes before them, and which groups begin and end with them.
+use crate::units::Unit;
+use std::alloc::{AllocError, Global};
+use swc_ecma_parser::context::span::{BytePos, Span};
+
+/// What comes before a unit.
+#[derive(Clone, Copy, PartialEq, Eq)]
+pub enum Gap {
+    /// Nothing, unless two words would meet.
+    Nothing,
+    /// A blank.
+    Blank,
+    /// Where its group is on one line a blank, or nothing; otherwise a line.
+    Line {
+        /// A blank is there if no line is.
+        is_blank: bool,
+        /// The line is indented more than the first of the group.
+        is_deeper: bool,
+    },
+    /// A line, indented as the first of the group, which is broken.
+    Break,
+}
+
+/// A blank, or a line that is indented more.
+pub const LINE: Gap = Gap::Line {
+    is_blank: true,
+    is_deeper: true,
+};
+
+/// What is noted at a unit.
+#[derive(Clone, Copy)]
+pub struct Mark {
+    pub gap: Gap,
+    /// How many groups begin with the unit.
+    pub opens: usize,
+    /// How many groups end with the unit.
+    pub closes: usize,
+    /// A part that is always on one line begins with the unit.
+    pub opens_flat: bool,
+}
+
+/// The units of a text, and what is noted at each.
+#[derive(Drop)]
+pub struct Marks {
+    pub units: Vec<Unit>,
+    pub marks: Vec<Mark>,
+}
+
+impl Marks {
+    pub fn new(alloc: Global, units: Vec<Unit>) -> Result<Marks, AllocError> {
+        let nothing = Mark {
+            gap: Gap::Nothing,
+            opens: 0,
+            closes: 0,
+            opens_flat: false,
+        };
+        let mut marks = Vec::new(alloc);
+        marks.resize(units.len(), nothing)?;
+        Ok(Marks { units, marks })
+    }
+
+    /// How many units there are.
+    pub fn len(&self) -> usize {
+        self.units.len()
+    }
+
+    /// The number of the first unit that begins at the position or after it.
+    pub fn at(&self, place: BytePos) -> usize {
+        let place = place.0 as usize;
+        self.units.partition_point(|unit| unit.lo < place)
+    }
+
+    /// Notes what comes before the unit of the number.
+    pub fn set(&mut self, number: usize, gap: Gap) {
+        if let Some(mark) = self.marks.get_mut(number) {
+            mark.gap = gap;
+        }
+    }
+
+    /// Notes what comes before the unit at the position.
+    pub fn set_at(&mut self, place: BytePos, gap: Gap) {
+        self.set(self.at(place), gap);
+    }
+
+    /// Notes what comes before an operator, and after it, where its right operand begins.
+    pub fn set_operator(&mut self, operand: BytePos, before: Gap, after: Gap) {
+        let number = self.at(operand);
+        self.set(number, after);
+        self.set(number.saturating_sub(1), before);
+    }
+
+    /// Notes that a group begins with the unit of the number, and ends with another.
+    pub fn add_group(&mut self, first: usize, last: usize) {
+        if let Some(mark) = self.marks.get_mut(first) {
+            mark.opens = mark.opens.saturating_add(1);
+        }
+        self.end_group(last);
+    }
+
+    /// Notes that what begins with the unit of the number, and ends with another, is always on one line.
+    pub fn add_flat(&mut self, first: usize, last: usize) {
+        if let Some(mark) = self.marks.get_mut(first) {
+            mark.opens_flat = true;
+        }
+        self.end_group(last);
+    }
+
+    /// Notes that a group ends with the unit of the number.
+    fn end_group(&mut self, last: usize) {
+        if let Some(mark) = self.marks.get_mut(last) {
+            mark.closes = mark.closes.saturating_add(1);
+        }
+    }
+
+    /// Notes that a group is at the place, which holds a unit at least.
+    pub fn add_group_at(&mut self, place: Span) {
+        let last = self.at(place.hi).saturating_sub(1);
+        self.add_group(self.at(place.lo), last);
+    }
+}

@@ -1,0 +1,315 @@
+// What is noted at operators, at links of chains, and at properties.
+use crate::marks::{Gap, LINE, Marks};
+use crate::units::body_of;
+use reporting::expr::Nodes;
+use std::alloc::{AllocError, Global};
+use swc_ecma_parser::ast::expr::{BlockStmtOrExpr, Callee, MemberProp, OptChainBase};
+use swc_ecma_parser::ast::prop::PropName;
+use swc_ecma_parser::ast::spanned::Spanned;
+use swc_ecma_parser::bodies::token_body::TokenBody;
+use swc_ecma_parser::context::operator::UnaryOp;
+use swc_ecma_parser::context::span::{BytePos, Span};
+use swc_ecma_parser::nodes::node::{ExprId, Node, PatPropNode, PropNode};
+use swc_ecma_parser::nodes::reached::reached;
+
+type AnyNode = Node<TokenBody, TokenBody, TokenBody>;
+
+/// What is known of a node: of a link, how many members are called in it and in what it is a link of; and whether the
+/// node goes on with a group that begins outside, of a chain if it is a link.
+#[derive(Clone, Copy)]
+struct Known {
+    calls: usize,
+    goes_on: bool,
+    is_in_chain: bool,
+}
+
+/// Notes what is known of each node that is reached from the expression.
+pub fn mark_nodes(
+    alloc: Global,
+    marks: &mut Marks,
+    nodes: &Nodes,
+    expr: ExprId,
+) -> Result<(), AllocError> {
+    let all = reached(nodes, &expr)?;
+    let mut known = Vec::new(alloc);
+    let nothing = Known {
+        calls: 0,
+        goes_on: false,
+        is_in_chain: false,
+    };
+    known.resize(nodes.len(), nothing)?;
+    for part in &all {
+        count_calls(&mut known, nodes, part.number());
+    }
+    for part in all.iter().rev() {
+        let number = part.number();
+        if number < nodes.len() {
+            let node = nodes.get(number);
+            mark_group(marks, &mut known, nodes, number, node);
+            mark_blanks(marks, nodes, node);
+        }
+    }
+    Ok(())
+}
+
+/// Counts the members that are called in a link and in what it is a link of, which is counted already.
+fn count_calls(known: &mut [Known], nodes: &Nodes, number: usize) {
+    if number < nodes.len() {
+        if let Some(object) = object_of(nodes.get(number)) {
+            let before = known.get(object.0).map_or(0, |known| known.calls);
+            let is_call = called_member(nodes, nodes.get(number)).is_some();
+            if let Some(link) = known.get_mut(number) {
+                link.calls = before.saturating_add(usize::from(is_call));
+            }
+        }
+    }
+}
+
+/// What a node is a link of.
+fn object_of(node: &AnyNode) -> Option<ExprId> {
+    match node {
+        Node::Member(member) => Some(member.obj),
+        Node::Call {
+            callee: Callee::Expr(callee),
+            ..
+        } => Some(*callee),
+        Node::TaggedTpl { tag, .. } => Some(*tag),
+        Node::OptChain(chain) => match &*chain.base {
+            OptChainBase::Member(member) => Some(member.obj),
+            OptChainBase::Call(call) => Some(call.callee),
+        },
+        _ => None,
+    }
+}
+
+/// Where the name of the member is that a node calls, and whether `?.` is before it.
+fn called_member(nodes: &Nodes, node: &AnyNode) -> Option<(BytePos, bool)> {
+    let callee = match node {
+        Node::Call { .. } => object_of(node)?,
+        Node::OptChain(chain) => match &*chain.base {
+            OptChainBase::Call(call) => call.callee,
+            _ => return None,
+        },
+        _ => return None,
+    };
+    if callee.0 >= nodes.len() {
+        return None;
+    }
+    match nodes.get(callee.0) {
+        Node::Member(member) => Some((name_place(&member.prop)?, false)),
+        Node::OptChain(chain) => match &*chain.base {
+            OptChainBase::Member(member) => Some((name_place(&member.prop)?, chain.optional)),
+            _ => None,
+        },
+        _ => None,
+    }
+}
+
+/// Where the name of a member is that is after a dot.
+fn name_place(prop: &MemberProp<ExprId>) -> Option<BytePos> {
+    match prop {
+        MemberProp::Ident(name) => Some(name.span.lo),
+        MemberProp::PrivateName(name) => Some(name.span.lo),
+        MemberProp::Computed(_) => None,
+    }
+}
+
+/// Notes the group that a node is, and the lines in it; or those of the group that it goes on with.
+fn mark_group(
+    marks: &mut Marks,
+    known: &mut [Known],
+    nodes: &Nodes,
+    number: usize,
+    node: &AnyNode,
+) {
+    let Some(
+        Known {
+            calls,
+            goes_on,
+            is_in_chain,
+        },
+    ) = known.get(number).copied()
+    else {
+        return;
+    };
+    let place = place_of(nodes, ExprId(number)).filter(|_| !goes_on);
+    match node {
+        Node::Bin {
+            op,
+            left,
+            right,
+            ..
+        } => {
+            set_operator(marks, nodes, *right, Gap::Blank, LINE);
+            add_group(marks, place);
+            if precedence_of(nodes, *left) == Some(op.precedence()) {
+                go_on(known, *left, false);
+            }
+        }
+        Node::Cond { cons, alt, .. } => {
+            set_operator(marks, nodes, *cons, LINE, Gap::Blank);
+            set_operator(marks, nodes, *alt, LINE, Gap::Blank);
+            add_group(marks, place);
+            if is_cond(nodes, *alt) {
+                go_on(known, *alt, false);
+            }
+        }
+        _ => {
+            let is_in_chain = is_in_chain || !goes_on && 2 <= calls;
+            if let Some(object) = object_of(node) {
+                go_on(known, object, is_in_chain);
+            }
+            if is_in_chain {
+                add_group(marks, place);
+                mark_called(marks, called_member(nodes, node));
+            }
+        }
+    }
+}
+
+/// Notes the line before the dot of a member that is called.
+fn mark_called(marks: &mut Marks, member: Option<(BytePos, bool)>) {
+    if let Some((name, is_optional)) = member {
+        let signs = if is_optional { 2 } else { 1 };
+        let gap = Gap::Line {
+            is_blank: false,
+            is_deeper: true,
+        };
+        marks.set(marks.at(name).saturating_sub(signs), gap);
+    }
+}
+
+fn add_group(marks: &mut Marks, place: Option<Span>) {
+    if let Some(place) = place {
+        marks.add_group_at(place);
+    }
+}
+
+/// Notes that a node goes on with the group of what it is a part of.
+fn go_on(known: &mut [Known], expr: ExprId, is_in_chain: bool) {
+    if let Some(part) = known.get_mut(expr.0) {
+        part.goes_on = true;
+        part.is_in_chain = is_in_chain;
+    }
+}
+
+fn precedence_of(nodes: &Nodes, expr: ExprId) -> Option<u8> {
+    if expr.0 >= nodes.len() {
+        return None;
+    }
+    match nodes.get(expr.0) {
+        Node::Bin { op, .. } => Some(op.precedence()),
+        _ => None,
+    }
+}
+
+fn is_cond(nodes: &Nodes, expr: ExprId) -> bool {
+    expr.0 < nodes.len() && matches!(nodes.get(expr.0), Node::Cond { .. })
+}
+
+/// Where an expression is, if it is one of the nodes.
+fn place_of(nodes: &Nodes, expr: ExprId) -> Option<Span> {
+    if nodes.has_expr(expr) {
+        Some(nodes.span(expr))
+    } else {
+        None
+    }
+}
+
+fn set_operator(marks: &mut Marks, nodes: &Nodes, operand: ExprId, before: Gap, after: Gap) {
+    if let Some(place) = place_of(nodes, operand) {
+        marks.set_operator(place.lo, before, after);
+    }
+}
+
+/// Notes a blank on each side of an operator.
+fn set_blanks(marks: &mut Marks, nodes: &Nodes, operand: ExprId) {
+    set_operator(marks, nodes, operand, Gap::Blank, Gap::Blank);
+}
+
+/// Notes a blank before an expression.
+fn set_blank(marks: &mut Marks, nodes: &Nodes, expr: ExprId) {
+    if let Some(place) = place_of(nodes, expr) {
+        marks.set_at(place.lo, Gap::Blank);
+    }
+}
+
+/// Notes the blanks of a node that are no places for lines.
+fn mark_blanks(marks: &mut Marks, nodes: &Nodes, node: &AnyNode) {
+    match node {
+        Node::Unary {
+            op: UnaryOp::TypeOf | UnaryOp::Void | UnaryOp::Delete,
+            arg,
+            ..
+        } => set_blank(marks, nodes, *arg),
+        Node::Await { arg, .. }
+        | Node::Yield { arg: Some(arg), .. }
+        | Node::New { callee: arg, .. } => set_blank(marks, nodes, *arg),
+        Node::Assign { right, .. } | Node::PatAssign { right, .. } => {
+            set_blanks(marks, nodes, *right)
+        }
+        Node::Arrow {
+            span,
+            body,
+            is_async,
+            ..
+        } => {
+            if *is_async {
+                marks.set(marks.at(span.lo).saturating_add(1), Gap::Blank);
+            }
+            match &**body {
+                BlockStmtOrExpr::BlockStmt(block) => {
+                    marks.set_operator(block.span.lo, Gap::Blank, Gap::Blank)
+                }
+                BlockStmtOrExpr::Expr(expr) => set_blanks(marks, nodes, *expr),
+            }
+        }
+        Node::Object { props, .. } => {
+            for prop in props {
+                mark_prop(marks, nodes, prop);
+            }
+        }
+        Node::PatObject { props, .. } => {
+            for prop in props {
+                mark_pat_prop(marks, nodes, prop);
+            }
+        }
+        _ => {}
+    }
+}
+
+/// Notes the blanks of a property.
+fn mark_prop(marks: &mut Marks, nodes: &Nodes, prop: &PropNode<TokenBody>) {
+    match prop {
+        PropNode::KeyValue { key, .. } => mark_value(marks, key),
+        PropNode::Assign(prop) => set_blanks(marks, nodes, prop.value),
+        PropNode::Getter { key, .. } | PropNode::Setter { key, .. } => {
+            marks.set_at(key.span().lo, Gap::Blank)
+        }
+        PropNode::Method { key, function } if function.is_async => {
+            let signs = usize::from(function.is_generator);
+            marks.set(marks.at(key.span().lo).saturating_sub(signs), Gap::Blank);
+        }
+        _ => {}
+    }
+    if let Some(body) = body_of(prop) {
+        marks.set_at(body.lo, Gap::Blank);
+    }
+}
+
+/// Notes the blanks of a property of a pattern.
+fn mark_pat_prop(marks: &mut Marks, nodes: &Nodes, prop: &PatPropNode) {
+    match prop {
+        PatPropNode::KeyValue { key, .. } => mark_value(marks, key),
+        PatPropNode::Assign {
+            value: Some(value),
+            ..
+        } => set_blanks(marks, nodes, *value),
+        _ => {}
+    }
+}
+
+/// Notes a blank after the colon that is after a key.
+fn mark_value(marks: &mut Marks, key: &PropName<ExprId>) {
+    marks.set(marks.at(key.span().hi).saturating_add(1), Gap::Blank);
+}

@@ -1,0 +1,186 @@
+// Which brackets of a list of tokens close which, and which braces are those of functions and classes.
+ghost use Rattle.std.specs.Prelude.{◌<◌, length, IfSome, IsSome};
+
+use std::alloc::{AllocError, Global};
+use swc_context::word::{Keyword, Word};
+use swc_input::token::{Token, TokenAndSpan};
+
+/// The tokens of a text, and what its brackets close.
+#[derive(Drop)]
+pub struct Bracketed {
+    tokens: Vec<TokenAndSpan>,
+    /// Of each token that opens a bracket, the number of the one that closes it; of each `function` and `class`, the
+    /// number of its `{`; of each other token, 0.
+    partners: Vec<usize>,
+}
+
+/// What a token is to the brackets of a text.
+#[derive(Clone, Copy, PartialEq, Eq)]
+enum Part {
+    /// `function` or `class`, whose brace is to come.
+    Head,
+    /// `.` or `#`, after which a word is a name.
+    Sign,
+    /// `extends` or `new`, after which a brace is an object's.
+    Before,
+    /// A bracket that opens, and no brace.
+    Open,
+    /// `{`
+    Brace,
+    /// A bracket that closes.
+    Close,
+    /// Any other token.
+    Other,
+}
+
+/// What the token is to the brackets of a text.
+fn part_of(token: &Token) -> Part {
+    match token {
+        Token::Dot | Token::Hash => Part::Sign,
+        Token::Word(Word::Keyword(Keyword::Class | Keyword::Function)) => Part::Head,
+        Token::Word(Word::Keyword(Keyword::Extends | Keyword::New)) => Part::Before,
+        Token::LParen | Token::LBracket | Token::DollarLBrace => Part::Open,
+        Token::LBrace => Part::Brace,
+        Token::RParen | Token::RBracket | Token::RBrace => Part::Close,
+        _ => Part::Other,
+    }
+}
+
+/// What the token is after a token that was `last`: after `.` and `#` a word is a name.
+fn part_after(last: Part, token: &Token) -> Part {
+    match part_of(token) {
+        Part::Head | Part::Before if last == Part::Sign => Part::Other,
+        part => part,
+    }
+}
+
+/// Whether the token is `static`.
+fn is_static(token: &Token) -> bool {
+    matches!(token, Token::Word(Word::Ident(name)) if name.as_str() == "static")
+}
+
+/// What is open where a token begins.
+#[derive(Clone, Copy)]
+enum Open {
+    /// The bracket that has the number.
+    Bracket(usize),
+    /// The function or the class whose first word has the number, and whose brace is to come.
+    Head(usize),
+}
+
+/// Notes which token another one leads to.
+fn note(partners: &mut Vec<usize>, from: usize, to: usize) {
+    if from < partners.len() {
+        partners[from] = to;
+    }
+}
+
+/// Notes the brace of the function or the class that is open there, if one is.
+fn take_brace(partners: &mut Vec<usize>, open: &mut Vec<Open>, at: usize) {
+    if let Some(Open::Head(head)) = open.last() {
+        note(partners, *head, at);
+        let _ = open.pop();
+    }
+}
+
+/// Closes the bracket that was opened last. What is after it and has no brace has none.
+fn close(partners: &mut Vec<usize>, open: &mut Vec<Open>, at: usize) {
+    while let Some(inner) = open.pop() {
+        if let Open::Bracket(opener) = inner {
+            note(partners, opener, at);
+            break;
+        }
+    }
+}
+
+/// What tokens lead to: a bracket that opens, to the one that closes it, whichever it is; `function` and `class`, to their
+/// brace.
+fn partners_of(alloc: Global, tokens: &[TokenAndSpan]) -> Result<Vec<usize>, AllocError> {
+    let mut partners = Vec::new(alloc);
+    let mut open = Vec::new(alloc);
+    let mut last = Part::Other;
+    for (at, found) in tokens.iter().enumerate() {
+        partners.push(0)?;
+        let part = part_after(last, &found.token);
+        match part {
+            Part::Head => open.push(Open::Head(at))?,
+            Part::Open => open.push(Open::Bracket(at))?,
+            Part::Brace => {
+                if last != Part::Before {
+                    take_brace(&mut partners, &mut open, at);
+                }
+                open.push(Open::Bracket(at))?;
+            }
+            Part::Close => close(&mut partners, &mut open, at),
+            _ => {}
+        }
+        last = part;
+    }
+    Ok(partners)
+}
+
+impl Bracketed {
+    /// The tokens, and their brackets. The only error is out of memory.
+    pub fn new(alloc: Global, tokens: Vec<TokenAndSpan>) -> Result<Bracketed, AllocError> {
+        let partners = partners_of(alloc, tokens.as_slice())?;
+        Ok(Bracketed { tokens, partners })
+    }
+
+    /// No tokens.
+    pub fn empty(alloc: Global) -> Bracketed {
+        Bracketed {
+            tokens: Vec::new(alloc),
+            partners: Vec::new(alloc),
+        }
+    }
+
+    /// The token that has the number.
+    pub fn get(&self, at: usize) -> Option<&TokenAndSpan>
+        ensures within { IsSome result → at < length self.now.tokens.items }
+    {
+        self.tokens.get(at)
+    }
+
+    /// The number of the first token that begins there, a position in bytes, or after it.
+    pub fn index_of(&self, start: u32) -> usize {
+        self.tokens.partition_point(|found| found.span.lo.0 < start)
+    }
+
+    /// Whether the token before the one that has the number is `static`.
+    pub fn is_after_static(&self, at: usize) -> bool {
+        let Some(before) = at.checked_sub(1) else {
+            return false;
+        };
+        match self.get(before) {
+            Some(found) => is_static(&found.token),
+            None => false,
+        }
+    }
+
+    /// The number of the token that this one leads to, if it is after it.
+    fn partner(&self, at: usize) -> Option<usize>
+        ensures after { IfSome result (λ next. at < next) }
+    {
+        let next = *self.partners.get(at)?;
+        (next > at).then_some(next)
+    }
+
+    /// The number of the `{` of the body that begins with the token, a function, a class or a block.
+    fn brace(&self, first: usize) -> Option<usize> {
+        match &self.get(first)?.token {
+            Token::LBrace => Some(first),
+            Token::Word(Word::Keyword(Keyword::Class | Keyword::Function)) => self.partner(first),
+            _ => self.partner(first.checked_add(1)?),
+        }
+    }
+
+    /// The numbers of the braces of the body that begins with the token: a function, from `function` or from `async`; a
+    /// class; or a block.
+    pub fn braces(&self, first: usize) -> Option<(usize, usize)>
+        ensures order { IfSome result (λ braces. braces.0 < braces.1) }
+    {
+        let open = self.brace(first)?;
+        let close = self.partner(open)?;
+        Some((open, close))
+    }
+}

@@ -1,0 +1,11 @@
+use Rattle.program_tokens.specs.Source.{program_model}
+use Rattle.statement_trees.proofs.Kept.{name_keeps, lower_effort}
+use Rattle.statement_trees.proofs.reader.Reader.label.Goals as goal
+
+pub returns : goal.returns
+returns c =
+    let keeps = name_keeps program_model c.parse_label_ident.ensures in
+    record {
+      context = keeps.0;
+      lower = lower_effort _ _ _ keeps.1;
+    }
