@@ -8,9 +8,9 @@ function rowsOf(name) {
   return JSON.parse(execFileSync('tests/rows.py', [name]));
 }
 
-/** What a program writes when it is run on a text: its answer, or what it says is wrong. */
-function runOn(program, text) {
-  const run = spawnSync(program, { input: text, encoding: 'latin1', maxBuffer: 1 << 30 });
+/** What a program writes when it is run on a text, with these words: its answer, or what it says is wrong. */
+function runOn(program, text, words = []) {
+  const run = spawnSync(program, words, { input: text, encoding: 'utf8', maxBuffer: 1 << 30 });
   return run.stdout || run.stderr;
 }
 

@@ -15,16 +15,18 @@ function findAcorn() {
 
 const acorn = findAcorn();
 
-/** Places are counted in bytes, so a text has to be ASCII. */
-function options(sourceType) {
-  return { ecmaVersion: 2022, sourceType, preserveParens: true };
+/** How acorn reads a script, a module, or a CommonJS module, which is the body of a function. */
+function options(goal) {
+  const isCommonJs = goal === 'commonjs';
+  const sourceType = isCommonJs ? 'script' : goal;
+  return { ecmaVersion: 2022, sourceType, preserveParens: true, allowReturnOutsideFunction: isCommonJs };
 }
 
-function parseProgram(text, sourceType) {
-  return acorn.parse(text, options(sourceType));
+function parseProgram(text, goal) {
+  return acorn.parse(text, options(goal));
 }
 
-/** What has to stand around some expressions: an async function, and a class that declares a name of its own. */
+/** What has to be around some expressions: an async function, and a class that declares a name of its own. */
 const SETTINGS = [['', ''], ['async () => ', ''], ['class A { #a; b() { function c() { ', ' } } }']];
 
 /** The node that begins at the place and is of the type. */
@@ -47,11 +49,11 @@ function nodeAt(node, type, start) {
 /** A text as one expression, in the first setting in which acorn reads it, and where that text begins for acorn. */
 function parseExpression(text) {
   let refused = null;
-  for (const [before, behind] of SETTINGS) {
-    const whole = `${before}(${text}\n)${behind}`;
+  for (const [before, after] of SETTINGS) {
+    const whole = `${before}(${text}\n)${after}`;
     try {
       const paren = nodeAt(parseProgram(whole, 'script'), 'ParenthesizedExpression', before.length);
-      if (paren && paren.end === whole.length - behind.length) {
+      if (paren && paren.end === whole.length - after.length) {
         return { node: paren.expression, shift: before.length + 1 };
       }
     } catch (error) {
@@ -144,7 +146,7 @@ class Printer {
     return `${name}([${params}], ${body})`;
   }
 
-  /** What stands left of an operator that writes. */
+  /** What is left of an operator that writes. */
   target(node) {
     return node.type === 'ArrayPattern' || node.type === 'ObjectPattern' ? this.pat(node) : this.expr(node);
   }
@@ -240,6 +242,22 @@ const EXPRESSIONS = {
   CallExpression: (p, n) => p.link(n, `Call(${p.expr(n.callee)}, ${p.args(n.arguments)})`),
 };
 
+/** How many bytes come before each place of a text that isn't ASCII. */
+function bytesOf(text) {
+  if (/^[\x00-\x7f]*$/.test(text)) {
+    return null;
+  }
+  const bytes = new Uint32Array(text.length + 1);
+  for (let at = 0, before = 0; at < text.length; at += 1) {
+    bytes[at] = before;
+    const code = text.charCodeAt(at);
+    const isHalf = code >= 0xd800 && code < 0xe000;
+    before += isHalf ? 2 : Buffer.byteLength(text[at]);
+    bytes[at + 1] = before;
+  }
+  return bytes;
+}
+
 /** Lines deeper than this are indented no further, and begin with their depth. */
 const DEEPEST = 40;
 
@@ -250,6 +268,7 @@ class Outline {
     this.lines = [];
     this.waiting = [];
     this.printer = new Printer(text);
+    this.bytes = bytesOf(text);
   }
 
   expr(node) {
@@ -283,7 +302,12 @@ class Outline {
       blanks.lastIndex = start + 'static'.length;
       start = blanks.lastIndex + blanks.exec(this.text)[0].length;
     }
-    return `${start}..${body.end}`;
+    return `${this.byte(start)}..${this.byte(body.end)}`;
+  }
+
+  /** A place in bytes, of one in the units of JavaScript's strings. */
+  byte(at) {
+    return this.bytes ? this.bytes[at] : at;
   }
 
   list(nodes, depth) {
@@ -414,6 +438,44 @@ function declared(word) {
   };
 }
 
+/** A name that a module imports or exports. */
+function exportName(node) {
+  return node.type === 'Literal' ? node.raw : node.name;
+}
+
+/** What is imported, each with a comma after it. */
+const SPECIFIERS = {
+  ImportDefaultSpecifier: n => ` default as ${n.local.name},`,
+  ImportNamespaceSpecifier: n => ` * as ${n.local.name},`,
+  ImportSpecifier: n => (n.imported.end === n.local.end ? ` ${n.local.name},` : ` ${exportName(n.imported)} as ${n.local.name},`),
+};
+
+/** `export` with names or a declaration. */
+function exportNamed(o, n, depth) {
+  if (n.declaration) {
+    const { type } = n.declaration;
+    if (type === 'VariableDeclaration') {
+      o.line(depth, `export ${o.names(n.declaration)}`);
+    } else {
+      o.printer.kept(n.declaration);
+      o.line(depth, `export ${type === 'FunctionDeclaration' ? 'function' : 'class'}`);
+    }
+    return;
+  }
+  const names = n.specifiers.map(({ local, exported }) =>
+    local.end === exported.end ? ` ${exportName(local)},` : ` ${exportName(local)} as ${exportName(exported)},`);
+  o.line(depth, `export${names.join('')}${n.source ? ` from ${n.source.raw}` : ''}`);
+}
+
+/** `export default` */
+function exportDefault(o, n, depth) {
+  const word = { FunctionDeclaration: 'function', ClassDeclaration: 'class' }[n.declaration.type];
+  if (word) {
+    o.printer.kept(n.declaration);
+  }
+  o.line(depth, `export default ${word || o.expr(n.declaration)}`);
+}
+
 /** How each kind of statement is printed. */
 const STATEMENTS = {
   ExpressionStatement: (o, n, depth) => o.line(depth, `expr ${o.expr(n.expression)}`),
@@ -444,22 +506,28 @@ const STATEMENTS = {
   ForStatement: (o, n, depth) => o.counted(n, depth),
   ForInStatement: (o, n, depth) => o.each(n, depth, 'in'),
   ForOfStatement: (o, n, depth) => o.each(n, depth, 'of'),
+  ImportDeclaration: (o, n, depth) =>
+    o.line(depth, `import${n.specifiers.map(s => SPECIFIERS[s.type](s)).join('')} from ${n.source.raw}`),
+  ExportNamedDeclaration: exportNamed,
+  ExportDefaultDeclaration: exportDefault,
+  ExportAllDeclaration: (o, n, depth) =>
+    o.line(depth, `export *${n.exported ? ` as ${exportName(n.exported)}` : ''} from ${n.source.raw}`),
 };
 
-/** Whether acorn reads a text as a script or a module. */
-function isProgram(text, sourceType) {
+/** Whether acorn reads a text as a script, a module or a CommonJS module. */
+function isProgram(text, goal) {
   try {
-    parseProgram(text, sourceType);
+    parseProgram(text, goal);
     return true;
   } catch (_) {
     return false;
   }
 }
 
-/** The tree of a script, as the program `statements` writes it. */
-function programTree(text) {
+/** The tree of a program, as the program `statements` writes it. */
+function programTree(text, goal = 'script') {
   const outline = new Outline(text);
-  const program = parseProgram(text, 'script');
+  const program = parseProgram(text, goal);
   outline.lines.push('program');
   outline.list(program.body, 1);
   for (let next = 0; next < outline.waiting.length; next += 1) {
@@ -495,4 +563,4 @@ function expressionsOf(text) {
   return found;
 }
 
-module.exports = { expressionsOf, isBare, isProgram, parseExpression, programTree };
+module.exports = { expressionsOf, isBare, isProgram, parseExpression, parseProgram, programTree };

@@ -5,7 +5,7 @@
 #
 # Each text is a short piece again and again, of 0.25, 0.5 and 1 MB: statements of all kinds, one below another; `if (a) ` and `{ `, as statements in one
 # another; functions; operators; a list of literals, calls and arrow functions; and the pieces of a template. The least of five runs counts. The stack is
-# as large as the system lets it grow. Behind the table stand the greatest ratio of seconds between a text and one of half its size, and the longest
+# as large as the system lets it grow. After the table come the greatest ratio of seconds between a text and one of half its size, and the longest
 # texts on a stack of 1 MB.
 cd "$(dirname "$0")/.." || exit 2
 for name in statements formatter scopes template; do
@@ -35,11 +35,11 @@ switch (y) { case 1: z = () => { a }; break; default: { b } }
 LIST = b"f({a: b, c}, d => e, [g, ...h]), i.j[k] = `l${m}`, "
 
 
-def again(piece, behind=b'', close=b''):
-    """A text of about this many bytes: a piece again and again, what stands behind, and as often what closes a piece."""
+def again(piece, after=b'', close=b''):
+    """A text of about this many bytes: a piece again and again, what comes after, and as often what closes a piece."""
     def text_of(size):
         count = size // len(piece + close)
-        return piece * count + behind + close * count + b'\n'
+        return piece * count + after + close * count + b'\n'
     return text_of
 
 

@@ -8,9 +8,9 @@ cleanly in both ways: as what is in the parentheses of an arrow function's param
 numbers after that are of the lists of all these lengths that are read so in the first way alone, and in the second alone. Prints each row that
 differs, with the right numbers. Status 0 if none does.
 
-A list is read by the grammar of FormalParameters (ECMA-262, 15.1), in both ways: elements with commas between them, behind the last one a comma or
-dots and a pattern. An element is a pattern and, behind a `=`, an assignment expression or none. A pattern is a name that is bound, or brackets or
-braces round others. Between brackets an element may be left out, and dots stand before the last one alone, which has no `=`. Between braces stand
+A list is read by the grammar of FormalParameters (ECMA-262, 15.1), in both ways: elements with commas between them, after the last one a comma or
+dots and a pattern. An element is a pattern and, after a `=`, an assignment expression or none. A pattern is a name that is bound, or brackets or
+braces around others. Between brackets an element may be left out, and dots come before the last one alone, which has no `=`. Between braces are
 a word, with `=` and an assignment expression or none; a key, `:` and an element; and dots and a name that is bound, the last.
 
 What differs is the words. As formal parameters those are bound that the mode doesn't reserve, where strict code's own are reserved in modules alone,
@@ -18,9 +18,9 @@ since no fault of theirs is recorded elsewhere; a word alone between braces isn'
 is bound is an operand of the mode, and in modules not `eval` or `arguments`, which holds of a word between braces too, with a `=` or none; `await` is one
 where a comma, what closes something or the end follows.
 
-An assignment expression is an operand, with links (brackets, or parentheses with arguments) behind it or none; `await` and an operand; such with `*`
-between them; in a generator `yield`, with an assignment expression behind it or `*` and one, or none; or what may be written to, `=` and another. What may be written to is a name,
-in strict code not `eval` or `arguments`, an operand that ends with a bracket, or one of these in parentheses; or brackets and braces round others. A word
+An assignment expression is an operand, with links (brackets, or parentheses with arguments) after it or none; `await` and an operand; such with `*`
+between them; in a generator `yield`, with an assignment expression after it or `*` and one, or none; or what may be written to, `=` and another. What may be written to is a name,
+in strict code not `eval` or `arguments`, an operand that ends with a bracket, or one of these in parentheses; or brackets and braces around others. A word
 `await` is an operand as it is bound, and a prefix operator else, but in generators.
 """
 import sys
@@ -52,12 +52,12 @@ class Reading:
         return self.tokens[place] if place < len(self.tokens) else ""
 
     def bars(self, words, place):
-        """Whether no word stands there, or one that the mode bars."""
+        """Whether there is no word there, or one that the mode bars."""
         word = self.at(place)
         return not word.isalpha() or word in KEYWORDS or bool(self.mode & words.get(word, set()))
 
     def refers(self, place):
-        """Whether a word stands there that is an operand."""
+        """Whether there is a word that is an operand."""
         return not self.bars(BARRED, place) and (self.at(place) != "await" or self.at(place + 1) in CLOSING)
 
     def is_restricted(self, place):
@@ -69,7 +69,7 @@ class Reading:
         return not self.bars(UNBOUND, place)
 
     def is_short(self, place):
-        """Whether a word stands there that may be alone between braces, or with a `=`."""
+        """Whether there is a word that may be alone between braces, or with a `=`."""
         is_open = not self.bars(RESERVED, place)
         if self.way == "arrow":
             return is_open and not self.is_restricted(place)
@@ -108,7 +108,7 @@ class Reading:
         return self.bracketed(place, inner, "{", "}")
 
     def listed(self, one, last, has_holes):
-        """What stands between brackets or braces, where what is behind dots is the last. Brackets may have holes."""
+        """What is between brackets or braces, where what is after dots is the last. Brackets may have holes."""
         def inner(place):
             yield place
             if has_holes and self.at(place) == ",":
@@ -140,7 +140,7 @@ class Reading:
             yield from self.element(end)
 
     def key(self, place):
-        """A key and the `:` behind it."""
+        """A key and the `:` after it."""
         ends = [place + 1] if self.at(place).isalpha() else self.bracketed(place, self.assignment)
         for end in ends:
             if self.at(end) == ":":

@@ -60,7 +60,7 @@ tests/name_rules.py.
 
 
 def lists(listed, item, between):
-    """Whether the item is one of those listed. Commas stand in some calls too."""
+    """Whether the item is one of those listed. Commas are in some calls too."""
     return listed == "any" or (between + listed + between).find(between + item + between) >= 0
 
 

@@ -6,7 +6,7 @@
 The forms are all ways in which an expression or a pattern can be nested. Each is nested 1,000,000 deep, closed and cut off in the middle:
 `formatter`, and for patterns `statements`, whose bound is `LEVELS` of the crate reporting, refuse it within 8 MB of stack. Each is nested 200 deep:
 then it is read by these, and by `show_expr`, which has no bound. Then each expression is nested as deeply as the bound allows, and `rows` reads it
-into boxes, makes a pattern of it where it is one, and lets it go, in 8 MB too. Prints a table of the least stack in which each form is refused, and
+into boxes, makes a pattern of it where it is one, and drops it, in 8 MB too. Prints a table of the least stack in which each form is refused, and
 a line for each run that ended otherwise. Status 1 if there is one.
 """
 import os

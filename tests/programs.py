@@ -23,8 +23,8 @@ SIZES = (50_000, 100_000, 200_000)
 # A ratio of seconds above this is told.
 MOST = 2.5
 
-# What stands in a printed tree, by the kinds of its nodes. Keys aren't told from strings, numbers and names; a slash that is an operator is
-# told from a regular expression by what stands before it.
+# What is in a printed tree, by the kinds of its nodes. Keys aren't told from strings, numbers and names; a slash that is an operator is
+# told from a regular expression by what is before it.
 PRINTED = re.compile(r'''
     ` (?: \\. | [^`\\] )* ` | \.\#? [A-Za-z_$] [\w$]*               # a text of a template, and the name of a member
   | (?P<Str> " (?: \\. | [^"\\] )* " | ' (?: \\. | [^'\\] )* ' )

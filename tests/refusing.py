@@ -22,6 +22,8 @@ fail, for which out of memory is the row's own answer. On a source that gives sl
 its tokens are kept, and again of these by another parser, and the calls after it are made on both. Where the first parser read all there was,
 with no fault recorded, both answer the same; where it was out of memory, the other one reads what was kept until then, and needs none.
 
+A row of lexed.rows that has tokens or comments answers what it says, or is refused as `OutOfMemory` at 0..0.
+
 Runs of SHOW_EXPR end with 3 and the usage, up to one that can't read standard input, which says that and ends with 3 too; then with 2 and
 `refused: OutOfMemory`, after which the recorded faults are a beginning of those of the row, or as the row says.
 
@@ -111,6 +113,7 @@ SAID = b'a request was refused\n'
 USAGE = 'usage: '
 UNREADABLE = 'cannot read standard input\n'
 WANTED = re.compile(r'refused: OutOfMemory \d+\.\.\d+')
+LEXED_REFUSED = 'refused: OutOfMemory 0..0\n'
 FAILED = re.compile(r'refused: ParserFailed \d+\.\.\d+')
 WANTS = re.compile(r'OutOfMemory|ParserFailed|no memory')
 PLACE = r' \d+\.\.\d+'
@@ -192,6 +195,13 @@ def slash_rows(program):
             yield Row(line_of(row), [program, 'calls'], text, ['parse_expr', 'at_end'] + calls, says)
 
 
+def lexed_rows(program):
+    for row in rows.read('lexed.rows'):
+        if row.calls in ('lexed: tokens', 'lexed: comments'):
+            text = '%s\n%s\n%s' % (row.setting, row.calls, row.text)
+            yield Row(line_of(row), [program, 'calls'], text, [row.calls], [re.escape(' | '.join(row.answers))])
+
+
 def run(row, number):
     """Runs the row with the request of that number refused, or none."""
     env = {'LD_PRELOAD': library, 'REFUSE': str(number)} if number else {}
@@ -253,6 +263,8 @@ def stage_of_calls(row, whole, run):
         return None
     if run.status == 3:
         return None if run.output else 0
+    if row.calls[0].startswith('lexed: '):
+        return 1 if run.output in (whole.output, LEXED_REFUSED) else None
     if row.calls == ['next'] and run.output.endswith('true\n'):
         return 1 if whole.output.startswith(run.output[:-len('true\n')]) else None
     found, wanted = run.output.split('\n'), whole.output.split('\n')
@@ -309,7 +321,7 @@ def begin(path):
 
 def main():
     path, program, show_expr = sys.argv[1:]
-    all_rows = [*program_rows(show_expr), *call_rows(program), *hook_rows(program), *slash_rows(program)]
+    all_rows = [*program_rows(show_expr), *call_rows(program), *hook_rows(program), *slash_rows(program), *lexed_rows(program)]
     counts = [0, 0, 0]
     with Pool(os.cpu_count(), begin, [path]) as pool:
         for *some, wrong in pool.imap_unordered(refuse_each, all_rows, 4):

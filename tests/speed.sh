@@ -35,8 +35,8 @@ def text_of(size, depth):
 PATTERN = b'{a: [b, {c = 1, d: [, e]}, f = g], ...h}, '
 
 
-def pattern_of(size, before, behind):
-    return before + b'[' + PATTERN * (size // len(PATTERN)) + b'i]' + behind + b'\n'
+def pattern_of(size, before, after):
+    return before + b'[' + PATTERN * (size // len(PATTERN)) + b'i]' + after + b'\n'
 
 
 def chain_of(link, pairs):

@@ -7,8 +7,8 @@
 //
 // PROGRAM is a built `statements`. Without it the programs of programs.trees and the program's own text are compared,
 // and acorn has to refuse those of refused_programs.rows. With it the program is run on each row of
-// short_programs.txt, and on programs that are put together of those that both read; or on each file that is ASCII and
-// that acorn reads as a script. The status is 1 where anything differs. Run it at the top of the repository; node needs
+// short_programs.txt, and on programs that are put together of those that both read; or on each file that acorn reads as
+// a script, a module or a CommonJS module. The status is 1 where anything differs. Run it at the top of the repository; node needs
 // its package acorn.
 //
 // A row of short_programs.txt is a mark and a program, with `\n` for a line break: `=` where both read it as the same
@@ -22,18 +22,13 @@ const { rowsOf, runOn, Report } = require('./acorn_rows.js');
 const PROGRAMS = 'crates/rows/data/programs.trees';
 const OWN = 'crates/statements';
 
-/** Programs that ECMA-262 has, and that are refused: a heritage with a brace, what isn't ASCII, and modules. */
-const REFUSED_HERE_ALONE = [
-  'class A extends function () {} {}',
-  'let s = "\u00e9"',
-  'import a from "b"',
-  'export default 1',
-];
+/** Programs that are refused as scripts, and are modules. */
+const MODULES = ['import a from "b"', 'export default 1'];
 
 /** acorn's tree of a program, or its fault. */
-function acornTree(text) {
+function acornTree(text, goal = 'script') {
   try {
-    return programTree(text);
+    return programTree(text, goal);
   } catch (error) {
     return `${error.message}\n`;
   }
@@ -47,23 +42,51 @@ function compareTables(report) {
   }
 }
 
-/** What is refused here has to be no script. Those that are refused here alone have to be scripts or modules. */
+/** What is refused here has to be no script, and some of it modules. */
 function compareFaults(report) {
   for (const { text } of rowsOf('refused_programs.rows')) {
-    const isKnown = REFUSED_HERE_ALONE.includes(text);
-    const isRead = isProgram(text, 'script') || (isKnown && isProgram(text, 'module'));
-    report.compare(text, isRead ? 'read' : 'refused', isKnown ? 'read' : 'refused');
+    report.compare(text, isProgram(text, 'script') ? 'read' : 'refused', 'refused');
   }
+  for (const text of MODULES) {
+    report.compare(text, isProgram(text, 'module') ? 'read' : 'refused', 'read');
+  }
+  for (const row of rowsOf('modules.rows')) {
+    compareModule(report, row);
+  }
+}
+
+/** A module with its tree, or one that is refused. What acorn 8.8 doesn't know is left out: attributes, and `as` twice. */
+function compareModule(report, { calls, text, answers: [answer] }) {
+  const goal = calls === 'client: CommonJS' ? 'commonjs' : 'module';
+  const tree = acornTree(text, goal);
+  if (/ with \{| as as/.test(text)) {
+    report.skip();
+  } else if (answer.startsWith('program')) {
+    report.compare(text, tree, answer);
+  } else {
+    report.compare(text, tree.startsWith('program\n') ? 'read' : 'refused', 'refused');
+  }
+}
+
+/** What acorn reads a text as, and its tree. */
+function acornRead(text) {
+  for (const goal of ['script', 'module', 'commonjs']) {
+    const tree = acornTree(text, goal);
+    if (tree.startsWith('program\n')) {
+      return { goal, tree };
+    }
+  }
+  return null;
 }
 
 function compareFiles(report, program, files) {
   for (const file of files) {
-    const text = readFileSync(file, 'latin1');
-    const wanted = acornTree(text);
-    if (/[^\x00-\x7f]/.test(text) || !wanted.startsWith('program\n')) {
-      report.skip();
+    const text = readFileSync(file, 'utf8');
+    const read = acornRead(text);
+    if (read) {
+      report.compare(`${file} (${read.goal})`, read.tree, runOn(program, text, [read.goal]));
     } else {
-      report.compare(file, wanted, runOn(program, text));
+      report.skip();
     }
   }
 }

@@ -3,8 +3,8 @@
 
     tests/words.py
 """
+import os
 import re
-import subprocess
 import sys
 
 # What isn't written, and what is written in its place.
@@ -12,28 +12,43 @@ WORDS = {
     r'behind': 'after',
     r'stands?(?! (in )?for\b)': 'is, comes',
     r'stood(?! (in )?for\b)': 'was',
-    r'want of memory|wants of memory': 'out of memory',
+    r'wants? of( memory)?': 'out of memory',
     r'round (it|them|that|the|this)': 'around',
     r'may are': 'may come',
-    r'nought|therein|thereof|whereof|hereby': '',
+    r'let(s|ting)? (it |them )?go': 'drop',
+    r'arrow heads?|heads? of (an |the )?arrows?': 'parameters',
+    r'head of (the |a )?(links?|operators?|list)': 'link, first item',
+    r'upon|amid|thus|hence|shall|lest|ere': '',
+    r'nought|aught|wholly|yonder|asunder|foregoing|(there|where|here)(in|of|by|upon|fore with)': '',
 }
+# Names of functions may hold one of these.
+NAMES = re.compile(r'`[^`]*`')
+# This file, and the table that tests/wrong_bodies.py writes of the first lines of edits.
+OTHERS = ('tests/words.py', 'tests/wrong/RESULTS.md')
+READ = ('.rt', '.antt', '.md', '.sh', '.py', '.js', '.c', '.cpp', '.edit', '.txt', '.rows', '.trees', 'run')
 COMMENT = re.compile(r'^\s*(//|--|#)')
 
 
+def files():
+    """The files of the repository, but for what checks and builds leave."""
+    for folder, folders, names in os.walk('.'):
+        folders[:] = sorted(name for name in folders if not name.startswith(('out', '.git')))
+        yield from (os.path.join(folder, name)[2:] for name in sorted(names))
+
+
 def lines(path):
-    """The lines of a file that people read as text, by their numbers: of code the comments alone."""
-    is_code = path.endswith(('.rt', '.antt', '.sh', '.py', '.edit'))
+    """The lines of a file that people read as text, by their numbers and without what is in backquotes: of code the comments alone."""
+    is_code = path.endswith(('.rt', '.antt', '.edit', '.rows', '.trees'))
     with open(path, errors='replace') as file:
         for number, line in enumerate(file, 1):
             if not is_code or COMMENT.match(line):
-                yield number, line
+                yield number, NAMES.sub('``', line)
 
 
 def main():
-    paths = subprocess.check_output(['git', 'ls-files', '*.rt', '*.antt', '*.md', '*.sh', '*.py'], text=True).split()
     found = 0
-    for path in paths:
-        if path == 'tests/words.py':
+    for path in files():
+        if path in OTHERS or not path.endswith(READ):
             continue
         for number, line in lines(path):
             for word, better in WORDS.items():

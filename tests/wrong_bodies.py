@@ -70,7 +70,7 @@ def edited(text, crate):
 
 
 def function_at(text, place):
-    """The function round a place, with the type of its impl, or none where a macro or nothing is round it."""
+    """The function around a place, with the type of its impl, or none where a macro or nothing is around it."""
     line_end = text.find('\n', place)
     heads = [*FUNCTION.finditer(text, 0, line_end)]
     if not heads or '\n}' in text[heads[-1].end():place] or re.search(r'^macro_rules!(?!.*\n})', text[:place], re.M | re.S):
