@@ -4,64 +4,7 @@
 // notation of swc_print (expressions and patterns) and statement_trees (statements). Places are those of acorn.
 'use strict';
 
-/** The package acorn, as node finds it or where Debian has it. */
-function findAcorn() {
-  try {
-    return require('acorn');
-  } catch (_) {
-    return require('/usr/share/nodejs/acorn');
-  }
-}
-
-const acorn = findAcorn();
-
-/** How acorn reads a script, a module, or a CommonJS module, which is the body of a function. */
-function options(goal) {
-  const isCommonJs = goal === 'commonjs';
-  const sourceType = isCommonJs ? 'script' : goal;
-  return { ecmaVersion: 2022, sourceType, preserveParens: true, allowReturnOutsideFunction: isCommonJs };
-}
-
-function parseProgram(text, goal) {
-  return acorn.parse(text, options(goal));
-}
-
-/** What has to be around some expressions: an async function, and a class that declares a name of its own. */
-const SETTINGS = [['', ''], ['async () => ', ''], ['class A { #a; b() { function c() { ', ' } } }']];
-
-/** The node that begins at the place and is of the type. */
-function nodeAt(node, type, start) {
-  if (node === null || typeof node !== 'object' || node.end <= start) {
-    return null;
-  }
-  if (node.type === type && node.start === start) {
-    return node;
-  }
-  for (const part of Object.values(node)) {
-    const found = nodeAt(part, type, start);
-    if (found) {
-      return found;
-    }
-  }
-  return null;
-}
-
-/** A text as one expression, in the first setting in which acorn reads it, and where that text begins for acorn. */
-function parseExpression(text) {
-  let refused = null;
-  for (const [before, after] of SETTINGS) {
-    const whole = `${before}(${text}\n)${after}`;
-    try {
-      const paren = nodeAt(parseProgram(whole, 'script'), 'ParenthesizedExpression', before.length);
-      if (paren && paren.end === whole.length - after.length) {
-        return { node: paren.expression, shift: before.length + 1 };
-      }
-    } catch (error) {
-      refused = refused || error;
-    }
-  }
-  throw refused || new SyntaxError('more than one expression');
-}
+const { isBare, isProgram, parseProgram } = require('./acorn.js');
 
 /** Whether a member or a call is part of an optional chain, from its first `?.` on. */
 function isInChain(node) {
@@ -203,11 +146,6 @@ class Printer {
 
 function binary(p, n) {
   return `Bin(${n.operator}, ${p.expr(n.left)}, ${p.expr(n.right)})`;
-}
-
-/** Whether a call by `new` has no arguments in parentheses. acorn has no arguments there, either way. */
-function isBare(node) {
-  return node.end === node.callee.end;
 }
 
 /** How each kind of expression is printed. */
@@ -514,16 +452,6 @@ const STATEMENTS = {
     o.line(depth, `export *${n.exported ? ` as ${exportName(n.exported)}` : ''} from ${n.source.raw}`),
 };
 
-/** Whether acorn reads a text as a script, a module or a CommonJS module. */
-function isProgram(text, goal) {
-  try {
-    parseProgram(text, goal);
-    return true;
-  } catch (_) {
-    return false;
-  }
-}
-
 /** The tree of a program, as the program `statements` writes it. */
 function programTree(text, goal = 'script') {
   const outline = new Outline(text);
@@ -563,4 +491,4 @@ function expressionsOf(text) {
   return found;
 }
 
-module.exports = { expressionsOf, isBare, isProgram, parseExpression, parseProgram, programTree };
+module.exports = { Printer, bytesOf, expressionsOf, programTree };

@@ -21,7 +21,7 @@ import os, sys
 
 sys.dont_write_bytecode = True
 sys.path.insert(0, 'tests')
-from measure import ended, run, runs
+from measure import ended, faulty, print_row, run, runs
 
 SIZES = 250_000, 500_000, 1_000_000
 FUNCTION = b'function f() { '
@@ -45,15 +45,19 @@ def again(piece, after=b'', close=b''):
 
 TEXTS = [
     ('statements', 'statements of all kinds', again(MIXED)),
-    ('statements', '`if (a) ..`', again(b'if (a) ', b'b')),
-    ('statements', '`{ .. }`', again(b'{ ', b'a', b' }')),
-    ('statements', '`a: ..`', again(b'a: ', b'b')),
-    ('statements', '`function f() { .. }`', again(FUNCTION, b'a', b' }')),
-    ('formatter', '`a + 1 * b - ..`', again(b'a + 1 * b - ', b'a')),
+    ('statements', 'if (a) ..', again(b'if (a) ', b'b')),
+    ('statements', '{ .. }', again(b'{ ', b'a', b' }')),
+    ('statements', 'a: ..', again(b'a: ', b'b')),
+    ('statements', 'function f() { .. }', again(FUNCTION, b'a', b' }')),
+    ('formatter', 'statements of all kinds', again(MIXED)),
+    ('formatter', 'if (a) ..', again(b'if (a) ', b'b')),
+    ('formatter', '{ .. }', again(b'{ ', b'a', b' }')),
+    ('formatter', 'function f() { .. }', again(FUNCTION, b'a', b' }')),
+    ('formatter', 'a + 1 * b - ..', again(b'a + 1 * b - ', b'a')),
     ('formatter', 'calls, literals, arrow functions', again(LIST, b'n')),
-    ('scopes', '`a + 1 * b - ..`', again(b'a + 1 * b - ', b'a')),
+    ('scopes', 'a + 1 * b - ..', again(b'a + 1 * b - ', b'a')),
     ('scopes', 'calls, literals, arrow functions', again(LIST, b'n')),
-    ('template', '`text {{ a.b(c) }} ..`', again(b'text {{ a.b(c) }} ')),
+    ('template', 'text {{ a.b(c) }} ..', again(b'text {{ a.b(c) }} ')),
 ]
 
 
@@ -65,15 +69,15 @@ def program(name):
     return [os.path.join(sys.argv[1], name) if len(sys.argv) > 1 else 'crates/%s/out/%s' % (name, name)]
 
 
-print('| program | text | bytes | processor seconds | peak memory, MB | ended |')
-print('|---|---|---|---|---|---|')
+WIDTHS = 10, 32, -7, -7, -5, 9
+print_row(WIDTHS, 'program', 'text', 'bytes', 'seconds', 'MB', 'unless status 0')
 ratios = []
 for name, text_name, text_of in TEXTS:
     before = None
     for size in sizes_of(text_name):
         text = text_of(size)
         least = runs(program(name), text)
-        print('| %s | %s | %d | %.2f | %.0f | %s |' % (name, text_name, len(text), least.seconds, least.megabytes, ended(least.status)), flush=True)
+        print_row(WIDTHS, name, text_name, len(text), '%.2f' % least.seconds, '%.0f' % least.megabytes, faulty(least.status))
         if before and sizes_of(text_name) == SIZES:
             ratios.append((least.seconds / max(before, 0.001), name, text_name))
         before = least.seconds

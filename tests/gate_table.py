@@ -1,9 +1,9 @@
 #!/usr/bin/env python3
-"""Prints the table of docs/GATE.md from what .ci/run printed.
+"""Prints the table of docs/GATE.md, as .ci/run does before its last line, from what `rt ci` and tests/gate_seconds.py printed.
 
     tests/gate_table.py LOG
 
-A row has a crate, how many functions of it were proved, its processor seconds (proof, library, tests, compilers), and those of its must-fail edits.
+A line has a crate, how many functions of it were proved, its processor seconds (proof, library, tests, compilers), and those of its must-fail edits.
 """
 import re
 import sys
@@ -30,10 +30,10 @@ def main():
     with open(sys.argv[1], encoding='utf-8', errors='replace') as file:
         log = file.read()
     rows = rows_of(log)
-    print('| crate | functions | seconds | edits |\n|---|---|---|---|')
-    for name, (count, whole, edits) in rows.items():
-        print('| `%s` | %d | %d | %s |' % (name, count, whole, edits or ''))
-    print('| all | %d | %d | %d |' % tuple(map(sum, zip(*rows.values()))))
+    line = '    %-18s%12s%12s%8s'
+    print((line % ('crate', 'functions', 'seconds', 'edits')).rstrip())
+    for name, (count, whole, edits) in [*rows.items(), ('all', map(sum, zip(*rows.values())))]:
+        print((line % (name, count or '', whole, edits or '')).rstrip())
     took = re.search(r'^the gate took (\d+) seconds.*: (.*)$', log, re.M)
     if took:
         print('\nThe whole run: %d processor seconds, %d minutes on the clock.' % (minutes(took[2]), int(took[1]) // 60))

@@ -1,4 +1,4 @@
-"""Runs programs and measures them, for speed.sh and programs.py. Needs Linux."""
+"""Runs programs, measures them, and prints tables, for the scripts that write docs/SPEED.md. Needs Linux."""
 import ctypes
 import os
 import resource
@@ -16,6 +16,17 @@ Run = namedtuple('Run', 'status seconds megabytes output')
 
 def ended(status):
     return 'status %d' % os.WEXITSTATUS(status) if os.WIFEXITED(status) else 'signal %d' % os.WTERMSIG(status)
+
+
+def faulty(status):
+    """How a run ended, or nothing where it ended well."""
+    return '' if status == 0 else ended(status)
+
+
+def print_row(widths, *cells):
+    """Prints a line of a table: text from the left of its column, numbers, whose width is below 0, from the right."""
+    columns = [str(cell).ljust(width) if width > 0 else str(cell).rjust(-width) for width, cell in zip(widths, cells)]
+    print(('    ' + '  '.join(columns)).rstrip(), flush=True)
 
 
 def grow_stack():

@@ -16,7 +16,11 @@ import subprocess
 import sys
 from collections import namedtuple
 
+sys.dont_write_bytecode = True
+from measure import print_row
+
 DEEP, SHALLOW = 1_000_000, 200
+WIDTHS = 20, -11, -8
 STACK = 8 << 20
 REFUSED = 1
 TOO_DEEP = b': nested too deeply'
@@ -98,7 +102,7 @@ def check(form, bounded, unbounded, wrap, levels):
         if status not in (0, 1) or TOO_DEEP in message:
             wrong.append('%d deep, by %s: status %d, %s' % (SHALLOW, command[0], status, message.decode()[:200]))
     stack = least_stack(bounded, wrap % text_of(form, levels * 2))
-    print('| `` %s `` | %d | %d |' % (wrap % text_of(form, 1), stack, stack * 1024 // levels), flush=True)
+    print_row(WIDTHS, wrap % text_of(form, 1), stack, stack * 1024 // levels)
     return wrong
 
 
@@ -108,9 +112,9 @@ def main():
         levels = int(re.search(r'const LEVELS: usize = ([\d_]+);', source.read())[1])
     show, rows = program('show_expr'), program('rows')
     wrong = []
-    print('| nested | least stack for %d levels, kB | bytes a level |\n|---|---|---|' % levels)
+    print_row(WIDTHS, 'nested', 'kB for %d' % levels, 'a level')
     for form in EXPRS:
-        wrong += check(form, [program('formatter')], [show, 'expr', 'script'], '%s', levels)
+        wrong += check(form, [program('formatter'), 'expr'], [show, 'expr', 'script'], '%s', levels)
         wrong += check_boxes(rows, form, levels // form.levels - 2)
     for form in PATS:
         wrong += check(form, [program('statements')], [show, 'pat', 'script'], 'var %s = 0', levels)

@@ -18,6 +18,8 @@ import subprocess
 import sys
 import tempfile
 
+sys.dont_write_bytecode = True
+from measure import print_row
 from program_texts import PROGRAMS, text_of
 
 HERE = os.path.dirname(os.path.abspath(__file__))
@@ -25,6 +27,7 @@ TURNS = 6
 MB = 1_000_000
 SHORT = 100_000
 PEERS = ['acorn', 'v8', 'sm', 'esbuild']
+WIDTHS = 19, -7, -6, -6, -12, -7, -6, -6, -12
 
 
 def texts(size):
@@ -110,8 +113,7 @@ def main():
     program = os.path.abspath(sys.argv[1] if len(sys.argv) > 1 else os.path.join(HERE, '../crates/show_expr/out/show_expr'))
     os.environ.update(NODE_PATH='/usr/share/nodejs', GOMAXPROCS='1', GOGC='off')
     ratios = {peer: [] for peer in PEERS}
-    print('| text | bytes | to acorn | to V8 | to SpiderMonkey | to esbuild | twice | memory, bytes a byte | instructions of 100 kB, millions |')
-    print('|---|---|---|---|---|---|---|---|---|')
+    print_row(WIDTHS, 'text', 'bytes', 'acorn', 'V8', 'SpiderMonkey', 'esbuild', 'twice', 'memory', 'instructions')
     with tempfile.TemporaryDirectory() as room:
         sm, path = spider_monkey(room), os.path.join(room, 'text')
         open(path, 'wb').write(b'a')
@@ -130,9 +132,9 @@ def main():
                 ratios[peer] += [ratio] if ratio else []
             spent = None if memory is None else (memory - bare) * 1024 / len(text)
             cells = [cell(ratio) for ratio in row] + [cell(best['own'] and best['own'] / half), cell(spent, '%.0f'), cell(count, '%.1f')]
-            print('| %s | %d | %s |' % (name, len(text), ' | '.join(cells)), flush=True)
+            print_row(WIDTHS, name, len(text), *cells)
     means = [math.exp(sum(map(math.log, ratios[peer])) / len(ratios[peer])) if ratios[peer] else None for peer in PEERS]
-    print('| geometric mean | | %s | | | |' % ' | '.join(map(cell, means)))
+    print_row(WIDTHS, 'geometric mean', '', *map(cell, means))
 
 
 if __name__ == '__main__':

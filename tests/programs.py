@@ -15,13 +15,15 @@ import sys
 from pathlib import Path
 
 sys.dont_write_bytecode = True
-from measure import ended, grow_stack, runs
+from measure import ended, grow_stack, print_row, runs
 from program_texts import PROGRAMS, text_of
 
 PROGRAM = Path(__file__).parent.parent / 'crates/show_expr/out/show_expr'
 SIZES = (50_000, 100_000, 200_000)
 # A ratio of seconds above this is told.
 MOST = 2.5
+# The columns of the table: of each size three; then ratios of the last two sizes, the second one less what an empty text takes.
+WIDTHS = 10, 9, -5, -7, -8, -5, -7, -8, -5, -7, -8, -5, -6, -5, -6
 
 # What is in a printed tree, by the kinds of its nodes. Keys aren't told from strings, numbers and names; a slash that is an operator is
 # told from a regular expression by what is before it.
@@ -63,11 +65,11 @@ def row(program, command, base):
     found = [runs([*command, program.mode], text) for text in texts]
     once, twice = found[1:]
     ratio = (twice.seconds - base) / max(once.seconds - base, 1e-6)
-    cells = [program.name, program.mode, len(kinds_of(twice.output.decode()))]
+    cells = [program.name.split(':')[0], program.mode, len(kinds_of(twice.output.decode()))]
     for text, run in zip(texts, found):
         cells += [len(text), '%.4f' % run.seconds, '%.1f' % run.megabytes]
     cells += ['%.2f' % (twice.seconds / once.seconds), '%.2f' % ratio, '%.2f' % (twice.megabytes / once.megabytes)]
-    print('| %s |' % ' | '.join(map(str, cells)), flush=True)
+    print_row(WIDTHS, *cells)
     return ratio, ['%s, %d bytes: %s' % (program.name, len(text), ended(run.status)) for text, run in zip(texts, found) if not is_clean(run)]
 
 
@@ -78,8 +80,7 @@ def measure(path):
     grow_stack()
     command = [os.path.abspath(path), 'expr']
     empty = runs([*command, 'script'], b'')
-    heads = ['text', 'mode', 'kinds of nodes', *['bytes', 'seconds', 'MB'] * len(SIZES), 'seconds, ratio', 'less an empty text', 'MB, ratio']
-    print('| %s |\n|%s' % (' | '.join(heads), '---|' * len(heads)))
+    print_row(WIDTHS, 'text', 'mode', 'kinds', *['bytes', 'seconds', 'MB'] * len(SIZES), 'ratio', 'less', 'of MB')
     rows = [row(program, command, empty.seconds) for program in PROGRAMS]
     print('\nan empty text: %.4f seconds, %.1f MB' % (empty.seconds, empty.megabytes))
     unclean = [text for _, texts in rows for text in texts]

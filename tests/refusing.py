@@ -24,6 +24,10 @@ with no fault recorded, both answer the same; where it was out of memory, the ot
 
 A row of lexed.rows that has tokens or comments answers what it says, or is refused as `OutOfMemory` at 0..0.
 
+A row of texts.rows, whose tokens are read as the parser asks for them, is refused as `OutOfMemory` with each request, and the faults that are
+recorded then are a beginning of those of the row; or it is read as the row says, and `no memory` is written in place of its tree. It never
+answers what it answers with no request refused.
+
 Runs of SHOW_EXPR end with 3 and the usage, up to one that can't read standard input, which says that and ends with 3 too; then with 2 and
 `refused: OutOfMemory`, after which the recorded faults are a beginning of those of the row, or as the row says.
 
@@ -202,6 +206,13 @@ def lexed_rows(program):
             yield Row(line_of(row), [program, 'calls'], text, [row.calls], [re.escape(' | '.join(row.answers))])
 
 
+def text_rows(program):
+    """Texts whose tokens are read as a parser asks for them."""
+    for row in rows.read('texts.rows'):
+        text = '%s\n%s\n%s' % (row.setting, row.calls, unescaped(row.text))
+        yield Row(line_of(row), [program, 'calls'], text, [row.calls], [re.escape(' | '.join(row.answers))])
+
+
 def run(row, number):
     """Runs the row with the request of that number refused, or none."""
     env = {'LD_PRELOAD': library, 'REFUSE': str(number)} if number else {}
@@ -265,6 +276,8 @@ def stage_of_calls(row, whole, run):
         return None if run.output else 0
     if row.calls[0].startswith('lexed: '):
         return 1 if run.output in (whole.output, LEXED_REFUSED) else None
+    if row.calls[0].startswith('text: '):
+        return 1 if is_text_out_of_memory(run.output, whole.output) else None
     if row.calls == ['next'] and run.output.endswith('true\n'):
         return 1 if whole.output.startswith(run.output[:-len('true\n')]) else None
     found, wanted = run.output.split('\n'), whole.output.split('\n')
@@ -277,6 +290,14 @@ def stage_of_calls(row, whole, run):
     if any(map(WANTED.fullmatch, first)):
         return None if any(map(WANTS.search, again)) else 1
     return 1 if are_as_wanted(row.calls, again, wanted[count:]) else None
+
+
+def is_text_out_of_memory(found, wanted):
+    """Whether a row of a text is refused, after a beginning of its faults, or is what is wanted but for its tree."""
+    (tree, *faults), (_, *rest) = (line.rstrip('\n').split(' | ') for line in (found, wanted))
+    if not WANTED.fullmatch(tree):
+        return tree == 'no memory' and faults == rest
+    return not faults or bool(rest) and is_beginning(faults[0].split(', '), rest[0].split(', '))
 
 
 def are_as_wanted(calls, found, wanted):
@@ -321,7 +342,7 @@ def begin(path):
 
 def main():
     path, program, show_expr = sys.argv[1:]
-    all_rows = [*program_rows(show_expr), *call_rows(program), *hook_rows(program), *slash_rows(program), *lexed_rows(program)]
+    all_rows = [*program_rows(show_expr), *call_rows(program), *hook_rows(program), *slash_rows(program), *lexed_rows(program), *text_rows(program)]
     counts = [0, 0, 0]
     with Pool(os.cpu_count(), begin, [path]) as pool:
         for *some, wrong in pool.imap_unordered(refuse_each, all_rows, 4):

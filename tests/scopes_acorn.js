@@ -8,7 +8,7 @@
 'use strict';
 
 const { readFileSync } = require('fs');
-const { isProgram, parseProgram } = require('./acorn_trees.js');
+const { goalOf, parseProgram } = require('./acorn.js');
 const { rowsOf, runOn, Report } = require('./acorn_rows.js');
 
 const GOALS = { 'client: names': 'script', 'client: module names': 'module', 'client: CommonJS names': 'commonjs' };
@@ -192,7 +192,7 @@ function compareRows(report) {
 function compareFiles(report, program, files) {
   for (const file of files) {
     const text = readFileSync(file, 'utf8');
-    const goal = Object.values(GOALS).find(goal => isProgram(text, goal));
+    const goal = goalOf(text);
     if (goal) {
       report.compare(`${file} (${goal})`, namesText(text, goal), runOn(program, text, [goal]));
     } else {

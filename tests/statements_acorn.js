@@ -16,8 +16,10 @@
 'use strict';
 
 const { readFileSync } = require('fs');
-const { isProgram, programTree } = require('./acorn_trees.js');
+const { goalOf, isProgram } = require('./acorn.js');
+const { programTree } = require('./acorn_trees.js');
 const { rowsOf, runOn, Report } = require('./acorn_rows.js');
+const { chances, nested, shortPrograms, textsRead } = require('./short_programs.js');
 
 const PROGRAMS = 'crates/rows/data/programs.trees';
 const OWN = 'crates/statements';
@@ -68,23 +70,12 @@ function compareModule(report, { calls, text, answers: [answer] }) {
   }
 }
 
-/** What acorn reads a text as, and its tree. */
-function acornRead(text) {
-  for (const goal of ['script', 'module', 'commonjs']) {
-    const tree = acornTree(text, goal);
-    if (tree.startsWith('program\n')) {
-      return { goal, tree };
-    }
-  }
-  return null;
-}
-
 function compareFiles(report, program, files) {
   for (const file of files) {
     const text = readFileSync(file, 'utf8');
-    const read = acornRead(text);
-    if (read) {
-      report.compare(`${file} (${read.goal})`, read.tree, runOn(program, text, [read.goal]));
+    const goal = goalOf(text);
+    if (goal) {
+      report.compare(`${file} (${goal})`, programTree(text, goal), runOn(program, text, [goal]));
     } else {
       report.skip();
     }
@@ -103,52 +94,15 @@ function markOf(acorn, here) {
   return isReadHere ? '+' : '-';
 }
 
-/** The rows of short programs, as marks and texts. */
-function shortPrograms() {
-  const rows = readFileSync('tests/short_programs.txt', 'utf8').trimEnd().split('\n');
-  return rows.map(row => ({ mark: row[0], text: row.slice(2).replaceAll('\\n', '\n') }));
-}
-
 function compareShort(report, program) {
   for (const { mark, text } of shortPrograms()) {
     report.compare(text, markOf(acornTree(text), runOn(program, text)), mark);
   }
 }
 
-/** Statements round a program, which stands for `$`. */
-const ROUND = [
-  '$\n$', '$\n;$', '{ $ }', 'a: { $ }', 'if (a) { $ } else { $ }', 'switch (a) { case b: $\ndefault: $ }',
-  'for (;;) { $ }', 'for (const x of y) { $ }', 'do { $ } while (b)', 'with (a) { $ }',
-  'try { $ } catch (e) { $ } finally { $ }',
-  'function f(a) { $ }', 'function f(a = () => { $ }) { $ }', 'async function f() { $ }', 'function* g() { $ }',
-  'async function* h() { $ }', 'x = function () { $ }', 'x = () => { $ }', 'x = async () => { $ }', '`${() => { $ }}`',
-  'x = { m() { $ }, async n() { $ }, *o() { $ }, get p() { $ }, set q(r) { $ } }',
-  'class A { m() { $ } static { $ } async n() { $ } static *o() { $ } get p() { $ } set q(r) { $ } }',
-  'class A { [(() => { $ })()]() { $ } }', 'f(class { a = () => { $ }; static b() { $ } })',
-];
-
-/** Numbers that look like chance, and are the same in each run. */
-function chance() {
-  let state = 7;
-  return below => {
-    state = (state * 1103515245 + 12345) % 2147483648;
-    return Math.floor(state / 65536) % below;
-  };
-}
-
-/** A program of some of these, in statements as deep in one another as is said, or less. */
-function nested(texts, next, depth) {
-  if (depth === 0) {
-    return texts[next(texts.length)];
-  }
-  const part = () => nested(texts, next, next(3) > 0 ? depth - 1 : 0);
-  return ROUND[next(ROUND.length)].replace(/\$(?!\{)/g, part);
-}
-
 /** Programs that acorn refuses, as those that bind a name twice, are left out. */
 function compareNested(report, program, count) {
-  const texts = shortPrograms().filter(({ mark }) => mark === '=').map(({ text }) => text);
-  const next = chance();
+  const [texts, next] = [textsRead(), chances(7)];
   for (let made = 0; made < count; made += 1) {
     const text = nested(texts, next, 1 + next(4));
     const wanted = acornTree(text);

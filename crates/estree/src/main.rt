@@ -20,16 +20,6 @@ use std::{env, fs, io};
 use swc_ecma_parser::context::span::{LineColumn, Span};
 use swc_lexer::lines::Lines;
 
-/// What files are read as after the word.
-fn goal_of(word: &str) -> Option<Goal> {
-    match word {
-        "script" => Some(Goal::Script),
-        "module" => Some(Goal::Module),
-        "commonjs" => Some(Goal::CommonJs),
-        _ => None,
-    }
-}
-
 /// Writes the tree of a program, in a line.
 fn write_tree(rt: &HostRuntime, text: &str, program: &Program) -> io::Result<()> {
     let mut tree = TreeWriter::new(rt.alloc(), text, program)?;
@@ -98,7 +88,7 @@ fn run(rt: &HostRuntime) -> io::Result<u8> {
     let mut goal = None;
     let mut status = None;
     for word in env::args(rt)?.skip(1) {
-        match (goal_of(word.as_str()), goal) {
+        match (Goal::named(word.as_str()), goal) {
             (Some(found), _) => goal = Some(found),
             (None, Some(goal)) => {
                 let found = show_file(rt, word.as_str(), goal)?;

@@ -191,7 +191,7 @@ impl<'a> Pieces<'a> {
             }
             Node::PatAssign { span, left, right } => {
                 self.open("AssignmentPattern", *span);
-                self.part("left", left.0);
+                self.part("left", left.number());
                 self.part("right", right.0);
                 self.close();
             }

@@ -8,7 +8,7 @@ use swc_ecma_parser::ast::ident::Ident;
 use swc_ecma_parser::ast::prop::PropName;
 use swc_ecma_parser::ast::spanned::Spanned;
 use swc_ecma_parser::context::span::{BytePos, Span};
-use swc_ecma_parser::nodes::node::{ExprId, PatId, PatPropNode};
+use swc_ecma_parser::nodes::node::{ExprId, PatElem, PatId, PatPropNode};
 
 impl<'a> Pieces<'a> {
     pub(crate) fn array(&mut self, span: Span, elems: &'a [Option<ExprOrSpread<ExprId>>]) {
@@ -25,18 +25,29 @@ impl<'a> Pieces<'a> {
         self.close();
     }
 
-    pub(crate) fn array_pattern(&mut self, span: Span, elems: &[Option<PatId>]) {
+    pub(crate) fn array_pattern(&mut self, span: Span, elems: &[Option<PatElem>]) {
         self.open("ArrayPattern", span);
         self.open_list("elements");
         for (index, elem) in elems.iter().enumerate() {
             self.comma(index);
             match elem {
-                Some(pat) => self.put(Piece::Node(pat.0)),
+                Some(elem) => self.pat_elem(elem),
                 None => self.missing(),
             }
         }
         self.close_list();
         self.close();
+    }
+
+    fn pat_elem(&mut self, elem: &PatElem) {
+        match elem {
+            PatElem::Item(part) => self.put(Piece::Node(part.number())),
+            PatElem::Rest {
+                span,
+                dot3_token,
+                arg,
+            } => self.rest(*span, *dot3_token, arg.number()),
+        }
     }
 
     pub(crate) fn object(&mut self, span: Span, props: &'a [AnyProp]) {
@@ -88,13 +99,17 @@ impl<'a> Pieces<'a> {
 
     fn pat_prop(&mut self, prop: &'a PatPropNode) {
         match prop {
-            PatPropNode::KeyValue { span, key, value } => self.key_value(*span, key, value.0),
+            PatPropNode::KeyValue { span, key, value } => self.key_value(
+                *span,
+                key,
+                value.number(),
+            ),
             PatPropNode::Assign { span, key, value } => self.shorthand(*span, &key.id, *value),
             PatPropNode::Rest {
                 span,
                 dot3_token,
                 arg,
-            } => self.rest(*span, *dot3_token, arg.0),
+            } => self.rest(*span, *dot3_token, arg.number()),
         }
     }
 

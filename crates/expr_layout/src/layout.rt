@@ -1,7 +1,7 @@
 // The layout of an expression as a text.
 use crate::brackets::mark_brackets;
 use crate::gaps::parts_of;
-use crate::marks::Marks;
+use crate::marks::{Marks, Whole};
 use crate::operators::mark_nodes;
 use crate::print::print;
 use crate::units::{bodies_of, units_of};
@@ -22,8 +22,9 @@ use swc_lexer::reader::End;
 /// after an opening bracket, before a closing one or before a comma.
 ///
 /// **Lines.** A group is on one line if it and what follows it up to the next place for a line break take no more than
-/// 100 columns; otherwise each of its parts begins a line. A group within one that is on one line is so too. Line breaks
-/// in functions, classes, blocks, templates and comments end a line, but don't break a group by themselves. Groups are:
+/// 100 columns; otherwise each of its parts begins a line. A group within one that is on one line is so too. Line
+/// breaks in functions, classes, blocks, templates and comments end a line, but don't break a group by themselves.
+/// Groups are:
 ///
 /// - what brackets hold, with a part for each item, and a line for the closing bracket. Brackets that hold nothing but
 ///   brackets, as in `f({..})`, are no group. What `[` or `{` holds is broken where a function, a class, a block or the
@@ -50,7 +51,7 @@ pub fn layout(
     let part = read_part(alloc, text, 0, End::Whole, context)?;
     let bodies = bodies_of(alloc, nodes, expr)?;
     let units = units_of(alloc, &part.tokens, &bodies)?;
-    let mut marks = Marks::new(alloc, units)?;
+    let mut marks = Marks::new(alloc, Whole::Expr, units)?;
     mark_nodes(alloc, &mut marks, nodes, expr)?;
     mark_brackets(alloc, text, &mut marks)?;
     let parts = parts_of(alloc, text, &marks)?;

@@ -1,18 +1,15 @@
 // What is noted at operators, at links of chains, and at properties.
 use crate::marks::{Gap, LINE, Marks};
 use crate::units::body_of;
-use reporting::expr::Nodes;
 use std::alloc::{AllocError, Global};
 use swc_ecma_parser::ast::expr::{BlockStmtOrExpr, Callee, MemberProp, OptChainBase};
 use swc_ecma_parser::ast::prop::PropName;
 use swc_ecma_parser::ast::spanned::Spanned;
-use swc_ecma_parser::bodies::token_body::TokenBody;
 use swc_ecma_parser::context::operator::UnaryOp;
 use swc_ecma_parser::context::span::{BytePos, Span};
 use swc_ecma_parser::nodes::node::{ExprId, Node, PatPropNode, PropNode};
+use swc_ecma_parser::nodes::nodes::Nodes;
 use swc_ecma_parser::nodes::reached::reached;
-
-type AnyNode = Node<TokenBody, TokenBody, TokenBody>;
 
 /// What is known of a node: of a link, how many members are called in it and in what it is a link of; and whether the
 /// node goes on with a group that begins outside, of a chain if it is a link.
@@ -24,13 +21,39 @@ struct Known {
 }
 
 /// Notes what is known of each node that is reached from the expression.
-pub fn mark_nodes(
+pub fn mark_nodes<B: Spanned + Drop>(
     alloc: Global,
     marks: &mut Marks,
-    nodes: &Nodes,
+    nodes: &Nodes<B, B, B>,
     expr: ExprId,
 ) -> Result<(), AllocError> {
-    let all = reached(nodes, &expr)?;
+    let mut numbers = Vec::new(alloc);
+    for part in &reached(nodes, &expr)? {
+        numbers.push(part.number())?;
+    }
+    mark_numbers(alloc, marks, nodes, &numbers)
+}
+
+/// Notes what is known of all nodes.
+pub fn mark_all_nodes<B: Spanned + Drop>(
+    alloc: Global,
+    marks: &mut Marks,
+    nodes: &Nodes<B, B, B>,
+) -> Result<(), AllocError> {
+    let mut numbers = Vec::new(alloc);
+    for number in 0..nodes.len() {
+        numbers.push(number)?;
+    }
+    mark_numbers(alloc, marks, nodes, &numbers)
+}
+
+/// Notes what is known of the nodes of these numbers, of which each is after its parts.
+fn mark_numbers<B: Spanned + Drop>(
+    alloc: Global,
+    marks: &mut Marks,
+    nodes: &Nodes<B, B, B>,
+    numbers: &[usize],
+) -> Result<(), AllocError> {
     let mut known = Vec::new(alloc);
     let nothing = Known {
         calls: 0,
@@ -38,14 +61,13 @@ pub fn mark_nodes(
         is_in_chain: false,
     };
     known.resize(nodes.len(), nothing)?;
-    for part in &all {
-        count_calls(&mut known, nodes, part.number());
+    for number in numbers {
+        count_calls(&mut known, nodes, *number);
     }
-    for part in all.iter().rev() {
-        let number = part.number();
-        if number < nodes.len() {
-            let node = nodes.get(number);
-            mark_group(marks, &mut known, nodes, number, node);
+    for number in numbers.iter().rev() {
+        if *number < nodes.len() {
+            let node = nodes.get(*number);
+            mark_group(marks, &mut known, nodes, *number, node);
             mark_blanks(marks, nodes, node);
         }
     }
@@ -53,7 +75,7 @@ pub fn mark_nodes(
 }
 
 /// Counts the members that are called in a link and in what it is a link of, which is counted already.
-fn count_calls(known: &mut [Known], nodes: &Nodes, number: usize) {
+fn count_calls<B: Spanned + Drop>(known: &mut [Known], nodes: &Nodes<B, B, B>, number: usize) {
     if number < nodes.len() {
         if let Some(object) = object_of(nodes.get(number)) {
             let before = known.get(object.0).map_or(0, |known| known.calls);
@@ -66,7 +88,7 @@ fn count_calls(known: &mut [Known], nodes: &Nodes, number: usize) {
 }
 
 /// What a node is a link of.
-fn object_of(node: &AnyNode) -> Option<ExprId> {
+fn object_of<B: Spanned + Drop>(node: &Node<B, B, B>) -> Option<ExprId> {
     match node {
         Node::Member(member) => Some(member.obj),
         Node::Call {
@@ -83,7 +105,10 @@ fn object_of(node: &AnyNode) -> Option<ExprId> {
 }
 
 /// Where the name of the member is that a node calls, and whether `?.` is before it.
-fn called_member(nodes: &Nodes, node: &AnyNode) -> Option<(BytePos, bool)> {
+fn called_member<B: Spanned + Drop>(
+    nodes: &Nodes<B, B, B>,
+    node: &Node<B, B, B>,
+) -> Option<(BytePos, bool)> {
     let callee = match node {
         Node::Call { .. } => object_of(node)?,
         Node::OptChain(chain) => match &*chain.base {
@@ -115,24 +140,17 @@ fn name_place(prop: &MemberProp<ExprId>) -> Option<BytePos> {
 }
 
 /// Notes the group that a node is, and the lines in it; or those of the group that it goes on with.
-fn mark_group(
+fn mark_group<B: Spanned + Drop>(
     marks: &mut Marks,
     known: &mut [Known],
-    nodes: &Nodes,
+    nodes: &Nodes<B, B, B>,
     number: usize,
-    node: &AnyNode,
+    node: &Node<B, B, B>,
 ) {
-    let Some(
-        Known {
-            calls,
-            goes_on,
-            is_in_chain,
-        },
-    ) = known.get(number).copied()
-    else {
+    let Some(here) = known.get(number).copied() else {
         return;
     };
-    let place = place_of(nodes, ExprId(number)).filter(|_| !goes_on);
+    let place = place_of(nodes, ExprId(number)).filter(|_| !here.goes_on);
     match node {
         Node::Bin {
             op,
@@ -155,7 +173,7 @@ fn mark_group(
             }
         }
         _ => {
-            let is_in_chain = is_in_chain || !goes_on && 2 <= calls;
+            let is_in_chain = here.is_in_chain || !here.goes_on && 2 <= here.calls;
             if let Some(object) = object_of(node) {
                 go_on(known, object, is_in_chain);
             }
@@ -193,7 +211,7 @@ fn go_on(known: &mut [Known], expr: ExprId, is_in_chain: bool) {
     }
 }
 
-fn precedence_of(nodes: &Nodes, expr: ExprId) -> Option<u8> {
+fn precedence_of<B: Spanned + Drop>(nodes: &Nodes<B, B, B>, expr: ExprId) -> Option<u8> {
     if expr.0 >= nodes.len() {
         return None;
     }
@@ -203,12 +221,12 @@ fn precedence_of(nodes: &Nodes, expr: ExprId) -> Option<u8> {
     }
 }
 
-fn is_cond(nodes: &Nodes, expr: ExprId) -> bool {
+fn is_cond<B: Spanned + Drop>(nodes: &Nodes<B, B, B>, expr: ExprId) -> bool {
     expr.0 < nodes.len() && matches!(nodes.get(expr.0), Node::Cond { .. })
 }
 
 /// Where an expression is, if it is one of the nodes.
-fn place_of(nodes: &Nodes, expr: ExprId) -> Option<Span> {
+fn place_of<B: Spanned + Drop>(nodes: &Nodes<B, B, B>, expr: ExprId) -> Option<Span> {
     if nodes.has_expr(expr) {
         Some(nodes.span(expr))
     } else {
@@ -216,26 +234,32 @@ fn place_of(nodes: &Nodes, expr: ExprId) -> Option<Span> {
     }
 }
 
-fn set_operator(marks: &mut Marks, nodes: &Nodes, operand: ExprId, before: Gap, after: Gap) {
+fn set_operator<B: Spanned + Drop>(
+    marks: &mut Marks,
+    nodes: &Nodes<B, B, B>,
+    operand: ExprId,
+    before: Gap,
+    after: Gap,
+) {
     if let Some(place) = place_of(nodes, operand) {
         marks.set_operator(place.lo, before, after);
     }
 }
 
 /// Notes a blank on each side of an operator.
-fn set_blanks(marks: &mut Marks, nodes: &Nodes, operand: ExprId) {
+fn set_blanks<B: Spanned + Drop>(marks: &mut Marks, nodes: &Nodes<B, B, B>, operand: ExprId) {
     set_operator(marks, nodes, operand, Gap::Blank, Gap::Blank);
 }
 
 /// Notes a blank before an expression.
-fn set_blank(marks: &mut Marks, nodes: &Nodes, expr: ExprId) {
+fn set_blank<B: Spanned + Drop>(marks: &mut Marks, nodes: &Nodes<B, B, B>, expr: ExprId) {
     if let Some(place) = place_of(nodes, expr) {
         marks.set_at(place.lo, Gap::Blank);
     }
 }
 
 /// Notes the blanks of a node that are no places for lines.
-fn mark_blanks(marks: &mut Marks, nodes: &Nodes, node: &AnyNode) {
+fn mark_blanks<B: Spanned + Drop>(marks: &mut Marks, nodes: &Nodes<B, B, B>, node: &Node<B, B, B>) {
     match node {
         Node::Unary {
             op: UnaryOp::TypeOf | UnaryOp::Void | UnaryOp::Delete,
@@ -257,12 +281,7 @@ fn mark_blanks(marks: &mut Marks, nodes: &Nodes, node: &AnyNode) {
             if *is_async {
                 marks.set(marks.at(span.lo).saturating_add(1), Gap::Blank);
             }
-            match &**body {
-                BlockStmtOrExpr::BlockStmt(block) => {
-                    marks.set_operator(block.span.lo, Gap::Blank, Gap::Blank)
-                }
-                BlockStmtOrExpr::Expr(expr) => set_blanks(marks, nodes, *expr),
-            }
+            mark_arrow_body(marks, nodes, body);
         }
         Node::Object { props, .. } => {
             for prop in props {
@@ -278,8 +297,22 @@ fn mark_blanks(marks: &mut Marks, nodes: &Nodes, node: &AnyNode) {
     }
 }
 
+/// Notes the blanks of the `=>` before the body of an arrow function.
+fn mark_arrow_body<B: Spanned + Drop>(
+    marks: &mut Marks,
+    nodes: &Nodes<B, B, B>,
+    body: &BlockStmtOrExpr<ExprId, B>,
+) {
+    match body {
+        BlockStmtOrExpr::BlockStmt(block) => {
+            marks.set_operator(block.span().lo, Gap::Blank, Gap::Blank)
+        }
+        BlockStmtOrExpr::Expr(expr) => set_blanks(marks, nodes, *expr),
+    }
+}
+
 /// Notes the blanks of a property.
-fn mark_prop(marks: &mut Marks, nodes: &Nodes, prop: &PropNode<TokenBody>) {
+fn mark_prop<B: Spanned + Drop>(marks: &mut Marks, nodes: &Nodes<B, B, B>, prop: &PropNode<B>) {
     match prop {
         PropNode::KeyValue { key, .. } => mark_value(marks, key),
         PropNode::Assign(prop) => set_blanks(marks, nodes, prop.value),
@@ -298,7 +331,7 @@ fn mark_prop(marks: &mut Marks, nodes: &Nodes, prop: &PropNode<TokenBody>) {
 }
 
 /// Notes the blanks of a property of a pattern.
-fn mark_pat_prop(marks: &mut Marks, nodes: &Nodes, prop: &PatPropNode) {
+fn mark_pat_prop<B: Spanned + Drop>(marks: &mut Marks, nodes: &Nodes<B, B, B>, prop: &PatPropNode) {
     match prop {
         PatPropNode::KeyValue { key, .. } => mark_value(marks, key),
         PatPropNode::Assign {

@@ -2,6 +2,7 @@
 use reporting::expr::Nodes;
 use std::alloc::{AllocError, Global};
 use swc_ecma_parser::ast::expr::BlockStmtOrExpr;
+use swc_ecma_parser::ast::spanned::Spanned;
 use swc_ecma_parser::bodies::token_body::TokenBody;
 use swc_ecma_parser::context::span::Span;
 use swc_ecma_parser::input::token::{Token, TokenAndSpan};
@@ -17,6 +18,8 @@ pub enum Kind {
     OpenSquare,
     /// `{`
     OpenBrace,
+    /// `{` around statements, members of a class or clauses of a `switch`, which are units of a program.
+    OpenBody,
     /// `${`
     OpenHole,
     /// `)`, `]` or `}`
@@ -25,6 +28,10 @@ pub enum Kind {
     Comma,
     /// A number, which a dot right after it would be read as a part of.
     Number,
+    /// `;`
+    Semicolon,
+    /// `;` that ends a statement, which is written right after the unit before, and is left out of the units.
+    Ending,
     /// Anything else.
     Other,
 }
@@ -42,7 +49,7 @@ impl Kind {
     pub fn opens(self) -> bool {
         matches!(
             self,
-            Kind::OpenParen | Kind::OpenSquare | Kind::OpenBrace | Kind::OpenHole
+            Kind::OpenParen | Kind::OpenSquare | Kind::OpenBrace | Kind::OpenHole | Kind::OpenBody
         )
     }
 }
@@ -83,10 +90,10 @@ fn push_bodies(
 }
 
 /// The place of the block that a property ends with.
-pub fn body_of(prop: &PropNode<TokenBody>) -> Option<Span> {
+pub fn body_of<B: Spanned>(prop: &PropNode<B>) -> Option<Span> {
     match prop {
-        PropNode::Method { function, .. } => Some(function.body.span),
-        PropNode::Getter { body, .. } | PropNode::Setter { body, .. } => Some(body.span),
+        PropNode::Method { function, .. } => Some(function.body.span()),
+        PropNode::Getter { body, .. } | PropNode::Setter { body, .. } => Some(body.span()),
         _ => None,
     }
 }
@@ -136,6 +143,7 @@ fn kind_of(token: &Token) -> Kind {
         Token::DollarLBrace => Kind::OpenHole,
         Token::RParen | Token::RBracket | Token::RBrace => Kind::Close,
         Token::Comma => Kind::Comma,
+        Token::Semi => Kind::Semicolon,
         Token::Num { .. } => Kind::Number,
         _ => Kind::Other,
     }

@@ -8,7 +8,9 @@ use swc_ecma_parser::ast::prop::PropName;
 use swc_ecma_parser::ast::spanned::Spanned;
 use swc_ecma_parser::context::operator::AssignOp;
 use swc_ecma_parser::context::span::Span;
-use swc_ecma_parser::nodes::node::{ExprId, Node, PatId, PatPropNode, PropNode, TargetNode};
+use swc_ecma_parser::nodes::node::{
+    ExprId, Node, PatElem, PatId, PatPropNode, PropNode, TargetNode,
+};
 
 type AnyNode = Node<Span, Span, Span>;
 
@@ -152,7 +154,7 @@ impl<'a> Collector<'a> {
             Node::PatRest { arg, .. } => self.tell(arg.0, role),
             Node::PatAssign { left, .. } => {
                 self.note_expression(role);
-                self.tell(left.0, role);
+                self.tell(left.number(), role);
             }
             Node::PatExpr(expr) => self.tell(expr.0, role),
             _ => {}
@@ -171,9 +173,10 @@ impl<'a> Collector<'a> {
         }
     }
 
-    fn tell_elems(&mut self, elems: &[Option<PatId>], role: Role) {
+    fn tell_elems(&mut self, elems: &[Option<PatElem>], role: Role) {
         for elem in elems.iter().flatten() {
-            self.tell(elem.0, role);
+            let (PatElem::Item(part) | PatElem::Rest { arg: part, .. }) = elem;
+            self.tell(part.number(), role);
         }
     }
 
@@ -189,14 +192,14 @@ impl<'a> Collector<'a> {
                 if matches!(key, PropName::Computed(_)) {
                     self.note_expression(role);
                 }
-                self.tell(value.0, role);
+                self.tell(value.number(), role);
             }
             PatPropNode::Assign { value, .. } => {
                 if value.is_some() {
                     self.note_expression(role);
                 }
             }
-            PatPropNode::Rest { arg, .. } => self.tell(arg.0, role),
+            PatPropNode::Rest { arg, .. } => self.tell(arg.number(), role),
         }
     }
 

@@ -3,14 +3,9 @@ use Rattle.std.proofs.Common.{◌≡◌, List, [], ◌++◌, Result, length, sym
 use Rattle.std.specs.Prelude.{IfOk, Some}
 use Rattle.swc_bodies.specs.Readings.{Hooked, Reading, Loud}
 use Rattle.swc_context.specs.declared.error.Error.{Error}
-use Rattle.swc_input.specs.declared.buffer.Buffer.{Buffer}
-use Rattle.swc_input.specs.declared.token.TokenAndSpan.{TokenAndSpan}
+use Rattle.swc_input.specs.{declared.buffer.Buffer.Buffer, declared.token.TokenAndSpan.TokenAndSpan, Listed.listed_state, Recording.is_silent, Source.Keeps}
 use Rattle.swc_input.specs.Buffer.{Read, Took, Future, source, held}
-use Rattle.swc_input.specs.Listed.{listed_state}
-use Rattle.swc_input.specs.Recording.{is_silent}
-use Rattle.swc_input.specs.Source.{Keeps}
-use Rattle.program_tokens.specs.declared.source.ProgramInput.{ProgramInput}
-use Rattle.program_tokens.specs.Passing.{PassesOver}
+use Rattle.program_tokens.specs.{declared.source.ProgramInput.ProgramInput, Passing.PassesOver}
 use Rattle.program_tokens.specs.Source.{program_model, program_laws, stays}
 
 module _ (b d c : Buffer ProgramInput) (p : PassesOver b d) where

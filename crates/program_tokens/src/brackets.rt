@@ -93,8 +93,8 @@ fn close(partners: &mut Vec<usize>, open: &mut Vec<Open>, at: usize) {
     }
 }
 
-/// What tokens lead to: a bracket that opens, to the one that closes it, whichever it is; `function` and `class`, to their
-/// brace.
+/// What tokens lead to: a bracket that opens, to the one that closes it, whichever it is; `function` and `class`, to
+/// their brace.
 fn partners_of(alloc: Global, tokens: &[TokenAndSpan]) -> Result<Vec<usize>, AllocError> {
     let mut partners = Vec::new(alloc);
     let mut open = Vec::new(alloc);

@@ -2,8 +2,7 @@
 ghost use Rattle.std.specs.Prelude.{◌≡◌, ◌++◌, ◌∷◌, [], false, true, MatchOption};
 ghost use Rattle.swc_bodies.specs.Deferred.{waiting};
 ghost use Rattle.swc_bodies.specs.Readings.{at_function, is_brace, is_class};
-ghost use Rattle.swc_input.specs.Buffer.{current};
-ghost use Rattle.swc_input.specs.Kinds.{at_token};
+ghost use Rattle.swc_input.specs.{Buffer.current, Kinds.at_token};
 ghost use Rattle.program_tokens.specs.Passing.{PassesOver};
 
 use crate::source::ProgramInput;

@@ -84,8 +84,8 @@ impl ProgramInput {
         }
     }
 
-    /// Whether `static` is before the first token that begins at the place or after it: so the block that begins there is
-    /// one of a class (ECMA-262, 15.7), and the body of no function.
+    /// Whether `static` is before the first token that begins at the place or after it: so the block that begins there
+    /// is one of a class (ECMA-262, 15.7), and the body of no function.
     pub fn is_after_static(&self, start: BytePos) -> bool {
         self.list.is_after_static(self.list.index_of(start.0))
     }
@@ -164,8 +164,7 @@ impl Iterator for ProgramInput {
 
 impl Tokens for ProgramInput {
     ghost use Rattle.std.proofs.Common.{refl};
-    ghost use Rattle.program_tokens.specs.Source.{program_model, with_contexts, program_laws, program_unmoved};
-    ghost use Rattle.program_tokens.specs.Source.{program_asked};
+    ghost use Rattle.program_tokens.specs.Source.{program_model, with_contexts, program_laws, program_unmoved, program_asked};
 
     ghost model = { program_model };
 

@@ -1,7 +1,6 @@
 // A text, or a part of one, read as one expression.
 ghost use Rattle.std.specs.Prelude.{IfOk};
-ghost use Rattle.swc_nodes.specs.NodeParts.{expr_part};
-ghost use Rattle.swc_nodes.specs.GrowingNodes.{From};
+ghost use Rattle.swc_nodes.specs.{NodeParts.expr_part, GrowingNodes.From};
 ghost use Rattle.swc_ecma_parser.specs.Calls.{nodes_of};
 
 use crate::openers::Ending;

@@ -5,8 +5,8 @@ use swc_ecma_parser::context::context::Context;
 use swc_ecma_parser::context::span::Span;
 
 /// The text on standard input, and the context that the program's one argument names: `script`, `module`, `strict`,
-/// `generator` or `async`. With no argument it is a script's. Where the arguments are bad, or the text isn't UTF-8, that
-/// is said on standard error, and the program's status is answered.
+/// `generator` or `async`. With no argument it is a script's. Where the arguments are bad, or the text isn't UTF-8,
+/// that is said on standard error, and the program's status is answered.
 pub fn read_input(rt: &HostRuntime) -> io::Result<Result<(String, Context), u8>> {
     let Some(context) = asked_context(rt)? else {
         eprintln!(rt; "the argument may be script, module, strict, generator or async")?;

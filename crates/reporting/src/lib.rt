@@ -111,9 +111,9 @@ pub fn read_text(rt: &HostRuntime) -> io::Result<Vec<u8>> {
     Ok(bytes)
 }
 
-/// Says on standard error what is wrong with the text, as `line:column: message`, and shows the line with marks below the
-/// fault. Answers the program's status. Where memory ran out, that has no place in the text: then standard error has the
-/// message alone.
+/// Says on standard error what is wrong with the text, as `line:column: message`, and shows the line with marks below
+/// the fault. Answers the program's status. Where memory ran out, that has no place in the text: then standard error
+/// has the message alone.
 pub fn report(rt: &HostRuntime, text: &[u8], refusal: &Refusal) -> u8 {
     let opener = refusal.opener().map(|span| span.line_column(text));
     report_at(rt, text, refusal.span().line_column(text), opener, refusal)

@@ -59,8 +59,9 @@ impl Ending {
         self.legacy
     }
 
-    /// The refusal by a fault of the parser, which `is_too_deep` or not: where the lexer has a fault in its place, that; and
-    /// where it is at the last token or after it, and something is open that begins elsewhere, it tells of that too.
+    /// The refusal by a fault of the parser, which `is_too_deep` or not: where the lexer has a fault in its place,
+    /// that; and where it is at the last token or after it, and something is open that begins elsewhere, it tells of
+    /// that too.
     pub fn refusal(self, fault: Error, is_too_deep: bool) -> Refusal {
         if is_too_deep {
             return Refusal::TooDeep(fault.span());

@@ -1,18 +1,15 @@
 -- What a call of a hook ensures that refuses, that records a fault, or that looks on after a body.
 use Rattle.std.specs.Prelude.{IfOk, Result, Ok, Err}
-use Rattle.std.proofs.Common.{◌≡◌, ◌≢◌, ◌<◌, ◌≤◌, false, List, [], ◌∷◌, ◌++◌, length}
-use Rattle.std.proofs.Common.{sym, ap, ◌∙◌, arith, length-append}
+use Rattle.std.proofs.Common.{◌≡◌, ◌≢◌, ◌<◌, ◌≤◌, false, List, [], ◌∷◌, ◌++◌, length, sym, ap, ◌∙◌, arith, length-append}
 use Rattle.std.proofs.lemmas.List.{append-nil, nil_from_length}
 use Rattle.swc_context.specs.declared.error.Error.{Error}
-use Rattle.swc_context.specs.declared.error.SyntaxError.TheVariants as kind
-use Rattle.swc_input.specs.declared.buffer.Buffer.{Buffer}
-use Rattle.swc_input.specs.declared.token.TokenAndSpan.{TokenAndSpan}
-use Rattle.swc_input.specs.Plain.{plain}
+use Rattle.swc_input.specs.{declared.buffer.Buffer.Buffer, declared.token.TokenAndSpan.TokenAndSpan, Plain.plain}
 use Rattle.swc_input.specs.Source.{Model, Laws, Keeps}
 use Rattle.swc_input.specs.Buffer.{Read, ReadSome, current, source, state_of, to_come, with_source, Future}
 use Rattle.swc_input.specs.Recording.{Recorded, error_here, error_list}
 use Rattle.swc_input.specs.Laws.{Read-then, Read-late, Read-still, Keeps-then, Future-before, keeps_same}
 use Rattle.swc_bodies.specs.Readings.{Hooked, Reading, Loud}
+use Rattle.swc_context.specs.declared.error.SyntaxError.TheVariants as kind
 
 -- where a list that only grew is what it was, nothing was added in between
 unchanged : (es fs gs : List Error) → Keeps es fs → Keeps fs gs → gs ≡ es → fs ≡ es

@@ -2,9 +2,7 @@
 use Rattle.std.specs.Prelude.{◌≡◌, ⊤, ℕ, ◌+◌, ◌<◌, ◌≤◌, false, true, List, [], ◌++◌, Option, Some, None, MatchOption, length}
 use Rattle.std.proofs.Common.{refl, ap, ◌∙◌}
 use Rattle.swc_context.specs.declared.context.TokenContexts.{TokenContexts}
-use Rattle.swc_input.specs.Laws.{keeps_same}
-use Rattle.swc_input.specs.declared.listed.TokensInput.{TokensInput}
-use Rattle.swc_input.specs.declared.token.TokenAndSpan.{TokenAndSpan}
+use Rattle.swc_input.specs.{Laws.keeps_same, declared.listed.TokensInput.TokensInput, declared.token.TokenAndSpan.TokenAndSpan}
 use Rattle.swc_input.specs.Listed.{listed_state, listed_lawful, ListedGives}
 use Rattle.swc_input.specs.Source.{Source, Model, Laws, IsLawful, Keeping, Gave, Asked, Unmoved, given_one}
 use Rattle.rows.specs.declared.source.TestInput.{TestInput}

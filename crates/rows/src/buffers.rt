@@ -1,11 +1,8 @@
 // Calls of the buffer, of its source, and of the hooks.
 ghost use Rattle.std.specs.Prelude.{◌≡◌, ◌≢◌, true, Some, IsSome};
-ghost use Rattle.swc_context.specs.declared.error.SyntaxError.TheVariants.{OutOfMemory};
-ghost use Rattle.swc_context.specs.declared.operator.BinOpToken.TheVariants.{LShift};
+ghost use Rattle.swc_context.specs.{declared.error.SyntaxError.TheVariants.OutOfMemory, declared.operator.BinOpToken.TheVariants.LShift};
 ghost use Rattle.swc_bodies.specs.Readings.{at_function, is_brace, is_class};
-ghost use Rattle.swc_input.specs.declared.token.Token.TheVariants.{BinOp};
-ghost use Rattle.swc_input.specs.Buffer.{current, token_of};
-ghost use Rattle.swc_input.specs.Kinds.{at_token};
+ghost use Rattle.swc_input.specs.{declared.token.Token.TheVariants.BinOp, Buffer.current, Buffer.token_of, Kinds.at_token};
 
 use crate::row::{Row, show_unread};
 use crate::settings::{list_of, setting_of};

@@ -2,6 +2,7 @@
 use crate::row::{Row, show_unread};
 use crate::shown::begin_part;
 use expr_layout::layout::layout;
+use program_layout::layout::layout as layout_program;
 use program_names::names::{Use, names};
 use reporting::expr::{parse_part, read_expr, read_part};
 use reporting::input::context_named;
@@ -27,8 +28,9 @@ pub(crate) fn show_client(
     }
 }
 
-/// Writes what the client of the name makes of the text: the layout of an expression, and whether that is read as the same
-/// tree; its tree, where it begins at a place of the text; the pieces of a template; the names or the tree of a program.
+/// Writes what the client of the name makes of the text: the layout of an expression, and whether that is read as the
+/// same tree; its tree, where it begins at a place of the text; the pieces of a template; the names, the layout or the
+/// tree of a program.
 fn show_made_of(
     alloc: Global,
     out: &mut String,
@@ -45,6 +47,8 @@ fn show_made_of(
         "layout again" => show_whether_laid_out(alloc, out, text, context),
         "statements" => show_tree(out, tree_of(alloc, text, Goal::Script)),
         "modules" => show_tree(out, tree_of(alloc, text, Goal::Module)),
+        "program layout" => show_program_layout(alloc, out, text, Goal::Script),
+        "module layout" => show_program_layout(alloc, out, text, Goal::Module),
         "CommonJS" => show_tree(out, tree_of(alloc, text, Goal::CommonJs)),
         place => match place.parse() {
             Ok(start) => show_tree(out, expr_tree(alloc, text, start, context)),
@@ -96,6 +100,26 @@ fn expr_tree(alloc: Global, text: &str, start: usize, context: Context) -> Resul
     let part = read_part(alloc, text, start, End::BeforeBrace, context)?;
     let (nodes, expr) = parse_part(alloc, part, context)?;
     Ok(nodes.print_expr(expr)?)
+}
+
+/// Writes the layout of the program, and a word more where that isn't laid out as itself.
+fn show_program_layout(
+    alloc: Global,
+    out: &mut String,
+    text: &str,
+    goal: Goal,
+) -> Result<(), AllocError> {
+    match layout_program(alloc, text, goal) {
+        Ok(first) => {
+            show_lines(out, first.as_str())?;
+            let second = layout_program(alloc, first.as_str(), goal).ok();
+            if second == Some(first) {
+                return Ok(());
+            }
+            out.push_str(" laid out otherwise")
+        }
+        Err(refusal) => show_refused(out, &refusal),
+    }
 }
 
 /// Writes the layout of the text, and a word more where that isn't read as the same tree, or not laid out as itself.

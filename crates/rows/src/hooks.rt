@@ -1,9 +1,7 @@
 // The hook of all rows, which reads bodies as `TokenBodies` does, or in another manner. It is lawful, and not faithful.
 ghost use Rattle.std.specs.Prelude.{◌≡◌, ◌≢◌, ◌<◌, ◌∷◌, [], true, Err, IsSome, OnOk, IfErr};
-ghost use Rattle.swc_input.specs.declared.token.TokenAndSpan.{TokenAndSpan};
-ghost use Rattle.swc_input.specs.Plain.{plain};
+ghost use Rattle.swc_input.specs.{declared.token.TokenAndSpan.TokenAndSpan, Plain.plain, Recording.is_fit};
 ghost use Rattle.swc_input.specs.Buffer.{current, source, state_of, to_come, Read, ReadSome};
-ghost use Rattle.swc_input.specs.Recording.{is_fit};
 ghost use Rattle.swc_context.specs.declared.error.SyntaxError.TheVariants.{ParserFailed};
 ghost use Rattle.swc_bodies.specs.Body.{Body};
 ghost use Rattle.swc_bodies.specs.Readings.{Hooked, Loud, Reading};
@@ -314,8 +312,7 @@ impl<I: Tokens> Bodies<I> for TestBodies {
 
 // What is promised of bodies that are read again speaks of the forms alone.
 impl ReplayBodies for TestBodies {
-    ghost use Rattle.swc_bodies.specs.Laws.{token_forms_read};
-    ghost use Rattle.swc_bodies.specs.Replaying.{token_forms_replay};
+    ghost use Rattle.swc_bodies.specs.{Laws.token_forms_read, Replaying.token_forms_replay};
 
     ghost lawful = { token_forms_read };
 

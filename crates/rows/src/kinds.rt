@@ -16,6 +16,7 @@ use crate::row::{Row, show_unread, unescaped};
 use crate::runs::show_run;
 use crate::settings::{list_of, setting_of};
 use crate::shown::begin_part;
+use crate::texts::show_text;
 use crate::waiting::show_waiting_of;
 use crate::words::show_said;
 use std::alloc::{AllocError, Global};
@@ -74,6 +75,7 @@ fn show_other_kind(
             Err(_) => show_unread(out, "no such place"),
         },
         "long" => show_long(alloc, out, row),
+        "text" => show_text(alloc, out, row, unescaped(alloc, row.text)?.as_str()),
         _ => show_unread(out, "no such kind of row"),
     }
 }

@@ -14,9 +14,9 @@ use swc_lexer::read::read_bytes;
 use swc_lexer::reader::End;
 use swc_lexer::stack::Start;
 
-/// Writes the tokens of the row's text, the regular expressions among them, its comments, the faults that its tokens have
-/// in strict code, or the line and the column of its end: what is written before the setting says which. `await` is an
-/// operator in the setting `module`.
+/// Writes the tokens of the row's text, the regular expressions among them, its comments, the faults that its tokens
+/// have in strict code, or the line and the column of its end: what is written before the setting says which. `await`
+/// is an operator in the setting `module`.
 pub(crate) fn show_lexed(alloc: Global, out: &mut String, row: Row<'_>) -> Result<(), AllocError> {
     let Some(bytes) = bytes_of(alloc, row.text)? else {
         return show_unread(out, "no such byte");

@@ -39,6 +39,7 @@ mod settings;
 mod shown;
 mod slashes;
 mod source;
+mod texts;
 mod tokens;
 mod trees;
 mod waiting;

@@ -8,6 +8,7 @@ use crate::row::{Row, UNREAD, show_unread};
 use crate::settings::input_of;
 use crate::shown::{NO_MEMORY, show, show_refusal};
 use crate::source::TestInput;
+use crate::texts::show_text;
 use crate::tokens::tokens_of;
 use crate::trees::show_id;
 use std::alloc::{AllocError, Global};
@@ -31,7 +32,8 @@ const ROOM: usize = 16384;
 /// the calls are made on each of the two parsers. After any other setting, and ` with `, there may be a hook and a
 /// number: `NoBodies`, or the number of the call at which the hook does otherwise than `TokenBodies`.
 ///
-/// With the calls `lexed: tokens` or the like it is such a row, whose text is written as there.
+/// With the calls `lexed: tokens` or the like it is such a row, whose text is written as there; and with
+/// `text: parse_text_expr` or the like it is a row of a text.
 pub(crate) fn lines_of(alloc: Global, row: &[u8]) -> Option<String> {
     let (words, rest) = str::from_utf8(row).ok()?.split_once('\n')?;
     let (calls, text) = rest.split_once('\n')?;
@@ -51,6 +53,10 @@ pub(crate) fn lines_of(alloc: Global, row: &[u8]) -> Option<String> {
 fn write_lines(alloc: Global, out: &mut String, row: Row<'_>, hook: &str) -> Option<()> {
     if let Some(calls) = row.calls.strip_prefix("lexed: ") {
         show_lexed(alloc, out, Row { calls, ..row }).ok()?;
+        return out.push_str("\n").ok();
+    }
+    if let Some(calls) = row.calls.strip_prefix("text: ") {
+        show_text(alloc, out, Row { calls, ..row }, row.text).ok()?;
         return out.push_str("\n").ok();
     }
     if row.calls == "try_clone" {

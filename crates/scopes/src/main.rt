@@ -41,21 +41,11 @@ fn asked(rt: &HostRuntime) -> io::Result<Option<Goal>> {
     let mut goal = Some(Goal::Script);
     for (index, word) in env::args(rt)?.skip(1).enumerate() {
         goal = match index {
-            0 => goal_of(word.as_str()),
+            0 => Goal::named(word.as_str()),
             _ => None,
         };
     }
     Ok(goal)
-}
-
-/// What a program is read as, by a word.
-fn goal_of(word: &str) -> Option<Goal> {
-    match word {
-        "script" => Some(Goal::Script),
-        "module" => Some(Goal::Module),
-        "commonjs" => Some(Goal::CommonJs),
-        _ => None,
-    }
 }
 
 /// Writes each name on a line of its own. Answers the status.

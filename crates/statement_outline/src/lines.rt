@@ -28,8 +28,8 @@ pub(crate) enum Line<'a> {
     Case(&'a SwitchCase),
 }
 
-/// The tree of a program, as text (ECMA-262, 14 to 16): `Program::read`, with `LEVELS`, and a line for each statement, clause
-/// and member.
+/// The tree of a program, as text (ECMA-262, 14 to 16): `Program::read`, with `LEVELS`, and a line for each statement,
+/// clause and member.
 pub fn tree_of(alloc: Global, text: &str, goal: Goal) -> Result<String, Refusal> {
     let program = Program::read(alloc, text, goal, LEVELS)?;
     let mut outline = Outline {
@@ -192,37 +192,41 @@ impl<'a> Outline<'a> {
                 self.put_expr(test);
                 self.end_line(end);
             }
-            Line::Catch(clause) => {
-                self.begin(depth, "catch");
-                if let Some(param) = clause.param {
-                    self.put_pat(param);
-                }
-                let start = self.start_of(clause.body);
-                self.end_line(start);
-                self.put_off_block(lines, clause.body, inside);
-            }
+            Line::Catch(clause) => self.put_catch(lines, clause, depth),
             Line::Finally(block) => {
                 self.begin(depth, "finally\n");
                 self.put_off_block(lines, block, inside);
             }
-            Line::Case(case) => {
-                self.begin(
-                    depth,
-                    if case.test.is_some() {
-                        "case"
-                    } else {
-                        "default"
-                    },
-                );
-                self.put_expr_if(case.test);
-                let end = match case.consequent.first() {
-                    Some(first) => self.start_of(*first),
-                    None => case.span.hi,
-                };
-                self.end_line(end);
-                self.put_off(lines, &case.consequent, inside);
-            }
+            Line::Case(case) => self.put_case(lines, case, depth),
         }
+    }
+
+    /// Writes the line of a `catch`, and puts off its block.
+    fn put_catch(&mut self, lines: &mut Lines<'a>, clause: CatchClause, depth: usize) {
+        self.begin(depth, "catch");
+        if let Some(param) = clause.param {
+            self.put_pat(param);
+        }
+        let start = self.start_of(clause.body);
+        self.end_line(start);
+        self.put_off_block(lines, clause.body, depth.saturating_add(1));
+    }
+
+    /// Writes the line of a `case` or of `default`, and puts off its statements.
+    fn put_case(&mut self, lines: &mut Lines<'a>, case: &'a SwitchCase, depth: usize) {
+        let word = if case.test.is_some() {
+            "case"
+        } else {
+            "default"
+        };
+        self.begin(depth, word);
+        self.put_expr_if(case.test);
+        let end = match case.consequent.first() {
+            Some(first) => self.start_of(*first),
+            None => case.span.hi,
+        };
+        self.end_line(end);
+        self.put_off(lines, &case.consequent, depth.saturating_add(1));
     }
 
     /// Where a statement begins.

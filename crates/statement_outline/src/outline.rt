@@ -26,8 +26,8 @@ pub(crate) struct Outline<'a> {
     pub(crate) past: usize,
 }
 
-/// Of bodies in the order in which they begin, those from a number on that begin before the place and are in no other; and
-/// how many begin before it. The only error is out of memory.
+/// Of bodies in the order in which they begin, those from a number on that begin before the place and are in no other;
+/// and how many begin before it. The only error is out of memory.
 fn bodies_before(
     alloc: Global,
     bodies: &[Span],

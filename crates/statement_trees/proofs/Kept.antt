@@ -2,24 +2,17 @@
 use Rattle.std.proofs.Common.{◌≡◌, ◌≤◌, ◌<◌, ◌+◌, ℕ, Bool, true, false, List, Result, Ok, Err, refl, ap, arith}
 use Rattle.std.specs.Prelude.{OnOk}
 use Rattle.swc_context.specs.declared.error.Error.{Error}
-use Rattle.swc_ast.specs.declared.ident.PrivateName.{PrivateName}
-use Rattle.swc_ast.specs.declared.lit.Lit.{Lit}
-use Rattle.swc_ast.specs.declared.spanned.Spanned.{Ghosts}
+use Rattle.swc_ast.specs.{declared.ident.PrivateName.PrivateName, declared.lit.Lit.Lit, declared.spanned.Spanned.Ghosts}
 use Rattle.swc_bodies.specs.Readings.{Hook, Reading}
-use Rattle.swc_input.specs.declared.buffer.Buffer.{Buffer}
-use Rattle.swc_input.specs.declared.token.TokenAndSpan.{TokenAndSpan}
-use Rattle.program_tokens.specs.declared.source.ProgramInput.{ProgramInput}
-use Rattle.program_tokens.specs.Source.{program_model}
-use Rattle.swc_input.specs.Source.{Model}
+use Rattle.swc_input.specs.{declared.buffer.Buffer.Buffer, declared.token.TokenAndSpan.TokenAndSpan, Source.Model}
+use Rattle.program_tokens.specs.{declared.source.ProgramInput.ProgramInput, Source.program_model}
 use Rattle.swc_input.specs.Buffer.{context, to_come, Read, Looked}
-use Rattle.swc_grammar.specs.Names.{NameKind, Spelling}
-use Rattle.swc_grammar.specs.Symbols.{Symbol}
+use Rattle.swc_grammar.specs.{Names.NameKind, Names.Spelling, Symbols.Symbol}
 use Rattle.swc_ident.specs.Naming.{SpellsPrivate}
 use Rattle.swc_steps.specs.Parsing.{Consumes, Acts}
 use Rattle.swc_ecma_parser.specs.Calls.{buffer_of, has_failed, Called, ReadsAName}
-use Rattle.swc_ecma_parser.specs.ForHeads.{HeadAnswer, PromisedHead}
+use Rattle.swc_ecma_parser.specs.{ForHeads.HeadAnswer, ForHeads.PromisedHead, declared.parser.Parser.Parser}
 use Rattle.swc_ecma_parser.specs.Promise.{Answer, Derivation, ParamsAnswer, Promised, PromisedLit, PromisedName, PromisedParams, HookReads}
-use Rattle.swc_ecma_parser.specs.declared.parser.Parser.{Parser}
 use Rattle.statement_trees.specs.Contexts.{effort}
 
 module _ {S : Type 0} (model : Model S) where

@@ -1,14 +1,11 @@
 -- What the calls of a pass leave: its context, and what is left to do.
 use Rattle.std.specs.Prelude.{◌≡◌, ℕ, ◌+◌, ◌*◌, ◌≤◌, List, [], true, false, vec_len}
-use Rattle.swc_bodies.specs.Deferred.{waiting}
-use Rattle.swc_bodies.specs.declared.deferred.Waiting.{Waiting}
+use Rattle.swc_bodies.specs.{Deferred.waiting, declared.deferred.Waiting.Waiting}
 use Rattle.swc_context.specs.declared.context.Context.{Context}
 use Rattle.swc_ecma_parser.specs.Calls.{buffer_of, hook_of}
-use Rattle.swc_input.specs.declared.buffer.Buffer.{Buffer}
-use Rattle.swc_input.specs.Buffer.{state_of, to_come}
+use Rattle.swc_input.specs.{declared.buffer.Buffer.Buffer, Buffer.state_of, Buffer.to_come}
 use Rattle.statement_trees.specs.declared.reader.Reader.{Reader}
-use Rattle.program_tokens.specs.declared.source.ProgramInput.{ProgramInput}
-use Rattle.program_tokens.specs.Source.{program_model}
+use Rattle.program_tokens.specs.{declared.source.ProgramInput.ProgramInput, Source.program_model}
 
 -- the context in which the current pass reads
 abbrev pub context_of : Reader → Context

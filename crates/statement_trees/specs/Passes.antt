@@ -3,8 +3,7 @@ use Rattle.std.specs.Prelude.{◌≡◌, ◌<◌, ◌++◌, List, [], map, rever
 use Rattle.std.specs.List.{AllPairs, Contains}
 use Rattle.swc_bodies.specs.declared.deferred.Waiting.{Waiting}
 use Rattle.swc_context.specs.declared.span.Span.{Span}
-use Rattle.statement_trees.specs.declared.program.Passes.{Passes}
-use Rattle.statement_trees.specs.Contexts.{kept_bodies}
+use Rattle.statement_trees.specs.{declared.program.Passes.Passes, Contexts.kept_bodies}
 
 -- places in the order in which they begin, no two at one
 abbrev pub InOrder : List Span → Type 0

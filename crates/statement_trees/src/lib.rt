@@ -1,8 +1,9 @@
 //! Whole ECMAScript programs, read over the expression parser, as values.
 //!
-//! `Program::read` reads a script, a module or a CommonJS module (ECMA-262, 14, 15 and 16): all statements, declarations,
-//! functions, classes, imports and exports. The types of the tree are those of `tree`: statements in one vector, and
-//! expressions and patterns among the nodes of one `Nodes`. The crate statement_outline writes them as text.
+//! `Program::read` reads a script, a module or a CommonJS module (ECMA-262, 14, 15 and 16): all statements,
+//! declarations, functions, classes, imports and exports. The types of the tree are those of `tree`: statements in one
+//! vector, and expressions and patterns among the nodes of one `Nodes`. The crate statement_outline writes them as
+//! text.
 //!
 //!     let program = Program::read(alloc, "let a = () => { return b }", Goal::Script, 800)?;
 //!     for id in &program.body {
@@ -11,17 +12,18 @@
 //!         }
 //!     }
 //!
-//! A function, a class, and the block of a method or an arrow function is read in a pass of its own. In a statement or a
-//! node it is named by its place, by which `Program::function`, `Program::class` and `Program::block` find it. The source
-//! of a program passes over what is in its braces in one step, so functions in one another take linear time.
+//! A function, a class, and the block of a method or an arrow function is read in a pass of its own. In a statement or
+//! a node it is named by its place, by which `Program::function`, `Program::class` and `Program::block` find it. The
+//! source of a program passes over what is in its braces in one step, so functions in one another take linear time.
 //!
-//! It isn't promised that these trees are those of ECMA-262. Not looked at are: names that are bound twice, or are missing
-//! in a declaration; whether a label, a loop or a `switch` is there for `break` and `continue`, whether a label is there
-//! twice, or `default`; which functions are the body of an `if`, a loop or a label; `async` and `*` before `get` and `set`,
-//! and the parameters of these; that the name of a class is strict code; the name and the parameters of a function whose
-//! body begins with `"use strict"`; which members are named `constructor` or `prototype`; private names that no class
-//! declares; `with` and `delete` of a name in strict code; names that a module exports twice or doesn't declare, and words
-//! among them; `import.meta` in scripts; attributes of one key. `return` is taken in static blocks.
+//! It isn't promised that these trees are those of ECMA-262. Not looked at are: names that are bound twice, or are
+//! missing in a declaration; whether a label, a loop or a `switch` is there for `break` and `continue`, whether a label
+//! is there twice, or `default`; which functions are the body of an `if`, a loop or a label; `async` and `*` before
+//! `get` and `set`, and the parameters of these; that the name of a class is strict code; the name and the parameters
+//! of a function whose body begins with `"use strict"`; which members are named `constructor` or `prototype`; private
+//! names that no class declares; `with` and `delete` of a name in strict code; names that a module exports twice or
+//! doesn't declare, and words among them; `import.meta` in scripts; attributes of one key. `return` is taken in static
+//! blocks.
 #![tactic(auto)]
 
 mod body;

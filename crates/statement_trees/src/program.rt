@@ -10,6 +10,7 @@ use program_tokens::brackets::Bracketed;
 use program_tokens::hook::ProgramBodies;
 use program_tokens::source::ProgramInput;
 use reporting::Refusal;
+use reporting::openers::Ending;
 use std::alloc::{AllocError, Global};
 use swc_ecma_parser::bodies::deferred::Waiting;
 use swc_ecma_parser::context::context::{Context, ExpressionContext, Syntax};
@@ -44,14 +45,15 @@ fn syntax() -> Syntax {
     }
 }
 
-/// The tokens of the text, and its brackets.
-fn tokens_of(alloc: Global, text: &str, goal: Goal) -> Result<Bracketed, AllocError> {
+/// The tokens of the text with its brackets, and how they end.
+fn tokens_of(alloc: Global, text: &str, goal: Goal) -> Result<(Bracketed, Ending), AllocError> {
     let kind = Kind {
         awaits: goal == Goal::Module,
         yields: false,
     };
     let tokens = read_list(alloc, text, Start::Statements, End::Whole, kind)?;
-    Bracketed::new(alloc, tokens)
+    let ending = Ending::new(alloc, &tokens, BytePos(0), false)?;
+    Ok((Bracketed::new(alloc, tokens)?, ending))
 }
 
 /// A program that is read in passes: one over its own statements, and one over each body.
@@ -69,14 +71,14 @@ impl Program {
     /// Reads a program (ECMA-262, 16): the text is UTF-8, and is read by the lexical grammar (12), which `swc_lexer`
     /// follows. Positions are in bytes.
     ///
-    /// The first fault is the refusal, also where it was recorded beside a tree, and so is a fault that is one in strict
-    /// code alone, where the code is strict. Expressions and patterns that are nested deeper than `levels` are refused;
-    /// statements, functions and classes may be nested as deeply as they are. Memory that runs out is refused as
-    /// `OutOfMemory`.
+    /// The first fault is the refusal, also where it was recorded beside a tree, and so is a fault that is one in
+    /// strict code alone, where the code is strict. Expressions and patterns that are nested deeper than `levels` are
+    /// refused; statements, functions and classes may be nested as deeply as they are. A fault at the end of the text
+    /// names the bracket that is open there. Memory that runs out is refused as `OutOfMemory`.
     pub fn read(alloc: Global, text: &str, goal: Goal, levels: usize) -> Result<Program, Refusal>
         ensures order { IfOk result (λ program. InOrder program.bodies.items) }
     {
-        let Ok(list) = tokens_of(alloc, text, goal) else {
+        let Ok((list, ending)) = tokens_of(alloc, text, goal) else {
             return Err(Refusal::Fault(out_of_memory()));
         };
         let mut passes = Passes {
@@ -84,17 +86,29 @@ impl Program {
             bodies: Vec::new(alloc),
             waiting: Vec::new(alloc),
         };
-        let body = passes.program()?;
-        passes.read_all()?;
         let span = Span {
             lo: BytePos(0),
             hi: BytePos(text.len().min(u32::MAX as usize) as u32),
         };
-        Ok(passes.into_program(span, goal, body))
+        match passes.read() {
+            Ok(body) => Ok(passes.into_program(span, goal, body)),
+            Err(Refusal::Fault(fault)) => Err(ending.refusal(fault, false)),
+            Err(refusal) => Err(refusal),
+        }
     }
 }
 
 impl Passes {
+    /// Reads the program with all its bodies, and answers its statements.
+    fn read(&mut self) -> Result<Vec<StatementId>, Refusal>
+        requires first { self.old.bodies.items ≡ [] }
+        ensures order { OnOk result (InOrder self.new.bodies.items) }
+    {
+        let body = self.program()?;
+        self.read_all()?;
+        Ok(body)
+    }
+
     /// Reads the statements of the program itself, to its end.
     fn program(&mut self) -> Result<Vec<StatementId>, Refusal>
         ensures none { OnOk result (kept_bodies self.new.reader ≡ []) }

@@ -13,8 +13,21 @@ pub enum Goal {
     Script,
     /// A module (16.2): strict code, in which `import`, `export` and `await` are allowed.
     Module,
-    /// The body of a function, as Node.js reads a CommonJS module: a script in which `return` and `new.target` are allowed.
+    /// The body of a function, as Node.js reads a CommonJS module: a script in which `return` and `new.target` are
+    /// allowed.
     CommonJs,
+}
+
+impl Goal {
+    /// What the word names, `script`, `module` or `commonjs`, which programs have as an argument.
+    pub fn named(word: &str) -> Option<Goal> {
+        match word {
+            "script" => Some(Goal::Script),
+            "module" => Some(Goal::Module),
+            "commonjs" => Some(Goal::CommonJs),
+            _ => None,
+        }
+    }
 }
 
 /// A program that was read.
@@ -295,7 +308,8 @@ pub enum MemberKind {
     StaticBlock(Span),
 }
 
-/// What kind of method a member is. A constructor is no static one, and its key is the name or the string `constructor`.
+/// What kind of method a member is. A constructor is no static one, and its key is the name or the string
+/// `constructor`.
 #[derive(Clone, Copy, Debug, PartialEq, Eq)]
 pub enum MethodKind {
     Constructor,

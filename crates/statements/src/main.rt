@@ -11,16 +11,6 @@ use statement_trees::tree::Goal;
 use std::process::ExitCode;
 use std::{env, io, str};
 
-/// What a program is read as, by the words after the program's name.
-fn goal_of(word: &str) -> Option<Goal> {
-    match word {
-        "script" => Some(Goal::Script),
-        "module" => Some(Goal::Module),
-        "commonjs" => Some(Goal::CommonJs),
-        _ => None,
-    }
-}
-
 /// The words after the program's name.
 fn arguments(rt: &HostRuntime) -> io::Result<Vec<String>> {
     let mut all = Vec::new(rt.alloc());
@@ -35,7 +25,7 @@ fn asked(rt: &HostRuntime) -> Option<Goal> {
     let words = arguments(rt).ok()?;
     match words.as_slice() {
         [] => Some(Goal::Script),
-        [word] => goal_of(word.as_str()),
+        [word] => Goal::named(word.as_str()),
         _ => None,
     }
 }

@@ -1,17 +1,8 @@
 -- What is read as a body is read by its place, where the body is kept for a pass of its own.
 use Rattle.std.proofs.Common.{◌≡◌, Result, Ok, Err, MatchResult, ap, ◌∙◌}
-use Rattle.swc_context.specs.declared.error.Error.{Error}
-use Rattle.swc_context.specs.declared.error.SyntaxError.TheVariants.{OutOfMemory}
-use Rattle.swc_context.specs.declared.span.BytePos.{BytePos}
-use Rattle.swc_context.specs.declared.span.Span.{Span}
-use Rattle.swc_input.specs.declared.buffer.Buffer.{Buffer}
-use Rattle.swc_input.specs.Buffer.{state_of}
-use Rattle.swc_input.specs.Recording.{no_memory}
-use Rattle.swc_input.specs.Source.{Model}
-use Rattle.swc_bodies.specs.Body.{Body}
-use Rattle.swc_bodies.specs.Deferred.{lies_at}
-use Rattle.swc_bodies.specs.Mapped.{mapped_reading, found}
-use Rattle.swc_bodies.specs.Readings.{Reading, Faithful}
+use Rattle.swc_context.specs.{declared.error.Error.Error, declared.error.SyntaxError.TheVariants.OutOfMemory, declared.span.BytePos.BytePos, declared.span.Span.Span}
+use Rattle.swc_input.specs.{declared.buffer.Buffer.Buffer, Buffer.state_of, Recording.no_memory, Source.Model}
+use Rattle.swc_bodies.specs.{Body.Body, Deferred.lies_at, Mapped.mapped_reading, Mapped.found, Readings.Reading, Readings.Faithful}
 
 -- the place of a body is answered, or memory runs out
 abbrev pub Answers : Body → BytePos → Result Span Error → Type 0

@@ -1,19 +1,10 @@
 -- Bodies that are kept for passes of their own, and whose places alone are in the tree.
 use Rattle.std.proofs.Common.{◌≡◌, [], ◌∷◌, ◌++◌, Ok, List}
-use Rattle.swc_context.specs.declared.context.Context.{Context}
-use Rattle.swc_context.specs.declared.span.Span.{Span}
-use Rattle.swc_input.specs.declared.buffer.Buffer.{Buffer}
-use Rattle.swc_input.specs.Buffer.{state_of}
-use Rattle.swc_input.specs.Source.{Model}
-use Rattle.swc_bodies.specs.declared.deferred.DeferredBodies.{DeferredBodies}
-use Rattle.swc_bodies.specs.declared.deferred.Waiting.{Waiting}
-use Rattle.swc_bodies.specs.Body.{Body}
+use Rattle.swc_context.specs.{declared.context.Context.Context, declared.span.Span.Span}
+use Rattle.swc_input.specs.{declared.buffer.Buffer.Buffer, Buffer.state_of, Source.Model}
+use Rattle.swc_bodies.specs.{declared.deferred.DeferredBodies.DeferredBodies, declared.deferred.Waiting.Waiting, Body.Body, Replaying.token_forms_replay, Slashes.ReplayHook, Taking.token_forms, Laws.token_forms_read}
 use Rattle.swc_bodies.specs.Mapped.{mapped_forms, mapped_forms_read, mapped_forms_replay}
 use Rattle.swc_bodies.specs.Readings.{Reading, Hook, Hooked, Faithful, LawfulHook}
-use Rattle.swc_bodies.specs.Replaying.{token_forms_replay}
-use Rattle.swc_bodies.specs.Slashes.{ReplayHook}
-use Rattle.swc_bodies.specs.Taking.{token_forms}
-use Rattle.swc_bodies.specs.Laws.{token_forms_read}
 
 -- the bodies that wait, each with its context, in the order in which they were read
 abbrev pub waiting : DeferredBodies → List Waiting

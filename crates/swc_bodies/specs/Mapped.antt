@@ -1,7 +1,6 @@
 -- Hooks whose values are functions of another hook's values. Such a hook reads what the other reads, and its laws follow.
 use Rattle.std.proofs.Common.{◌≡◌, Bool, List, Option, Some, None, refl, sym, ap, ◌∙◌}
-use Rattle.swc_context.specs.declared.context.Context.{Context}
-use Rattle.swc_context.specs.declared.span.Span.{Span}
+use Rattle.swc_context.specs.{declared.context.Context.Context, declared.span.Span.Span}
 use Rattle.swc_input.specs.declared.token.TokenAndSpan.{TokenAndSpan}
 use Rattle.swc_bodies.specs.Readings.{Reading, Hook, ReadsOwn, IsReading, LawfulHook, begins_function, begins, is_class, is_brace}
 use Rattle.swc_bodies.specs.Slashes.{without_slashes, Replays, ReplayHook}

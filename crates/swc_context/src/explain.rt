@@ -8,7 +8,8 @@ use std::fmt;
 /// How many bytes of the text are shown at most.
 const SHOWN: usize = 40;
 
-/// A fault in words, to be printed: `expected ')', found the end of the text`. It is one line, with no period at its end.
+/// A fault in words, to be printed: `expected ')', found the end of the text`. It is one line, with no period at its
+/// end.
 #[derive(Clone, Copy)]
 pub struct Explained<'a> {
     error: &'a Error,

@@ -10,9 +10,10 @@ const WIDTH: usize = 120;
 
 const BEFORE: usize = 60;
 
-/// Two lines, to be printed: the line of the text in which a place begins, and `^` below each character of the place, or
-/// one `^` for an empty place. Of a long line 120 characters around the place are shown. Lines end with LF, CR, CRLF, LS
-/// or PS (ECMA-262, 12.3). A tab is kept, and bytes that aren't UTF-8 and other control characters are shown as U+FFFD.
+/// Two lines, to be printed: the line of the text in which a place begins, and `^` below each character of the place,
+/// or one `^` for an empty place. Of a long line 120 characters around the place are shown. Lines end with LF, CR,
+/// CRLF, LS or PS (ECMA-262, 12.3). A tab is kept, and bytes that aren't UTF-8 and other control characters are shown
+/// as U+FFFD.
 #[derive(Clone, Copy)]
 pub struct Frame<'a> {
     text: &'a [u8],

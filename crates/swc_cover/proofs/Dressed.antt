@@ -1,22 +1,22 @@
--- What a node's parts become gives what its tree becomes.
-use Rattle.std.proofs.Common.{◌≡◌, ℕ, inl, inr, Bool, true, false, List, [], ◌∷◌, ◌++◌, map, Option, Some, None, refl, sym, ap, subst, ◌∙◌}
+-- The tree of what a node becomes is what its own tree becomes, where its parts became what they are to.
+use Rattle.std.proofs.Common.{◌≡◌, ℕ, Bool, true, false, List, [], ◌∷◌, ◌++◌, map, Option, Some, None, refl, sym, ap, ◌∙◌}
+use Rattle.std.specs.Prelude.{if◌then◌else◌}
 use Rattle.swc_context.specs.{declared.operator.AssignOp.AssignOp as op, declared.span.Span.Span}
 use Rattle.swc_ast.specs.Parts.{leaf, no_tree, or_hole, item_of, item_tree, prop_name_tree}
-use Rattle.swc_ast.specs.Tree.{Kind, hole, ident, invalid, Tree, node, Trees, nil, cons, trees, array, array_with, object, object_with, key_value, binding_prop, assign, default, rest, dots}
+use Rattle.swc_ast.specs.Tree.{Kind, ident, invalid, array, array_with, object, object_with, key_value, binding_prop, default, rest, dots, pat_expr, Tree, node, Trees, nil, cons, trees, span_of}
 use Rattle.swc_ast.specs.{declared.expr.ExprOrSpread.ExprOrSpread, declared.prop.PropName.PropName}
 use Rattle.swc_grammar.specs.Cover.{is_pattern}
 use Rattle.swc_cover.specs.Wanted as wanted
-use Rattle.swc_cover.specs.Wanted.{left_as, want, want_parts, put_prop, pat_elems, pat_props}
-use Rattle.swc_cover.specs.Roles.{Due, kind_of, becomes_as, becomes_in, bound_as, assigned_as, rebound_as, rest_as, again_as, child_role, dues, dues_in, kept, prop_places, pat_prop_places, places, ready, shallow_as, sought}
-use Rattle.swc_cover.specs.declared.role.Becomes.TheVariants.{Same as AsIs, PatObject, Held, Ident, Array, Object, Default, Nothing, Instead}
-use Rattle.swc_cover.specs.declared.role.Role.TheVariants.{Keep, Bind, Assign, Rebind, BindRest, RebindRest}
-use Rattle.swc_cover.specs.{Moving.In, declared.role.Becomes.Becomes, declared.role.Role.Role}
-use Rattle.swc_cover.proofs.Covers.{keep-is, keeps-by}
-use Rattle.swc_cover.proofs.Along.{Same, node-along, key-along}
-use Rattle.swc_cover.proofs.Places.{kept-long, prop-long, pat-prop-long, dues-both}
-use Rattle.swc_nodes.specs.NodeTree.{target_of, prop_of, pat_prop_of, marked_tree}
-use Rattle.swc_nodes.specs.NodeParts.{Part, View, expr, pat, simple, pattern, flat, if_some, one_pat, item_parts, key_parts, prop_parts, pat_prop_parts, target_part, expr_part, slots, form, view_ok}
-use Rattle.swc_nodes.specs.{declared.node.ExprId.ExprId, declared.node.PatId.PatId, declared.node.Node.Node, declared.node.Node.Node as n, declared.node.PatPropNode.PatPropNode, declared.node.PatPropNode.PatPropNode as pat_prop, declared.node.PropNode.PropNode, declared.node.PropNode.PropNode as prop, declared.node.TargetNode.TargetNode, declared.node.TargetNode.TargetNode as target}
+use Rattle.swc_cover.specs.Wanted.{all_holes, left_as, want, want_parts, put_prop, pat_elems, pat_props, rest_ok}
+use Rattle.swc_cover.specs.Roles.{sought}
+use Rattle.swc_cover.proofs.Covers.{keep-is, keeps-by, holes-same, span-want, two-are}
+use Rattle.swc_nodes.proofs.Along.{Same, node-along, key-along}
+use Rattle.swc_nodes.specs.NodeTree.{part_tree, pat_elem_of, target_of, prop_of, pat_prop_of, marked_tree}
+use Rattle.swc_nodes.specs.NodeParts.{Part, View, Form, target_expr, other_expr, target_pat, other_pat, expr, pat, simple, pattern, flat, if_some, item_parts, key_parts, one_expr, prop_parts, target_part, slots, form, view_ok}
+use Rattle.swc_nodes.specs.Recasting.{part_as, part_for, left_for, item_for, elems_for, prop_for, props_for, one_or_none, all_none, bare_part, bare_some, bare_prop}
+use Rattle.swc_nodes.specs.Roles.{Due, keep, expr_due, left_due, rest_role, item_dues, elem_dues, prop_dues, part_dues, pat_elem_dues, pat_prop_dues, is_empty, becomes_as, bound_as, assigned_as, rebound_as, rest_as, again_as, dues_of, ready}
+use Rattle.swc_nodes.specs.Turning.{Became, IsRecast, Law, OfKind, became, kind_of, own_place}
+use Rattle.swc_nodes.specs.{declared.node.ExprId.ExprId, declared.node.Node.Node, declared.node.Node.Node as n, declared.node.PatElem.PatElem, declared.node.PatElem.PatElem as elem, declared.node.PatPart.PatPart, declared.node.PatPart.PatPart as of_pat, declared.node.PatPropNode.PatPropNode, declared.node.PatPropNode.PatPropNode as pat_prop, declared.node.PropNode.PropNode, declared.node.PropNode.PropNode as prop, declared.node.TargetNode.TargetNode, declared.node.TargetNode.TargetNode as target, declared.role.Becomes.Becomes, declared.role.Becomes.Becomes as to, declared.role.Role.Role, declared.role.Role.Role as role}
 
 -- whether a tree is a pattern, by what its part is
 abbrev pub Shaped : {F C K : Type 0} → View → Tree F C K → Type 0
@@ -24,349 +24,464 @@ Shaped simple t = is_pattern t ≡ false
 Shaped pattern t = is_pattern t ≡ true
 Shaped v t = Unit {0}
 
--- whether all parts are kept
-abbrev keeps_all : Becomes → Bool
-keeps_all Held = true
-keeps_all Ident = true
-keeps_all Nothing = true
-keeps_all (Instead s) = true
-keeps_all b = false
+pub simple-expr : (f : Form) → view_ok simple f ≡ true → view_ok expr f ≡ true
+simple-expr target_expr h = refl
+simple-expr other_expr h = refl
+simple-expr target_pat h = cc
+simple-expr other_pat h = cc
 
--- what is due became what it is to
-abbrev pub SameDue : {F C K : Type 0} → (ℕ → Tree F C K) → (ℕ → Tree F C K) → List Due → Type 0
-SameDue at old [] = Unit {0}
-SameDue at old (q ∷ qs) = (at q.part.at ≡ sought q.role (old q.part.at)) × SameDue at old qs
+pub pattern-pat : (f : Form) → view_ok pattern f ≡ true → view_ok pat f ≡ true
+pattern-pat target_pat h = refl
+pattern-pat other_pat h = cc
+pattern-pat target_expr h = cc
+pattern-pat other_expr h = cc
+
+-- how a tree becomes a pattern that is assigned to, by how its node does
+abbrev pub by_node : Becomes → wanted.Becomes
+by_node to.Held = wanted.Held
+by_node to.Ident = wanted.Ident
+by_node to.Array = wanted.Array
+by_node to.Object = wanted.Object
+by_node to.Default = wanted.Default
+by_node b = wanted.Nothing
 
 module _ {F C K : Type 0} where
-  -- ---- nodes whose parts are kept
+  abbrev as_held : Tree F C K → Tree F C K
+  as_held t = node pat_expr (span_of t) (cons t nil)
 
-  bound-is : (k : Kind F C K) (s : Span) (ts : Trees F C K) → keeps_all (bound_as k) ≡ true →
-      shallow_as (bound_as k) (node k s ts) ≡ want wanted.Bind (node k s ts)
-  bound-is (ident w) s ts h = ap (node (ident w) s) (sym (keeps-by wanted.Ident wanted.Bind (ident w) (λ t us. refl)
-      ts))
-  bound-is (array_with c) s ts h = cc
-  bound-is (object_with c) s ts h = cc
-  bound-is (assign op.Assign) s ts h = cc
-  bound-is (assign o) s ts h = refl
-  bound-is k s ts h = refl
-
-  assigned-is : (k : Kind F C K) (s : Span) (ts : Trees F C K) → keeps_all (assigned_as k) ≡ true →
-      shallow_as (assigned_as k) (node k s ts) ≡ want wanted.Assign (node k s ts)
-  assigned-is (array_with c) s ts h = cc
-  assigned-is (object_with c) s ts h = cc
-  assigned-is (assign op.Assign) s ts h = cc
-  assigned-is (assign o) s ts h = refl
-  assigned-is k s ts h =
-      ap (λ v. wanted.shallow_as (wanted.assigned_as k) wanted.Assign (node k s v))
-      (sym (keeps-by (wanted.assigned_as k) wanted.Assign k (λ t us. refl) ts))
-
-  rebound-is : (k : Kind F C K) (s : Span) (ts : Trees F C K) → keeps_all (rebound_as k) ≡ true →
-      shallow_as (rebound_as k) (node k s ts) ≡ want wanted.Rebind (node k s ts)
-  rebound-is (ident w) s ts h = cc
-  rebound-is hole s ts h = cc
-  rebound-is (array_with c) s ts h = cc
-  rebound-is (object_with c) s ts h = cc
-  rebound-is rest s ts h = cc
-  rebound-is default s ts h = cc
-  rebound-is invalid s ts h = cc
-  rebound-is k s ts h = refl
-
-  rest-is : (z : Span) (k : Kind F C K) (s : Span) (ts : Trees F C K) →
-      shallow_as (rest_as z k) (node k s ts) ≡ sought (BindRest z) (node k s ts)
-  rest-is z (ident w) s ts = ap (node (ident w) s) (sym (keeps-by wanted.Ident wanted.Bind (ident w) (λ t us. refl) ts))
-  rest-is z (assign op.Assign) s ts = refl
-  rest-is z (assign o) s ts = refl
-  rest-is z k s ts = refl
-
-  again-is : (z : Span) (k : Kind F C K) (s : Span) (ts : Trees F C K) → keeps_all (again_as z k) ≡ true →
-      shallow_as (again_as z k) (node k s ts) ≡ sought (RebindRest z) (node k s ts)
-  again-is z (ident w) s ts h = cc
-  again-is z invalid s ts h = cc
-  again-is z k s ts h = refl
-
-  kept-is : (r : Role) (t : Tree F C K) → keeps_all (becomes_as r (kind_of t)) ≡ true →
-      shallow_as (becomes_as r (kind_of t)) t ≡ sought r t
-  kept-is Keep t h = cc
-  kept-is Bind (node k s ts) h = bound-is k s ts h
-  kept-is Assign (node k s ts) h = assigned-is k s ts h
-  kept-is Rebind (node k s ts) h = rebound-is k s ts h
-  kept-is (BindRest z) (node k s ts) h = rest-is z k s ts
-  kept-is (RebindRest z) (node k s ts) h = again-is z k s ts h
-
-  two-are : {s t u v : Tree F C K} → s ≡ u → t ≡ v → cons s (cons t nil) ≡ cons u (cons v nil)
-  two-are {t = t} {u = u} e f = ap (λ w. cons w (cons t nil)) e ∙ ap (λ w. cons u (cons w nil)) f
-
-  pub tail-is : {t : Tree F C K} {us vs : Trees F C K} → us ≡ vs → cons t us ≡ cons t vs
+  tail-is : {t : Tree F C K} {us vs : Trees F C K} → us ≡ vs → cons t us ≡ cons t vs
   tail-is {t = t} e = ap (cons t) e
 
-  module _ (at old : ℕ → Tree F C K) where
-    pub each-due : (qs : List Due) → ((q : Due) → In q qs → at q.part.at ≡ sought q.role (old q.part.at)) →
-        SameDue at old qs
-    each-due [] h = tt
-    each-due (q ∷ qs) h = (h q (inl refl), each-due qs (λ u i. h u (inr i)))
+  cons-are : {s t : Tree F C K} {us vs : Trees F C K} → s ≡ t → us ≡ vs → cons s us ≡ cons t vs
+  cons-are {t = t} {us = us} e f = ap (λ w. cons w us) e ∙ ap (cons t) f
 
-    due-first : (qs rs : List Due) → SameDue at old (qs ++ rs) → SameDue at old qs
-    due-first [] rs h = tt
-    due-first (q ∷ qs) rs h = (h.0, due-first qs rs h.1)
+  pub want-held : (t : Tree F C K) → wanted.assigned_as (kind_of t) ≡ wanted.Held → want wanted.Assign t ≡ as_held t
+  want-held (node k s ts) h =
+      ap (λ v. wanted.shallow_as v wanted.Assign (node k s (want_parts v wanted.Assign k ts))) h
+      ∙ ap (λ v. as_held (node k s v)) (keeps-by wanted.Held wanted.Assign k (λ t us. refl) ts)
 
-    due-second : (qs rs : List Due) → SameDue at old (qs ++ rs) → SameDue at old rs
-    due-second [] rs h = h
-    due-second (q ∷ qs) rs h = due-second qs rs h.1
+  same-pattern : (k : Kind F C K) (s z : Span) (ts us : Trees F C K) →
+      is_pattern (node k s ts) ≡ is_pattern (node k z us)
+  same-pattern (array_with c) s z ts us = refl
+  same-pattern (object_with c) s z ts us = refl
+  same-pattern k s z ts us = refl
 
-    was-kept : (r : Role) (i : ℕ) → r ≡ Keep → at i ≡ sought r (old i) → at i ≡ old i
-    was-kept r i e h = h ∙ ap (λ v. sought v (old i)) e ∙ keep-is (old i)
+  kind-pattern : (t u : Tree F C K) → kind_of t ≡ kind_of u → is_pattern t ≡ is_pattern u
+  kind-pattern (node k s ts) (node l z us) e = same-pattern k s z ts us ∙ ap (λ v. is_pattern (node v z us)) e
 
-    same-kept : (b : Becomes) (r : Role) (qs : List Role) (ps : List Part) →
-        ((q : Role) (v : View) → child_role b r q v ≡ Keep) → SameDue at old (dues b r qs ps) → Same at old ps
-    same-kept b r [] [] e h = tt
-    same-kept b r (q ∷ qs) [] e h = tt
-    same-kept b r [] (p ∷ ps) e h = (
-      was-kept (child_role b r Keep p.view) p.at (e Keep p.view) h.0,
-      same-kept b r []
-          ps e h.1,
-    )
-    same-kept b r (q ∷ qs) (p ∷ ps) e h = (
-      was-kept (child_role b r q p.view) p.at (e q p.view) h.0,
-      same-kept b r qs
-          ps e h.1,
-    )
+  no-hole : (o : Option Span) (t : Tree F C K) (ts : Trees F C K) → all_holes (cons (item_of o t) ts) ≡ false
+  no-hole None t ts = refl
+  no-hole (Some d) t ts = refl
 
-    abbrev ats : ExprId → Tree F C K
-    ats e = at e.0
+module _ {F C K : Type 0} (fun_at : F → Span) (class_at : C → Span) (block_at : K → Span) where
+  -- whether a node's tree is a pattern, by its form
+  pub shaped : (at : ℕ → Tree F C K) (v : View) (x : Node F C K) → view_ok v (form x) ≡ true →
+      Shaped v (marked_tree fun_at class_at block_at at x)
+  shaped at expr x h = tt
+  shaped at pat x h = tt
+  shaped at simple (n.Array s elems c) h = cc
+  shaped at simple (n.Object s props c) h = cc
+  shaped at simple (n.PatArray s elems) h = cc
+  shaped at simple (n.PatObject s props) h = cc
+  shaped at simple x h = refl
+  shaped at pattern (n.PatArray s elems) h = refl
+  shaped at pattern (n.PatObject s props) h = refl
+  shaped at pattern x h = cc
 
-    abbrev olds : ExprId → Tree F C K
-    olds e = old e.0
+  pub assigned-how : (at : ℕ → Tree F C K) (x : Node F C K) → view_ok expr (form x) ≡ true →
+      wanted.assigned_as (kind_of (marked_tree fun_at class_at block_at at x)) ≡ by_node (assigned_as x)
+  assigned-how at (n.PatIdent b) h = cc
+  assigned-how at (n.PatArray s elems) h = cc
+  assigned-how at (n.PatObject s props) h = cc
+  assigned-how at (n.Assign s op.Assign l r) h = refl
+  assigned-how at (n.Assign s o l r) h = refl
+  assigned-how at x h = refl
 
-    -- ---- the elements of an array
+module _ {F C K : Type 0} (fun_at : F → Span) (class_at : C → Span) (block_at : K → Span) (at : ℕ → Node F C K)
+    (old now : ℕ → Tree F C K) where
+  abbrev tree_was : Node F C K → Tree F C K
+  tree_was = marked_tree fun_at class_at block_at old
 
-    pub item-dressed : (w : wanted.Role) (k : Kind F C K) (o : Option Span) (s t : Tree F C K) (us vs : Trees F C K) →
-        s ≡ want w t → us ≡ want_parts wanted.Array w k vs →
-        cons (item_of o s) us ≡ want_parts wanted.Array w k (cons (item_of o t) vs)
-    item-dressed w k None s t us vs e f = ap (λ v. cons (item_of None v) us) e ∙ ap (cons (item_of None (want w t))) f
-    item-dressed w k (Some d) s t us vs e f = ap (λ v. cons (item_of (Some d) v) us) e
-        ∙ ap (cons (item_of (Some d) (want w t))) f
+  abbrev tree_now : Node F C K → Tree F C K
+  tree_now = marked_tree fun_at class_at block_at now
 
-    items-dressed : (r : Role) (w : wanted.Role) (k : Kind F C K) → ((t : Tree F C K) → sought r t ≡ want w t) →
-        (xs : List (Option (ExprOrSpread ExprId))) → SameDue at old (dues Array r [] (flat (if_some item_parts) xs)) →
-        trees (map (or_hole (item_tree ats)) xs) ≡ want_parts wanted.Array w k
-        (trees (map (or_hole (item_tree olds)) xs))
-    items-dressed r w k e [] h = refl
-    items-dressed r w k e (None ∷ xs) h = ap (cons no_tree) (items-dressed r w k e xs h)
-    items-dressed r w k e (Some x ∷ xs) h =
-        item-dressed w k x.spread (ats x.expr) (olds x.expr) _ _ (h.0 ∙ e (olds x.expr)) (items-dressed r w k e xs h.1)
+  abbrev olds : ExprId → Tree F C K
+  olds e = old e.0
 
-    pats-dressed : (xs : List (Option PatId)) → SameDue at old (dues AsIs Rebind [] (flat (if_some one_pat) xs)) →
-        trees (map (or_hole (λ (q : PatId). at q.0)) xs) ≡ want_parts wanted.Same wanted.Rebind array
-        (trees (map (or_hole (λ (q : PatId). old q.0)) xs))
-    pats-dressed [] h = refl
-    pats-dressed (None ∷ xs) h = ap (cons no_tree) (pats-dressed xs h)
-    pats-dressed (Some x ∷ xs) h =
-        ap (λ w. cons w (trees (map (or_hole (λ (q : PatId). at q.0)) xs))) h.0
-        ∙ ap (cons (want wanted.Rebind (old x.0))) (pats-dressed xs h.1)
+  abbrev nows : ExprId → Tree F C K
+  nows e = now e.0
 
-    -- ---- the properties of an object
+  abbrev Did : List Due → Type 0
+  Did qs = Became fun_at class_at block_at sought at old now qs
 
-    same-keeps : (b : Becomes) (r : Role) (ps : List Part) → ((q : Role) (v : View) → child_role b r q v ≡ q) →
-        SameDue at old (dues b r (kept ps) ps) → Same at old ps
-    same-keeps b r [] e h = tt
-    same-keeps b r (p ∷ ps) e h = (
-      was-kept (child_role b r Keep p.view) p.at (e Keep p.view) h.0,
-      same-keeps b r ps e
-          h.1,
-    )
+  abbrev Are : List Part → Type 0
+  Are ps = OfKind fun_at class_at block_at at old ps
 
-    key-dressed : (b : Becomes) (r q : Role) (k : PropName ExprId) (p : Part) →
-        ((q : Role) (v : View) → child_role b r q v ≡ q) → SameDue at old
-        (dues b r (kept (key_parts k) ++ q ∷ []) (key_parts k ++ p ∷ [])) →
-        (prop_name_tree ats k ≡ prop_name_tree olds k) × (at p.at ≡ sought q (old p.at))
-    key-dressed b r q k p e h =
-        let g = subst (SameDue at old) (dues-both b r (kept (key_parts k)) (q ∷ []) (key_parts k) (p ∷ [])
-        (kept-long (key_parts k))) h in
-        let f = due-first (dues b r (kept (key_parts k)) (key_parts k)) (dues b r (q ∷ []) (p ∷ [])) g in
-        let s = due-second (dues b r (kept (key_parts k)) (key_parts k)) (dues b r (q ∷ []) (p ∷ [])) g in (
-          key-along at old k (same-keeps b r (key_parts k) e f),
-          s.0 ∙ ap (λ v. sought v (old p.at)) (e q p.view),
-        )
+  did-first : (qs rs : List Due) → Did (qs ++ rs) → Did qs
+  did-first [] rs h = tt
+  did-first (q ∷ qs) rs h = (h.0, did-first qs rs h.1)
 
-    module _ (fun_at : F → Span) (class_at : C → Span) (block_at : K → Span) where
-      abbrev tree_now : Node F C K → Tree F C K
-      tree_now = marked_tree fun_at class_at block_at at
+  did-second : (qs rs : List Due) → Did (qs ++ rs) → Did rs
+  did-second [] rs h = h
+  did-second (q ∷ qs) rs h = did-second qs rs h.1
 
-      abbrev tree_was : Node F C K → Tree F C K
-      tree_was = marked_tree fun_at class_at block_at old
+  are-first : (ps qs : List Part) → Are (ps ++ qs) → Are ps
+  are-first [] qs h = tt
+  are-first (p ∷ ps) qs h = (h.0, are-first ps qs h.1)
 
-      abbrev prop_now : PropNode K → Tree F C K
-      prop_now = prop_of fun_at class_at block_at at
+  are-second : (ps qs : List Part) → Are (ps ++ qs) → Are qs
+  are-second [] qs h = h
+  are-second (p ∷ ps) qs h = are-second ps qs h.1
 
-      abbrev prop_was : PropNode K → Tree F C K
-      prop_was = prop_of fun_at class_at block_at old
+  kept-same : (ps : List Part) → Did (map keep ps) → Same now old ps
+  kept-same [] h = tt
+  kept-same (p ∷ ps) h = (h.0, kept-same ps h.1)
 
-      put-key : (w : wanted.Role) (s : Span) (k l t u : Tree F C K) (us vs : Trees F C K) → k ≡ l → t ≡ want w u →
-          us ≡ vs →
-          put_prop wanted.Assign (node key_value s (cons k (cons t nil))) us ≡ put_prop w
-          (want (wanted.Inside w) (node key_value s (cons l (cons u nil)))) vs
-      put-key w s k l t u us vs e f g =
-          ap (λ v. cons (node key_value s v) us) (two-are (e ∙ sym (keep-is l)) f)
-          ∙ ap (cons (node key_value s (cons (want wanted.Keep l) (cons (want w u) nil)))) g
+  -- a node whose parts are kept
+  stays : (x y : Node F C K) → y ≡ x → Did (map keep (slots x)) → tree_now y ≡ tree_was x
+  stays x y e h = ap tree_now e ∙ node-along now old fun_at class_at block_at x (kept-same (slots x) h)
 
-      bound-prop : (p : PropNode K) (us vs : Trees F C K) → us ≡ vs →
-          SameDue at old (dues Object Bind (prop_places Bind p) (prop_parts p)) →
-          put_prop wanted.Assign (prop_now p) us ≡ put_prop wanted.Bind (want (wanted.Inside wanted.Bind) (prop_was p))
-          vs
-      bound-prop (prop.Spread s) us vs e h = ap (λ v. cons (node rest s.span
-          (cons (leaf dots s.dot3_token) (cons v nil))) us) h.0 ∙ tail-is e
-      bound-prop (prop.Shorthand i) us vs e h = tail-is e
-      bound-prop (prop.KeyValue s k v) us vs e h =
-          let d = key-dressed Object Bind Bind k (expr_part v) (λ q v. refl) h in
-          put-key wanted.Bind s _ _ _ _ us vs d.0 d.1 e
-      bound-prop (prop.Assign p) us vs e h = ap (λ v. cons (node binding_prop p.span
-          (cons (leaf (ident p.key.sym) p.key.span) (cons v nil))) us) h.0 ∙ tail-is e
-      bound-prop p us vs e h = e
+  -- ---- a part that becomes a pattern
 
-      assigned-prop : (p : PropNode K) (us vs : Trees F C K) → us ≡ vs →
-          SameDue at old (dues Object Assign (prop_places Assign p) (prop_parts p)) →
-          put_prop wanted.Assign (prop_now p) us ≡ put_prop wanted.Assign
-          (want (wanted.Inside wanted.Assign) (prop_was p)) vs
-      assigned-prop (prop.Spread s) us vs e h = ap (λ v. cons
-          (node rest s.span (cons (leaf dots s.dot3_token) (cons v nil))) us) h.0 ∙ tail-is e
-      assigned-prop (prop.Shorthand i) us vs e h = tail-is e
-      assigned-prop (prop.KeyValue s k v) us vs e h =
-          let d = key-dressed Object Assign Assign k (expr_part v) (λ q v. refl) h in
-          put-key wanted.Assign s _ _ _ _ us vs d.0 d.1 e
-      assigned-prop (prop.Assign p) us vs e h = ap (λ v. cons
-          (node binding_prop p.span (cons (leaf (ident p.key.sym) p.key.span) (cons v nil))) us) h.0 ∙ tail-is e
-      assigned-prop p us vs e h = e
+  abbrev BecameOne : Becomes → Role → ℕ → Type 0
+  BecameOne b r i = now i ≡ became sought b r (old i)
 
-      props-dressed : (r : Role) (w : wanted.Role) (k : Kind F C K) →
-          ((p : PropNode K) (us vs : Trees F C K) → us ≡ vs → SameDue at old
-          (dues Object r (prop_places r p) (prop_parts p)) →
-          put_prop wanted.Assign (prop_now p) us ≡ put_prop w (want (wanted.Inside w) (prop_was p)) vs) →
-          (xs : List (PropNode K)) → SameDue at old (dues Object r (flat (prop_places r) xs) (flat prop_parts xs)) →
-          pat_props wanted.Assign (trees (map prop_now xs)) ≡ pat_props w
-          (want_parts wanted.Object w k (trees (map prop_was xs)))
-      props-dressed r w k f [] h = refl
-      props-dressed r w k f (x ∷ xs) h =
-          let g = subst (SameDue at old) (dues-both Object r (prop_places r x) (flat (prop_places r) xs) (prop_parts x)
-          (flat prop_parts xs) (prop-long r x)) h in
-          let a = due-first (dues Object r (prop_places r x) (prop_parts x))
-          (dues Object r (flat (prop_places r) xs) (flat prop_parts xs)) g in
-          let b = due-second (dues Object r (prop_places r x) (prop_parts x))
-          (dues Object r (flat (prop_places r) xs) (flat prop_parts xs)) g in
-          f x _ _ (props-dressed r w k f xs b) a
+  -- the tree of a node alone
+  abbrev bare : ℕ → Tree F C K
+  bare i = marked_tree fun_at class_at block_at (λ j. no_tree) (at i)
 
-      abbrev pat_prop_now : PatPropNode → Tree F C K
-      pat_prop_now = pat_prop_of fun_at class_at block_at at
+  -- an expression of this kind
+  abbrev Is : ExprId → Type 0
+  Is e = (kind_of (old e.0) ≡ kind_of (bare e.0)) × (view_ok expr (form (at e.0)) ≡ true)
 
-      abbrev pat_prop_was : PatPropNode → Tree F C K
-      pat_prop_was = pat_prop_of fun_at class_at block_at old
+  bound-by : (x : Node F C K) (e : ExprId) → BecameOne (bound_as x) role.Bind e.0 →
+      part_tree now (part_as (bound_as x) e) ≡ want wanted.Bind (old e.0)
+  bound-by (n.Ident i) e h = h
+  bound-by (n.Array s elems c) e h = h
+  bound-by (n.Object s props c) e h = h
+  bound-by (n.Assign s op.Assign l r) e h = h
+  bound-by (n.Assign s o l r) e h = h
+  bound-by x e h = h
 
-      pat-prop-dressed : (p : PatPropNode) (us vs : Trees F C K) → us ≡ vs →
-          SameDue at old (dues PatObject Rebind (pat_prop_places Rebind p) (pat_prop_parts p)) →
-          cons (pat_prop_now p) us ≡ put_prop wanted.Rebind (want (wanted.Inside wanted.Rebind) (pat_prop_was p)) vs
-      pat-prop-dressed (pat_prop.KeyValue s k v) us vs e h =
-          let d = key-dressed PatObject Rebind Rebind k (record { at = v.0; view = pat }) (λ q v. refl) h in
-          put-key wanted.Rebind s _ _ _ _ us vs d.0 d.1 e
-      pat-prop-dressed (pat_prop.Assign s k None) us vs e h = tail-is e
-      pat-prop-dressed (pat_prop.Assign s k (Some v)) us vs e h = ap
-          (λ w. cons (node binding_prop s (cons (leaf (ident k.id.sym) k.id.span) (cons w nil))) us) h.0 ∙ tail-is e
-      pat-prop-dressed (pat_prop.Rest s d p) us vs e h = ap (λ w. cons (node rest s (cons (leaf dots d) (cons w nil)))
-          us) h.0 ∙ tail-is e
+  assigned-by : (b : Becomes) (e : ExprId) → wanted.assigned_as (kind_of (old e.0)) ≡ by_node b →
+      BecameOne b role.Assign e.0 → part_tree now (part_as b e) ≡ want wanted.Assign (old e.0)
+  assigned-by to.Held e k h = ap as_held h ∙ sym (want-held (old e.0) k)
+  assigned-by b e k h = h
 
-      pat-props-dressed : (xs : List PatPropNode) → SameDue at old
-          (dues PatObject Rebind (flat (pat_prop_places Rebind) xs) (flat pat_prop_parts xs)) →
-          trees (map pat_prop_now xs) ≡ pat_props wanted.Rebind
-          (want_parts wanted.Objects wanted.Rebind object (trees (map pat_prop_was xs)))
-      pat-props-dressed [] h = refl
-      pat-props-dressed (x ∷ xs) h =
-          let g = subst (SameDue at old) (dues-both PatObject Rebind (pat_prop_places Rebind x)
-          (flat (pat_prop_places Rebind) xs) (pat_prop_parts x) (flat pat_prop_parts xs) (pat-prop-long Rebind x))
-          h in
-          let a = due-first (dues PatObject Rebind (pat_prop_places Rebind x) (pat_prop_parts x))
-          (dues PatObject Rebind (flat (pat_prop_places Rebind) xs) (flat pat_prop_parts xs)) g in
-          let b = due-second (dues PatObject Rebind (pat_prop_places Rebind x) (pat_prop_parts x))
-          (dues PatObject Rebind (flat (pat_prop_places Rebind) xs) (flat pat_prop_parts xs)) g in
-          pat-prop-dressed x _ _ (pat-props-dressed xs b) a
+  rebound-by : (x : Node F C K) (i : ℕ) → BecameOne (rebound_as x) role.Rebind i → now i ≡ want wanted.Rebind (old i)
+  rebound-by (n.PatIdent b) i h = h
+  rebound-by (n.PatInvalid b) i h = h
+  rebound-by (n.PatArray s elems) i h = h
+  rebound-by (n.PatObject s props) i h = h
+  rebound-by (n.PatRest s d p) i h = h
+  rebound-by (n.PatAssign s l r) i h = h
+  rebound-by x i h = h
 
-      -- ---- all parts are what they were
+  rest-by : (s : Span) (x : Node F C K) (e : ExprId) → BecameOne (rest_as s x) (role.BindRest s) e.0 →
+      part_tree now (part_as (rest_as s x) e) ≡ sought (role.BindRest s) (old e.0)
+  rest-by s (n.Ident i) e h = h
+  rest-by s x e h = h
 
-      still : (r : Role) (x : Node F C K) → ((q : Role) (v : View) → child_role
-          (becomes_in fun_at class_at block_at r x) r q v ≡ Keep) → SameDue at old
-          (dues_in fun_at class_at block_at r x) → tree_now x ≡ tree_was x
-      still r x e h = node-along at old fun_at class_at block_at x
-          (same-kept (becomes_in fun_at class_at block_at r x) r (places r x) (slots x) e h)
+  again-by : (s : Span) (x : Node F C K) (i : ℕ) → BecameOne (again_as s x) (role.RebindRest s) i →
+      now i ≡ sought (role.RebindRest s) (old i)
+  again-by s (n.PatIdent b) i h = h
+  again-by s (n.PatInvalid b) i h = h
+  again-by s (n.PatExpr e) i h = h
+  again-by s x i h = h
 
-      left-bound : (l : TargetNode) → at (target_part l).at ≡ sought
-          (child_role Default Bind Keep (target_part l).view) (old (target_part l).at) →
-          Shaped (target_part l).view (old (target_part l).at) →
-          target_of fun_at class_at block_at at l ≡ want (left_as wanted.Bind
-          (is_pattern (target_of fun_at class_at block_at old l))) (target_of fun_at class_at block_at old l)
-      left-bound (target.Simple e) h s = h ∙ ap (λ b. want (left_as wanted.Bind b) (old e.0)) (sym s)
-      left-bound (target.Pat e) h s = h ∙ ap (λ b. want (left_as wanted.Bind b) (old e.0)) (sym s)
+  -- what a part becomes by its role, and what an object's rest holds
+  record Literal (r : Role) (w : wanted.Role) : Type 0 where
+    part : (e : ExprId) → Is e → BecameOne (becomes_as r (at e.0)) r e.0 →
+        part_tree now (part_for at r e) ≡ want w (old e.0)
+    held : (s : Span) (e : ExprId) → Is e → BecameOne (becomes_as (rest_role r s) (at e.0)) (rest_role r s) e.0 →
+        part_tree now (part_for at (rest_role r s) e)
+        ≡ (if rest_ok w (want w (old e.0)) then want w (old e.0) else leaf invalid s)
 
-      left-assigned : (l : TargetNode) → at (target_part l).at ≡ sought
-          (child_role Default Assign Keep (target_part l).view) (old (target_part l).at) →
-          Shaped (target_part l).view (old (target_part l).at) →
-          target_of fun_at class_at block_at at l ≡ want (left_as wanted.Assign
-          (is_pattern (target_of fun_at class_at block_at old l))) (target_of fun_at class_at block_at old l)
-      left-assigned (target.Simple e) h s = h ∙ ap (λ b. want (left_as wanted.Assign b) (old e.0)) (sym s)
-      left-assigned (target.Pat e) h s = h ∙ ap (λ b. want (left_as wanted.Assign b) (old e.0)) (sym s)
+  binding : Literal role.Bind wanted.Bind
+  binding = record { part = λ e i h. bound-by (at e.0) e h; held = λ s e i h. rest-by s (at e.0) e h }
 
-      pub dressed : (r : Role) (x : Node F C K) → ready r (form x) ≡ true →
-          SameDue at old (dues_in fun_at class_at block_at r x) →
-          ((p : Part) → In p (slots x) → Shaped p.view (old p.at)) →
-          shallow_as (becomes_in fun_at class_at block_at r x) (tree_now x) ≡ sought r (tree_was x)
-      dressed Keep x k h s = still Keep x (λ q v. refl) h ∙ sym (keep-is (tree_was x))
-      dressed Bind (n.Array s elems c) k h t = ap (λ v. node array s (pat_elems v))
-          (items-dressed Bind wanted.Bind (array_with c) (λ u. refl) elems.items h)
-      dressed Bind (n.Object s props c) k h t = ap (node object s)
-          (props-dressed Bind wanted.Bind (object_with c) bound-prop props.items h)
-      dressed Bind (n.PatArray s elems) k h t = cc
-      dressed Bind (n.PatObject s props) k h t = cc
-      dressed Bind (n.Assign s op.Assign l r) k h t = ap (node default s)
-          (two-are (left-bound l h.0 (t (target_part l) (inl refl))) h.1.0)
-      dressed Bind x k h t = ap (shallow_as (becomes_in fun_at class_at block_at Bind x))
-          (still Bind x (λ q v. refl) h) ∙ kept-is Bind (tree_was x) refl
-      dressed Assign (n.Array s elems c) k h t = ap (λ v. node array s (pat_elems v))
-          (items-dressed Assign wanted.Assign (array_with c) (λ u. refl) elems.items h)
-      dressed Assign (n.Object s props c) k h t = ap (node object s)
-          (props-dressed Assign wanted.Assign (object_with c) assigned-prop props.items h)
-      dressed Assign (n.PatArray s elems) k h t = cc
-      dressed Assign (n.PatObject s props) k h t = cc
-      dressed Assign (n.Assign s op.Assign l r) k h t = ap (node default s)
-          (two-are (left-assigned l h.0 (t (target_part l) (inl refl))) h.1.0)
-      dressed Assign x k h t = ap (shallow_as (becomes_in fun_at class_at block_at Assign x))
-          (still Assign x (λ q v. refl) h) ∙ kept-is Assign (tree_was x) refl
-      dressed Rebind (n.Array s elems c) k h t = cc
-      dressed Rebind (n.Object s props c) k h t = cc
-      dressed Rebind (n.PatArray s elems) k h t = ap (node array s) (pats-dressed elems.items h)
-      dressed Rebind (n.PatObject s props) k h t = ap (node object s) (pat-props-dressed props.items h)
-      dressed Rebind (n.PatRest s d p) k h t = ap (λ w. node rest s (cons (leaf dots d) (cons w nil))) h.0
-      dressed Rebind (n.PatAssign s l r) k h t = ap (node default s) (two-are h.0 h.1.0)
-      dressed Rebind (n.PatIdent b) k h t = refl
-      dressed Rebind (n.PatInvalid i) k h t = refl
-      dressed Rebind (n.Ident i) k h t = refl
-      dressed Rebind (n.Invalid i) k h t = refl
-      dressed Rebind x k h t = ap (shallow_as (becomes_in fun_at class_at block_at Rebind x))
-          (still Rebind x (λ q v. refl) h) ∙ kept-is Rebind (tree_was x) refl
-      dressed (BindRest z) (n.Ident i) k h t = refl
-      dressed (BindRest z) x k h t = ap (shallow_as (becomes_in fun_at class_at block_at (BindRest z) x))
-          (still (BindRest z) x (λ q v. refl) h) ∙ kept-is (BindRest z) (tree_was x) refl
-      dressed (RebindRest z) (n.PatIdent b) k h t = refl
-      dressed (RebindRest z) (n.PatInvalid i) k h t = refl
-      dressed (RebindRest z) (n.Ident i) k h t = refl
-      dressed (RebindRest z) (n.Invalid i) k h t = refl
-      dressed (RebindRest z) x k h t = ap (shallow_as (becomes_in fun_at class_at block_at (RebindRest z) x))
-          (still (RebindRest z) x (λ q v. refl) h) ∙ kept-is (RebindRest z) (tree_was x) refl
+  assigned : (e : ExprId) → Is e → BecameOne (assigned_as (at e.0)) role.Assign e.0 →
+      part_tree now (part_for at role.Assign e) ≡ want wanted.Assign (old e.0)
+  assigned e i h =
+      assigned-by (assigned_as (at e.0)) e
+      (ap wanted.assigned_as i.0 ∙ assigned-how fun_at class_at block_at (λ j. no_tree) (at e.0) i.1) h
 
-      -- whether a node's tree is a pattern, by its form
-      pub shaped : (v : View) (x : Node F C K) → view_ok v (form x) ≡ true → Shaped v (tree_was x)
-      shaped expr x h = tt
-      shaped pat x h = tt
-      shaped simple (n.Array s elems c) h = cc
-      shaped simple (n.Object s props c) h = cc
-      shaped simple (n.PatArray s elems) h = cc
-      shaped simple (n.PatObject s props) h = cc
-      shaped simple x h = refl
-      shaped pattern (n.PatArray s elems) h = refl
-      shaped pattern (n.PatObject s props) h = refl
-      shaped pattern x h = cc
+  assigning : Literal role.Assign wanted.Assign
+  assigning = record { part = assigned; held = λ s e i h. assigned e i h }
+
+  bare-by : (p : PatPart) → Did (part_dues role.Rebind p) →
+      part_tree now (bare_part p) ≡ want wanted.Rebind (part_tree old p)
+  bare-by (of_pat.Pat p) h = rebound-by (at p.0) p.0 h.0
+  bare-by (of_pat.Expr e) h = h.0
+
+  bare-rest : (s : Span) (p : PatPart) → Did (part_dues (role.RebindRest s) p) →
+      part_tree now (bare_part p) ≡ sought (role.RebindRest s) (part_tree old p)
+  bare-rest s (of_pat.Pat p) h = again-by s (at p.0) p.0 h.0
+  bare-rest s (of_pat.Expr e) h = h.0
+
+  -- ---- the elements of an array
+
+  none-holes : (es : List (Option (ExprOrSpread ExprId))) →
+      all_holes (trees (map (or_hole (item_tree olds)) es)) ≡ all_none es
+  none-holes [] = refl
+  none-holes (None ∷ es) = none-holes es
+  none-holes (Some x ∷ es) = no-hole x.spread (olds x.expr) (trees (map (or_hole (item_tree olds)) es))
+
+  abbrev pats_now : List (Option PatElem) → Trees F C K
+  pats_now es = trees (map (or_hole (pat_elem_of now)) es)
+
+  abbrev elems_was : List (Option (ExprOrSpread ExprId)) → Trees F C K
+  elems_was es = trees (map (or_hole (item_tree olds)) es)
+
+  abbrev place : ℕ → Span
+  place i = span_of (old i)
+
+  hole-both : (b : Bool) (ps : List (Option PatElem)) (us : Trees F C K) → pats_now ps ≡ us →
+      pats_now (if b then [] else None ∷ ps) ≡ (if b then nil else cons no_tree us)
+  hole-both true ps us h = refl
+  hole-both false ps us h = ap (cons no_tree) h
+
+  module _ (r : Role) (w : wanted.Role) (k : Kind F C K) (l : Literal r w) where
+    elem-dressed : (o : Option Span) (e : ExprId) (es : List (Option (ExprOrSpread ExprId))) → Is e →
+        (Did (elem_dues r es) →
+        pats_now (elems_for at place r es) ≡ pat_elems (want_parts wanted.Array w k (elems_was es))) →
+        Did (item_dues r (is_empty es) o e ++ elem_dues r es) →
+        pats_now (item_for at place r (is_empty es) o e ++ elems_for at place r es)
+        ≡ pat_elems (want_parts wanted.Array w k (cons (item_of o (olds e)) (elems_was es)))
+    elem-dressed None e es i next h = cons-are (l.part e i h.0) (next h.1)
+    elem-dressed (Some d) e [] i next h =
+        ap (λ v. cons (node rest (place e.0) (cons (leaf dots d) (cons v nil))) nil) (l.part e i h.0)
+        ∙ ap (λ v. cons (node rest v (cons (leaf dots d) (cons (want w (olds e)) nil))) nil)
+        (sym (span-want w (olds e)))
+    elem-dressed (Some d) e (f ∷ es) i next h = next h
+
+    elems-dressed : (es : List (Option (ExprOrSpread ExprId))) → Are (flat (if_some item_parts) es) →
+        Did (elem_dues r es) →
+        pats_now (elems_for at place r es) ≡ pat_elems (want_parts wanted.Array w k (elems_was es))
+    elems-dressed [] a h = refl
+    elems-dressed (None ∷ es) a h =
+        let us = pat_elems (want_parts wanted.Array w k (elems_was es)) in
+        hole-both (all_none es) (elems_for at place r es) us (elems-dressed es a h)
+        ∙ ap (λ b. if b then nil else cons no_tree us) (sym (holes-same w k (elems_was es) ∙ none-holes es))
+    elems-dressed (Some x ∷ es) a h = elem-dressed x.spread x.expr es a.0 (elems-dressed es a.1) h
+
+  -- ---- the elements of an array pattern that binds
+
+  bare-elems : (es : List (Option PatElem)) → Did (flat pat_elem_dues es) →
+      pats_now (map bare_some es)
+      ≡ want_parts wanted.Same wanted.Rebind array (trees (map (or_hole (pat_elem_of old)) es))
+  bare-elems [] h = refl
+  bare-elems (None ∷ es) h = tail-is (bare-elems es h)
+  bare-elems (Some (elem.Item p) ∷ es) h =
+      let qs = part_dues role.Rebind p in
+      cons-are (bare-by p (did-first qs (flat pat_elem_dues es) h))
+      (bare-elems es (did-second qs (flat pat_elem_dues es) h))
+  bare-elems (Some (elem.Rest s d p) ∷ es) h =
+      let qs = part_dues role.Rebind p in
+      cons-are (ap (λ v. node rest s (cons (leaf dots d) (cons v nil)))
+      (bare-by p (did-first qs (flat pat_elem_dues es) h)))
+      (bare-elems es (did-second qs (flat pat_elem_dues es) h))
+
+  -- ---- the properties of an object
+
+  key-same : (k : PropName ExprId) (qs : List Due) → Did (map keep (key_parts k) ++ qs) →
+      prop_name_tree nows k ≡ want wanted.Keep (prop_name_tree olds k)
+  key-same k qs h =
+      key-along now old k (kept-same (key_parts k) (did-first (map keep (key_parts k)) qs h))
+      ∙ sym (keep-is (prop_name_tree olds k))
+
+  abbrev pat_prop_now : PatPropNode → Tree F C K
+  pat_prop_now = pat_prop_of fun_at class_at block_at now
+
+  abbrev props_now : List PatPropNode → Trees F C K
+  props_now ps = trees (map pat_prop_now ps)
+
+  abbrev prop_was : PropNode K → Tree F C K
+  prop_was = prop_of fun_at class_at block_at old
+
+  abbrev pat_prop_was : PatPropNode → Tree F C K
+  pat_prop_was = pat_prop_of fun_at class_at block_at old
+
+  module _ (r : Role) (w : wanted.Role) (l : Literal r w) where
+    prop-dressed : (p : PropNode K) (ps : List PatPropNode) (us : Trees F C K) → props_now ps ≡ us →
+        Are (prop_parts p) → Did (prop_dues r p) →
+        props_now (one_or_none (prop_for at r p) ++ ps) ≡ put_prop w (want (wanted.Inside w) (prop_was p)) us
+    prop-dressed (prop.Spread s) ps us e a h =
+        cons-are (ap (λ v. node rest s.span (cons (leaf dots s.dot3_token) (cons v nil)))
+        (l.held s.span s.expr a.0 h.0)) e
+    prop-dressed (prop.Shorthand i) ps us e a h = tail-is e
+    prop-dressed (prop.KeyValue s k v) ps us e a h =
+        cons-are (ap (node key_value s) (two-are (key-same k (expr_due r v ∷ []) h)
+        (l.part v (are-second (key_parts k) (one_expr v) a).0
+        (did-second (map keep (key_parts k)) (expr_due r v ∷ []) h).0)))
+        e
+    prop-dressed (prop.Assign p) ps us e a h =
+        cons-are (ap (λ v. node binding_prop p.span (cons (leaf (ident p.key.sym) p.key.span) (cons v nil)))
+        (h.0 ∙ sym (keep-is (olds p.value)))) e
+    prop-dressed p ps us e a h = e
+
+    props-dressed : (k : Kind F C K) (xs : List (PropNode K)) → Are (flat prop_parts xs) → Did (flat (prop_dues r) xs) →
+        props_now (props_for at r xs) ≡ pat_props w (want_parts wanted.Object w k (trees (map prop_was xs)))
+    props-dressed k [] a h = refl
+    props-dressed k (x ∷ xs) a h =
+        prop-dressed x (props_for at r xs) _
+        (props-dressed k xs (are-second (prop_parts x) (flat prop_parts xs) a)
+        (did-second (prop_dues r x) (flat (prop_dues r) xs) h))
+        (are-first (prop_parts x) (flat prop_parts xs) a) (did-first (prop_dues r x) (flat (prop_dues r) xs) h)
+
+  -- ---- the properties of an object pattern that binds
+
+  bare-prop : (p : PatPropNode) (us : Trees F C K) → Did (pat_prop_dues p) →
+      cons (pat_prop_now (bare_prop p)) us
+      ≡ put_prop wanted.Rebind (want (wanted.Inside wanted.Rebind) (pat_prop_was p)) us
+  bare-prop (pat_prop.KeyValue s k v) us h =
+      let qs = part_dues role.Rebind v in
+      cons-are (ap (node key_value s) (two-are (key-same k qs h)
+      (bare-by v (did-second (map keep (key_parts k)) qs h)))) refl
+  bare-prop (pat_prop.Assign s k None) us h = refl
+  bare-prop (pat_prop.Assign s k (Some v)) us h =
+      cons-are (ap (λ w. node binding_prop s (cons (leaf (ident k.id.sym) k.id.span) (cons w nil)))
+      (h.0 ∙ sym (keep-is (olds v)))) refl
+  bare-prop (pat_prop.Rest s d p) us h =
+      cons-are (ap (λ v. node rest s (cons (leaf dots d) (cons v nil))) (bare-rest s p h)) refl
+
+  bare-props : (xs : List PatPropNode) → Did (flat pat_prop_dues xs) →
+      props_now (map bare_prop xs)
+      ≡ pat_props wanted.Rebind (want_parts wanted.Objects wanted.Rebind object (trees (map pat_prop_was xs)))
+  bare-props [] h = refl
+  bare-props (x ∷ xs) h =
+      tail-is (bare-props xs (did-second (pat_prop_dues x) (flat pat_prop_dues xs) h))
+      ∙ bare-prop x _ (did-first (pat_prop_dues x) (flat pat_prop_dues xs) h)
+
+  -- ---- what is left of a `=`
+
+  simple-is : (e : ExprId) → Are (target_part (target.Simple e) ∷ []) → (is_pattern (old e.0) ≡ false) × Is e
+  simple-is e a = (
+    kind-pattern (old e.0) (bare e.0) a.0.0 ∙ shaped fun_at class_at block_at (λ i. no_tree) simple (at e.0) a.0.1,
+    (a.0.0, simple-expr (form (at e.0)) a.0.1),
+  )
+
+  pattern-is : (i : ℕ) → Are (record { at = i; view = pattern } ∷ []) → is_pattern (old i) ≡ true
+  pattern-is i a =
+      kind-pattern (old i) (bare i) a.0.0
+      ∙ shaped fun_at class_at block_at (λ j. no_tree) pattern (at i) a.0.1
+
+  left-bound : (l : TargetNode) → Are (target_part l ∷ []) → Did (left_due role.Bind l ∷ []) →
+      part_tree now (left_for at role.Bind l) ≡ want (left_as wanted.Bind
+      (is_pattern (target_of fun_at class_at block_at old l))) (target_of fun_at class_at block_at old l)
+  left-bound (target.Simple e) a h =
+      bound-by (at e.0) e h.0 ∙ ap (λ b. want (left_as wanted.Bind b) (old e.0)) (sym (simple-is e a).0)
+  left-bound (target.Pat p) a h =
+      rebound-by (at p.0) p.0 h.0 ∙ ap (λ b. want (left_as wanted.Bind b) (old p.0)) (sym (pattern-is p.0 a))
+
+  left-assigned : (l : TargetNode) → Are (target_part l ∷ []) → Did (left_due role.Assign l ∷ []) →
+      part_tree now (left_for at role.Assign l) ≡ want (left_as wanted.Assign
+      (is_pattern (target_of fun_at class_at block_at old l))) (target_of fun_at class_at block_at old l)
+  left-assigned (target.Simple e) a h =
+      let i = simple-is e a in
+      assigned e i.1 h.0 ∙ ap (λ b. want (left_as wanted.Assign b) (old e.0)) (sym i.0)
+  left-assigned (target.Pat p) a h =
+      h.0 ∙ sym (keep-is (old p.0)) ∙ ap (λ b. want (left_as wanted.Assign b) (old p.0)) (sym (pattern-is p.0 a))
+
+  -- ---- each node
+
+  abbrev Recast : Role → Node F C K → Node F C K → Type 0
+  Recast r x y = IsRecast at (λ i. span_of (old i)) (own_place fun_at class_at block_at old) (becomes_as r x) r x y
+
+  abbrev Dressed : Role → Node F C K → Type 0
+  Dressed r x = (y : Node F C K) → ready r (form x) ≡ true → Are (slots x) → Recast r x y → Did (dues_of r x) →
+      tree_now y ≡ became sought (becomes_as r x) r (tree_was x)
+
+  bind-dressed : (x : Node F C K) → Dressed role.Bind x
+  bind-dressed (n.Array s elems c) y k a m h =
+      ap tree_now m.is ∙ ap (λ v. node array s (pats_now v)) m.items
+      ∙ ap (node array s) (elems-dressed role.Bind wanted.Bind (array_with c) binding elems.items a h)
+  bind-dressed (n.Object s props c) y k a m h =
+      ap tree_now m.is ∙ ap (λ v. node object s (props_now v)) m.items
+      ∙ ap (node object s) (props-dressed role.Bind wanted.Bind binding (object_with c) props.items a h)
+  bind-dressed (n.Assign s op.Assign l r) y k a m h =
+      ap tree_now m ∙ ap (node default s) (two-are (left-bound l (a.0, tt) (h.0, tt)) (h.1.0 ∙ sym (keep-is (olds r))))
+  bind-dressed (n.Assign s o l r) y k a m h = ap tree_now m
+  bind-dressed (n.PatIdent b) y k a m h = cc
+  bind-dressed (n.PatArray s elems) y k a m h = cc
+  bind-dressed (n.PatObject s props) y k a m h = cc
+  bind-dressed x y k a m h = ap tree_now m
+
+  assign-dressed : (x : Node F C K) → Dressed role.Assign x
+  assign-dressed (n.Array s elems c) y k a m h =
+      ap tree_now m.is ∙ ap (λ v. node array s (pats_now v)) m.items
+      ∙ ap (node array s) (elems-dressed role.Assign wanted.Assign (array_with c) assigning elems.items a h)
+  assign-dressed (n.Object s props c) y k a m h =
+      ap tree_now m.is ∙ ap (λ v. node object s (props_now v)) m.items
+      ∙ ap (node object s) (props-dressed role.Assign wanted.Assign assigning (object_with c) props.items a h)
+  assign-dressed (n.Assign s op.Assign l r) y k a m h =
+      ap tree_now m
+      ∙ ap (node default s) (two-are (left-assigned l (a.0, tt) (h.0, tt)) (h.1.0 ∙ sym (keep-is (olds r))))
+  assign-dressed (n.Assign s o l r) y k a m h = ap tree_now m
+  assign-dressed (n.PatIdent b) y k a m h = cc
+  assign-dressed (n.PatArray s elems) y k a m h = cc
+  assign-dressed (n.PatObject s props) y k a m h = cc
+  assign-dressed (n.Member v) y k a m h = stays (n.Member v) y m h
+  assign-dressed (n.SuperProp v) y k a m h = stays (n.SuperProp v) y m h
+  assign-dressed (n.Call s c xs) y k a m h = stays (n.Call s c xs) y m h
+  assign-dressed (n.New s c xs) y k a m h = stays (n.New s c xs) y m h
+  assign-dressed (n.Fn v) y k a m h = stays (n.Fn v) y m h
+  assign-dressed (n.Class v) y k a m h = stays (n.Class v) y m h
+  assign-dressed (n.Paren v) y k a m h = stays (n.Paren v) y m h
+  assign-dressed (n.Tpl v) y k a m h = stays (n.Tpl v) y m h
+  assign-dressed (n.Str v) y k a m h = stays (n.Str v) y m h
+  assign-dressed (n.Bool v) y k a m h = stays (n.Bool v) y m h
+  assign-dressed (n.Null v) y k a m h = stays (n.Null v) y m h
+  assign-dressed (n.Num v) y k a m h = stays (n.Num v) y m h
+  assign-dressed (n.BigInt v) y k a m h = stays (n.BigInt v) y m h
+  assign-dressed (n.Regex v) y k a m h = stays (n.Regex v) y m h
+  assign-dressed x y k a m h = ap tree_now m
+
+  rebind-dressed : (x : Node F C K) → Dressed role.Rebind x
+  rebind-dressed (n.PatArray s elems) y k a m h =
+      ap tree_now m.is ∙ ap (λ v. node array s (pats_now v)) m.items ∙ ap (node array s) (bare-elems elems.items h)
+  rebind-dressed (n.PatObject s props) y k a m h =
+      ap tree_now m.is ∙ ap (λ v. node object s (props_now v)) m.items ∙ ap (node object s) (bare-props props.items h)
+  rebind-dressed (n.PatRest s d p) y k a m h =
+      ap tree_now m ∙ ap (λ v. node rest s (cons (leaf dots d) (cons v nil))) (rebound-by (at p.0) p.0 h.0)
+  rebind-dressed (n.PatAssign s l r) y k a m h =
+      let qs = part_dues role.Rebind l in let rs = map keep (one_expr r) in
+      ap tree_now m ∙ ap (node default s) (two-are (bare-by l (did-first qs rs h))
+      ((did-second qs rs h).0 ∙ sym (keep-is (olds r))))
+  rebind-dressed (n.PatIdent b) y k a m h = ap tree_now m
+  rebind-dressed (n.PatInvalid i) y k a m h = ap tree_now m
+  rebind-dressed (n.PatExpr e) y k a m h = ap tree_now m
+  rebind-dressed x y k a m h = cc
+
+  rest-dressed : (z : Span) (x : Node F C K) → Dressed (role.BindRest z) x
+  rest-dressed z (n.Ident i) y k a m h = ap tree_now m
+  rest-dressed z (n.PatIdent b) y k a m h = cc
+  rest-dressed z (n.Assign s op.Assign l r) y k a m h = ap tree_now m
+  rest-dressed z (n.Assign s o l r) y k a m h = ap tree_now m
+  rest-dressed z x y k a m h = ap tree_now m
+
+  again-dressed : (z : Span) (x : Node F C K) → Dressed (role.RebindRest z) x
+  again-dressed z (n.PatIdent b) y k a m h = ap tree_now m
+  again-dressed z (n.PatInvalid i) y k a m h = ap tree_now m
+  again-dressed z (n.PatArray s elems) y k a m h = ap tree_now m
+  again-dressed z (n.PatObject s props) y k a m h = ap tree_now m
+  again-dressed z (n.PatRest s d p) y k a m h = ap tree_now m
+  again-dressed z (n.PatAssign s l r) y k a m h = ap tree_now m
+  again-dressed z (n.PatExpr e) y k a m h = ap tree_now m
+  again-dressed z x y k a m h = cc
+
+  dressed : (r : Role) (x : Node F C K) → Dressed r x
+  dressed role.Keep x y k a m h = stays x y m h
+  dressed role.Bind x y k a m h = bind-dressed x y k a m h
+  dressed role.Assign x y k a m h = assign-dressed x y k a m h
+  dressed role.Rebind x y k a m h = rebind-dressed x y k a m h
+  dressed (role.BindRest z) x y k a m h = rest-dressed z x y k a m h
+  dressed (role.RebindRest z) x y k a m h = again-dressed z x y k a m h
+  dressed role.Nothing x y k a m h = ap tree_now m
+
+-- what each tree becomes, by the role of its node
+pub law-sought : {F C K : Type 0} (fun_at : F → Span) (class_at : C → Span) (block_at : K → Span) →
+    Law fun_at class_at block_at sought
+law-sought fun_at class_at block_at = record {
+  law = λ at old now r x y k a m h. dressed fun_at class_at block_at at old now r x y k a m h;
+}

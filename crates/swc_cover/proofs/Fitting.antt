@@ -1,30 +1,29 @@
 -- The parts of nodes that become patterns, and the trees of these.
-use Rattle.std.proofs.Common.{◌≡◌, ℕ, suc, ◌+◌, ◌<◌, ◌≤◌, ◌≢◌, inl, inr, Bool, true, false, List, [], ◌∷◌, ◌++◌, map, drop, take, get_or, length, Option, Some, refl, sym, ap, subst, ◌∙◌, arith, length-drop}
-use Rattle.std.proofs.{lemmas.Bool.eqb-true, lemmas.Bool.eqb-false, lemmas.List.drop_all, lemmas.List.get_or_default}
-use Rattle.std.specs.{Prelude.eqb, Prelude.slice_index_or, declared.alloc.Global.Global, declared.vec.Vec.Vec}
+use Rattle.std.proofs.Common.{◌≡◌, ℕ, suc, ◌+◌, ◌*◌, ◌<◌, ◌≤◌, ◌≢◌, inl, inr, Bool, true, false, List, [], ◌∷◌, ◌++◌, map, drop, take, get_or, length, Option, Some, refl, sym, ap, subst, ◌∙◌, arith, append_assoc, length-drop}
+use Rattle.std.proofs.{lemmas.Bool.eqb-true, lemmas.Bool.eqb-false, lemmas.List.drop_all, lemmas.List.drop_more, lemmas.List.get_or_default, lemmas.List.take-append-drop}
+use Rattle.std.specs.{Prelude.eqb, declared.alloc.Global.Global, declared.vec.Vec.Vec}
 use Rattle.swc_context.specs.{declared.operator.AssignOp.AssignOp, declared.span.Span.Span}
 use Rattle.swc_ast.specs.Tree.{Tree, Trees, trees}
 use Rattle.swc_ast.specs.{Parts.or_hole, Parts.item_tree, declared.expr.ExprOrSpread.ExprOrSpread, declared.spanned.Spanned.Ghosts}
-use Rattle.swc_cover.specs.{Fits.is_nil, Moving.In}
-use Rattle.swc_cover.proofs.{Along.node-along, Among.in-left, Among.in-right, Dressed.Shaped, Dressed.shaped, Elements.flat-both, Elements.front-and, Lifting.trees-same}
+use Rattle.swc_cover.specs.{Below.PatPartFrom, Below.part_size, Fits.is_nil, Moving.In}
+use Rattle.swc_cover.proofs.{Among.in-left, Among.in-right, Dressed.Shaped, Dressed.shaped, Dressed.simple-expr, Dressed.pattern-pat}
 use Rattle.swc_nodes.proofs.Chains.{both_true, Fitting, fitting, chain-bound}
-use Rattle.swc_nodes.proofs.{Held.stood-parts, Standing.before-same, Standing.get_stood}
+use Rattle.swc_nodes.proofs.{Held.stood-parts, Standing.before-same, Standing.get_stood, Along.Same, Along.node-along}
 use Rattle.swc_nodes.specs.NodeTree.{marked_tree, prop_of, pat_prop_of}
-use Rattle.swc_nodes.specs.NodeParts.{Part, Form, target_expr, other_expr, target_pat, other_pat, expr, pat, simple, pattern, view_ok, form, target_part, expr_part, pat_part, flat, if_some, one_pat, item_parts, prop_parts, pat_prop_parts, slots}
+use Rattle.swc_nodes.specs.Turning.{no_node, node_at}
+use Rattle.swc_nodes.specs.NodeParts.{Part, View, view_ok, form, target_part, expr_part, pat_part, flat, if_some, one_expr, item_parts, prop_parts, part_parts, pat_elem_part, pat_prop_parts, slots}
 use Rattle.swc_nodes.specs.GrowingNodes.{count, seat_at, seat_before, tree_at, From, Stood}
-use Rattle.swc_nodes.specs.{NumberedTrees.Seat, NumberedTrees.chain, declared.node.Node.Node, declared.node.Node.Node as n, declared.node.ExprId.ExprId, declared.node.PatId.PatId, declared.node.PatPropNode.PatPropNode, declared.node.PropNode.PropNode, declared.nodes.Nodes.Nodes, declared.node.TargetNode.TargetNode, declared.node.TargetNode.TargetNode as target}
+use Rattle.swc_nodes.specs.{Lists.held_elem_tree, NumberedTrees.Seat, NumberedTrees.chain, declared.node.Node.Node, declared.node.Node.Node as n, declared.node.ExprId.ExprId, declared.node.PatElem.PatElem, declared.node.PatId.PatId, declared.node.PatPart.PatPart, declared.node.PatPart.PatPart as of_pat, declared.node.PatPropNode.PatPropNode, declared.node.PropNode.PropNode, declared.nodes.Nodes.Nodes, declared.node.TargetNode.TargetNode, declared.node.TargetNode.TargetNode as target}
 
-pub simple-expr : (f : Form) → view_ok simple f ≡ true → view_ok expr f ≡ true
-simple-expr target_expr h = refl
-simple-expr other_expr h = refl
-simple-expr target_pat h = cc
-simple-expr other_pat h = cc
+pub flat-both : {X Y : Type 0} (f : X → List Y) (xs ys : List X) → flat f (xs ++ ys) ≡ flat f xs ++ flat f ys
+flat-both f [] ys = refl
+flat-both f (x ∷ xs) ys = ap (λ v. f x ++ v) (flat-both f xs ys) ∙ sym (append_assoc (f x) (flat f xs) (flat f ys))
 
-pub pattern-pat : (f : Form) → view_ok pattern f ≡ true → view_ok pat f ≡ true
-pattern-pat target_pat h = refl
-pattern-pat other_pat h = cc
-pattern-pat target_expr h = cc
-pattern-pat other_expr h = cc
+front-and : {A : Type 0} (xs : List A) (j : ℕ) (x : A) → j < length xs → x ≡ get_or xs j x →
+    xs ≡ take j xs ++ x ∷ drop (j + 1) xs
+front-and xs j x lt e =
+    sym (take-append-drop j xs) ∙ ap (λ v. take j xs ++ v) (drop_more xs j x lt)
+    ∙ ap (λ v. take j xs ++ v ∷ drop (j + 1) xs) (sym e)
 
 module _ {F C K : Type 0} where
   -- ---- a part of a node
@@ -39,6 +38,13 @@ module _ {F C K : Type 0} where
       let fit : Fitting at 0 q = record { above = omega arith; first = f.first; view = f.view } in
       subst (λ v. (v.at < hi) × Fitting at 0 v) (sym e) (here, fit)
   chain-in at lo hi (q ∷ ps) p (inr i) h = chain-in at (suc q.at) hi ps p i (both_true h).1
+
+  trees-same : (at by : ℕ → Seat F C K) (lo : ℕ) (ps : List Part) (hi : ℕ) → ((i : ℕ) → i < hi → at i ≡ by i) →
+      chain at lo ps hi ≡ true → Same (λ i. (at i).tree) (λ i. (by i).tree) ps
+  trees-same at by lo [] hi same h = tt
+  trees-same at by lo (p ∷ ps) hi same h =
+      let b = both_true h in let w = chain-bound at (suc p.at) ps hi b.1 in
+      (ap (λ s. s.tree) (same p.at (omega arith)), trees-same at by (suc p.at) ps hi same b.1)
 
 module _ {F C K : Type 0} where
   some-left : {X : Type 0} (f : X → Tree F C K) (ys : List X) → 1 ≤ length ys → false ≡ is_nil (trees (map f ys))
@@ -88,6 +94,22 @@ module _ {F C K : Type 0} {fg : Ghosts F} {cg : Ghosts C} {kg : Ghosts K} where
       x ≡ y → tree_at ns i ≡ marked_tree fg.place cg.place kg.place (tree_at ns) y
   tree-is {ns} y t lt e = stood-tree t lt ∙ ap (marked_tree fg.place cg.place kg.place (tree_at ns)) e
 
+  -- ---- the node of a number
+  pub stood-at : (ns : Nodes F C K fg cg kg) (i : ℕ) → i < count ns → Stood ns i (node_at ns.nodes.items i)
+  stood-at ns i lt =
+      get_stood ns i (node_at ns.nodes.items i) lt
+      (get_or_default ns.nodes.items i no_node (node_at ns.nodes.items i) lt)
+
+  pub form-at : (ns : Nodes F C K fg cg kg) (i : ℕ) (v : View) → i < count ns → view_ok v (seat_at ns i).form ≡ true →
+      view_ok v (form (node_at ns.nodes.items i)) ≡ true
+  form-at ns i v lt h = ap (λ s. view_ok v s.form) (sym (stood-at ns i lt).stands) ∙ h
+
+  pub shaped-at : (ns : Nodes F C K fg cg kg) (i : ℕ) (v : View) → i < count ns →
+      view_ok v (seat_at ns i).form ≡ true → Shaped v (tree_at ns i)
+  shaped-at ns i v lt h =
+      subst (Shaped v) (sym (stood-tree (stood-at ns i lt) lt))
+      (shaped fg.place cg.place kg.place (tree_at ns) v (node_at ns.nodes.items i) (form-at ns i v lt h))
+
   -- ---- the elements of an array
   abbrev pub elems_of : Nodes F C K fg cg kg → List (Option (ExprOrSpread ExprId)) → Trees F C K
   elems_of ns xs = trees (map (or_hole (item_tree (λ (e : ExprId). tree_at ns e.0))) xs)
@@ -114,21 +136,9 @@ module _ {F C K : Type 0} {fg : Ghosts F} {cg : Ghosts C} {kg : Ghosts K} where
       (subst (λ v. In p (prop_parts v)) (sym q) own)))
 
   -- ---- what is left of an assignment
-  node-at : (ns : Nodes F C K fg cg kg) (x : Node F C K) (j : ℕ) → j < count ns →
-      Stood ns j (slice_index_or ns.nodes.items j x)
-  node-at ns x j lt = get_stood ns j (slice_index_or ns.nodes.items j x) lt
-      (get_or_default ns.nodes.items j x (slice_index_or ns.nodes.items j x) lt)
-
-  pub left-shape : {ns : Nodes F C K fg cg kg} (x : Node F C K) (l : TargetNode) → From 0 ns (target_part l) →
+  pub left-shape : {ns : Nodes F C K fg cg kg} (l : TargetNode) → From 0 ns (target_part l) →
       Shaped (target_part l).view (tree_at ns (target_part l).at)
-  left-shape {ns} x l f =
-      let j = (target_part l).at in
-      let y = slice_index_or ns.nodes.items j x in
-      let u = node-at ns x j f.within in
-      let k : view_ok (target_part l).view (form y) ≡ true = ap (λ v. view_ok (target_part l).view v.form)
-      (sym u.stands) ∙ f.view in
-      subst (Shaped (target_part l).view) (sym (stood-tree u f.within))
-      (shaped (tree_at ns) (tree_at ns) fg.place cg.place kg.place (target_part l).view y k)
+  left-shape {ns} l f = shaped-at ns (target_part l).at (target_part l).view f.within f.view
 
   pub left-below : {ns : Nodes F C K fg cg kg} {i : ℕ} {x : Node F C K} (s : Span) (o : AssignOp) (l : TargetNode)
       (r : ExprId) → Stood ns i x → i < count ns → x ≡ n.Assign s o l r → Below ns i (target_part l)
@@ -170,33 +180,49 @@ module _ {F C K : Type 0} {fg : Ghosts F} {cg : Ghosts C} {kg : Ghosts K} where
       }
 
   -- ---- patterns that bind
-  abbrev pub pats_of : Nodes F C K fg cg kg → List (Option PatId) → Trees F C K
-  pats_of ns xs = trees (map (or_hole (λ (p : PatId). tree_at ns p.0)) xs)
+  abbrev pub pats_of : Nodes F C K fg cg kg → List (Option PatElem) → Trees F C K
+  pats_of ns xs = trees (map (held_elem_tree (tree_at ns)) xs)
 
   abbrev pub pat_props_of : Nodes F C K fg cg kg → List PatPropNode → Trees F C K
   pat_props_of ns xs = trees (map (pat_prop_of fg.place cg.place kg.place (tree_at ns)) xs)
 
+  -- a part of a pattern is before its node
+  pub record PartBelow (ns : Nodes F C K fg cg kg) (i : ℕ) (p : PatPart) : Type 0 where
+    pub less : part_size p < i * 4
+    pub from : PatPartFrom ns p
+
+  pub held-below : {ns : Nodes F C K fg cg kg} {i : ℕ} {x : Node F C K} (p : PatPart) → Stood ns i x → i < count ns →
+      ((q : Part) → In q (part_parts p) → In q (slots x)) → PartBelow ns i p
+  held-below (of_pat.Pat p) t lt own =
+      let b = part-below (pat_part p) t lt (own (pat_part p) (inl refl)) in
+      let a = b.less in
+      record { less = omega arith; from = b.from }
+  held-below (of_pat.Expr e) t lt own =
+      let b = part-below (expr_part e) t lt (own (expr_part e) (inl refl)) in
+      let a = b.less in
+      record { less = omega arith; from = b.from }
+
   pub pat-elem-below : {ns : Nodes F C K fg cg kg} {i j : ℕ} {x : Node F C K} (s : Span)
-      (elems : Vec (Option PatId) Global) (o : Option PatId) (p : PatId) → Stood ns i x → i < count ns →
-      x ≡ n.PatArray s elems →
-      j < length elems.items → o ≡ get_or elems.items j o → o ≡ Some p → Below ns i (pat_part p)
-  pat-elem-below {ns} {i} {j} {x} s elems o p t lt e h g q =
-      let own : In (pat_part p) (if_some one_pat o) = subst (λ v. In (pat_part p) (if_some one_pat v)) (sym q)
-      (inl refl) in
-      part-below (pat_part p) t lt (subst (λ v. In (pat_part p) (slots v)) (sym e)
-      (in-flat (if_some one_pat) elems.items j o (pat_part p) h g own))
+      (elems : Vec (Option PatElem) Global) (o : Option PatElem) (e : PatElem) (p : PatPart) → Stood ns i x →
+      i < count ns → x ≡ n.PatArray s elems → j < length elems.items → o ≡ get_or elems.items j o → o ≡ Some e →
+      pat_elem_part e ≡ part_parts p → PartBelow ns i p
+  pat-elem-below {ns} {i} {j} {x} s elems o e p t lt same h g q parts =
+      held-below p t lt (λ u own. subst (λ v. In u (slots v)) (sym same)
+      (in-flat (if_some pat_elem_part) elems.items j o u h g
+      (subst (λ v. In u (if_some pat_elem_part v)) (sym q) (subst (λ v. In u v) (sym parts) own))))
 
-  pub pat-prop-in : {ns : Nodes F C K fg cg kg} {i j : ℕ} {x : Node F C K} (s : Span) (props : Vec PatPropNode Global)
-      (y z : PatPropNode) (p : Part) → Stood ns i x → i < count ns → x ≡ n.PatObject s props →
-      j < length props.items → y ≡ get_or props.items j y → y ≡ z → In p (pat_prop_parts z) → Below ns i p
-  pat-prop-in {ns} {i} {j} {x} s props y z p t lt e h g q own =
-      part-below p t lt (subst (λ v. In p (slots v)) (sym e) (in-flat pat_prop_parts props.items j y p h g
-      (subst (λ v. In p (pat_prop_parts v)) (sym q) own)))
+  pub pat-prop-below : {ns : Nodes F C K fg cg kg} {i j : ℕ} {x : Node F C K} (s : Span)
+      (props : Vec PatPropNode Global) (y z : PatPropNode) (p : PatPart) → Stood ns i x → i < count ns →
+      x ≡ n.PatObject s props → j < length props.items → y ≡ get_or props.items j y → y ≡ z →
+      ((q : Part) → In q (part_parts p) → In q (pat_prop_parts z)) → PartBelow ns i p
+  pat-prop-below {ns} {i} {j} {x} s props y z p t lt e h g q parts =
+      held-below p t lt (λ u own. subst (λ v. In u (slots v)) (sym e)
+      (in-flat pat_prop_parts props.items j y u h g (subst (λ v. In u (pat_prop_parts v)) (sym q) (parts u own))))
 
-  pub assign-left-below : {ns : Nodes F C K fg cg kg} {i : ℕ} {x : Node F C K} (s : Span) (l : PatId) (r : ExprId) →
-      Stood ns i x → i < count ns → x ≡ n.PatAssign s l r → Below ns i (pat_part l)
-  assign-left-below s l r t lt e = part-below (pat_part l) t lt
-      (subst (λ v. In (pat_part l) (slots v)) (sym e) (inl refl))
+  pub assign-left-below : {ns : Nodes F C K fg cg kg} {i : ℕ} {x : Node F C K} (s : Span) (l : PatPart) (r : ExprId) →
+      Stood ns i x → i < count ns → x ≡ n.PatAssign s l r → PartBelow ns i l
+  assign-left-below s l r t lt e =
+      held-below l t lt (λ u own. subst (λ v. In u (slots v)) (sym e) (in-left u (part_parts l) (one_expr r) own))
 
   pub rest-held-below : {ns : Nodes F C K fg cg kg} {i : ℕ} {x : Node F C K} (s d : Span) (p : PatId) → Stood ns i x →
       i < count ns → x ≡ n.PatRest s d p → Below ns i (pat_part p)

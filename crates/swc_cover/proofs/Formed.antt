@@ -1,20 +1,19 @@
 -- The trees of nodes have the parts that their kinds ask, as far as refinement looks at them.
-use Rattle.std.proofs.Common.{◌≡◌, ℕ, suc, zero, ◌<◌, true, false, List, [], ◌∷◌, ◌++◌, map, inl, Option, Some, None, refl, sym, ap, subst, ◌∙◌, arith}
-use Rattle.std.proofs.lemmas.List.{get_or_default}
-use Rattle.std.specs.Prelude.{slice_index_or}
+use Rattle.std.proofs.Common.{◌≡◌, ℕ, suc, zero, ◌<◌, true, false, List, [], ◌∷◌, ◌++◌, map, inl, Option, Some, None, refl, sym, subst, ◌∙◌, arith}
 use Rattle.swc_context.specs.declared.span.Span.{Span}
 use Rattle.swc_ast.specs.Parts.{or_hole, item_tree, item_of}
 use Rattle.swc_ast.specs.Tree.{hole, item, spread, array_with, object_with, assign, shorthand, key_value, cover, binding_prop, rest, default, Tree, node, Trees, nil, cons, no_span, trees}
 use Rattle.swc_ast.specs.{Trees.is_ident, declared.expr.ExprOrSpread.ExprOrSpread, declared.spanned.Spanned.Ghosts}
 use Rattle.swc_grammar.specs.Cover.{is_pattern}
 use Rattle.swc_cover.specs.Moving.{In}
-use Rattle.swc_cover.proofs.Fitting.{chain-in, stood-tree, simple-expr, pattern-pat}
-use Rattle.swc_cover.proofs.{Among.in-left, Among.in-right, Dressed.Shaped, Dressed.shaped}
-use Rattle.swc_nodes.proofs.{Held.stood-parts, Standing.get_stood}
-use Rattle.swc_nodes.specs.NodeTree.{marked_tree, prop_of, pat_prop_of}
-use Rattle.swc_nodes.specs.NodeParts.{Part, View, expr, pat, simple, pattern, view_ok, form, expr_part, pat_part, target_part, flat, if_some, one_pat, item_parts, key_parts, prop_parts, pat_prop_parts, slots}
-use Rattle.swc_nodes.specs.GrowingNodes.{count, seat_at, tree_at, From, Stood}
-use Rattle.swc_nodes.specs.{declared.node.ExprId.ExprId, declared.node.PatId.PatId, declared.node.Node.Node, declared.node.Node.Node as n, declared.node.PatPropNode.PatPropNode, declared.node.PatPropNode.PatPropNode as pat_prop, declared.node.PropNode.PropNode, declared.node.PropNode.PropNode as prop, declared.node.TargetNode.TargetNode as target, declared.nodes.Nodes.Nodes}
+use Rattle.swc_cover.proofs.Dressed.{Shaped, simple-expr, pattern-pat}
+use Rattle.swc_cover.proofs.Fitting.{chain-in, stood-tree, stood-at, form-at, shaped-at}
+use Rattle.swc_cover.proofs.Among.{in-left, in-right}
+use Rattle.swc_nodes.proofs.Held.{stood-parts}
+use Rattle.swc_nodes.specs.NodeTree.{marked_tree, prop_of, part_tree, pat_prop_of}
+use Rattle.swc_nodes.specs.NodeParts.{Part, View, expr, pat, simple, pattern, view_ok, form, expr_part, pat_part, target_part, flat, if_some, one_expr, item_parts, key_parts, prop_parts, part_parts, pat_elem_part, pat_prop_parts, slots}
+use Rattle.swc_nodes.specs.GrowingNodes.{count, seat_at, tree_at, From}
+use Rattle.swc_nodes.specs.{Lists.held_elem_tree, Turning.node_at, declared.node.ExprId.ExprId, declared.node.PatElem.PatElem, declared.node.PatElem.PatElem as elem, declared.node.PatPart.PatPart, declared.node.PatPart.PatPart as of_pat, declared.node.Node.Node, declared.node.Node.Node as n, declared.node.PatPropNode.PatPropNode, declared.node.PatPropNode.PatPropNode as pat_prop, declared.node.PropNode.PropNode, declared.node.PropNode.PropNode as prop, declared.node.TargetNode.TargetNode as target, declared.nodes.Nodes.Nodes}
 
 module _ {F C K : Type 0} where
   -- of patterns
@@ -127,25 +126,28 @@ module _ {F C K : Type 0} (fun_at : F → Span) (class_at : C → Span) (block_a
 
   -- ---- patterns
 
-  pat-elem-formed : (o : Option PatId) → Parts at (if_some one_pat o) → PatFormed (or_hole (λ (p : PatId). at p.0) o)
-  pat-elem-formed None h = tt
-  pat-elem-formed (Some p) h = h (pat_part p) (inl refl)
+  pat-part-formed : (p : PatPart) → Parts at (part_parts p) → PatFormed (part_tree at p)
+  pat-part-formed (of_pat.Pat p) h = h (pat_part p) (inl refl)
+  pat-part-formed (of_pat.Expr e) h = tt
 
-  pats-formed : (xs : List (Option PatId)) → Parts at (flat (if_some one_pat) xs) →
-      AllPats (trees (map (or_hole (λ (p : PatId). at p.0)) xs))
+  pat-elem-formed : (o : Option PatElem) → Parts at (if_some pat_elem_part o) → PatFormed (held_elem_tree at o)
+  pat-elem-formed None h = tt
+  pat-elem-formed (Some (elem.Item p)) h = pat-part-formed p h
+  pat-elem-formed (Some (elem.Rest s d p)) h = pat-part-formed p h
+
+  pats-formed : (xs : List (Option PatElem)) → Parts at (flat (if_some pat_elem_part) xs) →
+      AllPats (trees (map (held_elem_tree at) xs))
   pats-formed [] h = tt
   pats-formed (x ∷ xs) h = (
-    pat-elem-formed x (parts-left at (if_some one_pat x) (flat (if_some one_pat) xs) h),
-    pats-formed xs
-        (parts-right at (if_some one_pat x) (flat (if_some one_pat) xs) h),
+    pat-elem-formed x (parts-left at (if_some pat_elem_part x) (flat (if_some pat_elem_part) xs) h),
+    pats-formed xs (parts-right at (if_some pat_elem_part x) (flat (if_some pat_elem_part) xs) h),
   )
 
   pat-prop-formed : (y : PatPropNode) → Parts at (pat_prop_parts y) →
       PatFormed (pat_prop_of fun_at class_at block_at at y)
-  pat-prop-formed (pat_prop.KeyValue s k v) h = h (pat_part v)
-      (in-right (pat_part v) (key_parts k) (pat_part v ∷ []) (inl refl))
+  pat-prop-formed (pat_prop.KeyValue s k v) h = pat-part-formed v (parts-right at (key_parts k) (part_parts v) h)
   pat-prop-formed (pat_prop.Assign s k v) h = refl
-  pat-prop-formed (pat_prop.Rest s d p) h = h (pat_part p) (inl refl)
+  pat-prop-formed (pat_prop.Rest s d p) h = pat-part-formed p h
 
   pat-props-formed : (ys : List PatPropNode) → Parts at (flat pat_prop_parts ys) →
       AllPats (trees (map (pat_prop_of fun_at class_at block_at at) ys))
@@ -183,7 +185,7 @@ module _ {F C K : Type 0} (fun_at : F → Span) (class_at : C → Span) (block_a
   pat-node-formed (n.PatArray s es) v h = (refl, pats-formed es.items h)
   pat-node-formed (n.PatObject s ps) v h = (refl, pat-props-formed ps.items h)
   pat-node-formed (n.PatRest s d p) v h = h (pat_part p) (inl refl)
-  pat-node-formed (n.PatAssign s l r) v h = h (pat_part l) (inl refl)
+  pat-node-formed (n.PatAssign s l r) v h = pat-part-formed l (parts-left at (part_parts l) (one_expr r) h)
   pat-node-formed (n.Array s es c) v h = cc
   pat-node-formed (n.Object s ps c) v h = cc
   pat-node-formed x v h = tt
@@ -195,38 +197,19 @@ module _ {F C K : Type 0} (fun_at : F → Span) (class_at : C → Span) (block_a
   view-formed simple x v h q = node-formed x (simple-expr (form x) v) h q
   view-formed pattern x v h q = pat-node-formed x (pattern-pat (form x) v) h
 
-module _ {F C K : Type 0} where
-  abbrev spare : Node F C K
-  spare = n.PatInvalid (record { span = no_span })
-
 module _ {F C K : Type 0} {fg : Ghosts F} {cg : Ghosts C} {kg : Ghosts K} where
-  abbrev node_of : Nodes F C K fg cg kg → ℕ → Node F C K
-  node_of ns i = slice_index_or ns.nodes.items i spare
-
-  stood-here : (ns : Nodes F C K fg cg kg) (i : ℕ) → i < count ns → Stood ns i (node_of ns i)
-  stood-here ns i h = get_stood ns i (node_of ns i) h (get_or_default ns.nodes.items i spare (node_of ns i) h)
-
-  form-here : (ns : Nodes F C K fg cg kg) (i : ℕ) (w : View) → i < count ns → view_ok w (seat_at ns i).form ≡ true →
-      view_ok w (form (node_of ns i)) ≡ true
-  form-here ns i w h v = ap (λ s. view_ok w s.form) (sym (stood-here ns i h).stands) ∙ v
-
-  shaped-here : (ns : Nodes F C K fg cg kg) (i : ℕ) (w : View) → i < count ns → view_ok w (seat_at ns i).form ≡ true →
-      Shaped w (tree_at ns i)
-  shaped-here ns i w h v =
-      subst (Shaped w) (sym (stood-tree (stood-here ns i h) h))
-      (shaped (tree_at ns) (tree_at ns) fg.place cg.place kg.place w (node_of ns i) (form-here ns i w h v))
-
   formed-below : (ns : Nodes F C K fg cg kg) (k i : ℕ) (w : View) → i < k → i < count ns →
       view_ok w (seat_at ns i).form ≡ true → PartFormed w (tree_at ns i)
   formed-below ns zero i w lt h v = absurd (omega arith)
   formed-below ns (suc k) i w lt h v =
-      let t = stood-here ns i h in
+      let t = stood-at ns i h in
+      let x = node_at ns.nodes.items i in
       subst (PartFormed w) (sym (stood-tree t h))
-      (view-formed fg.place cg.place kg.place (tree_at ns) w (node_of ns i) (form-here ns i w h v)
-      (λ p j. let c = chain-in (seat_at ns) 0 i (slots (node_of ns i)) p j (stood-parts t h) in let a = c.0 in
+      (view-formed fg.place cg.place kg.place (tree_at ns) w x (form-at ns i w h v)
+      (λ p j. let c = chain-in (seat_at ns) 0 i (slots x) p j (stood-parts t h) in let a = c.0 in
       formed-below ns k p.at p.view (omega arith) (omega arith) c.1.view)
-      (λ p j. let c = chain-in (seat_at ns) 0 i (slots (node_of ns i)) p j (stood-parts t h) in let a = c.0 in
-      shaped-here ns p.at p.view (omega arith) c.1.view))
+      (λ p j. let c = chain-in (seat_at ns) 0 i (slots x) p j (stood-parts t h) in let a = c.0 in
+      shaped-at ns p.at p.view (omega arith) c.1.view))
 
   -- each part that is among nodes
   pub part-formed : (ns : Nodes F C K fg cg kg) (p : Part) → From 0 ns p → PartFormed p.view (tree_at ns p.at)

@@ -5,7 +5,7 @@ use Rattle.swc_ast.specs.declared.spanned.Spanned.{Ghosts}
 use Rattle.swc_cover.specs.Moving.{KeptTo}
 use Rattle.swc_nodes.proofs.{Standing.grows-count, Standing.cut_kept, Chains.chain-down, Chains.floor-under}
 use Rattle.swc_nodes.specs.GrowingNodes.{count, seat_at, first_at, Apart, From, Grows}
-use Rattle.swc_nodes.specs.{NumberedTrees.floor, NodeParts.Part, declared.nodes.Nodes.Nodes}
+use Rattle.swc_nodes.specs.{Turning.KeptBelow, NumberedTrees.floor, NodeParts.Part, declared.nodes.Nodes.Nodes}
 
 module _ {F C K : Type 0} {fg : Ghosts F} {cg : Ghosts C} {kg : Ghosts K} where
   -- what was appended is refined, from no number below those that there were: as if nodes were appended alone
@@ -19,6 +19,9 @@ module _ {F C K : Type 0} {fg : Ghosts F} {cg : Ghosts C} {kg : Ghosts K} where
         appended = sym (take-append-drop n ks.nodes.items)
             ∙ ap (λ v. v ++ drop n ks.nodes.items) front;
       }
+
+  pub kept-to : {ns ms : Nodes F C K fg cg kg} {k : ℕ} → KeptBelow k ns ms → KeptTo k ns ms
+  kept-to h = record { kept = h.kept; above = h.above }
 
   -- nodes that were appended alone: those below their count stay
   pub kept-grows : {ns ms : Nodes F C K fg cg kg} → Grows ns ms → KeptTo (count ns) ns ms

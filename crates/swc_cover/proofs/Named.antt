@@ -7,7 +7,7 @@ use Rattle.swc_cover.proofs.Fitting.{chain-in, in-flat, pats_of, pat_props_of, t
 use Rattle.swc_cover.specs.Heads.{reserved_spans, all_reserved, props_reserved}
 use Rattle.swc_nodes.specs.NodeParts.{pat_part, flat, one_pat}
 use Rattle.swc_nodes.specs.GrowingNodes.{count, seat_at, tree_at, Apart, From, Stood}
-use Rattle.swc_nodes.specs.{NodeTree.marked_tree, declared.node.Node.Node, declared.node.PatId.PatId, declared.node.PatPropNode.PatPropNode, declared.nodes.Nodes.Nodes}
+use Rattle.swc_nodes.specs.{NodeTree.marked_tree, declared.node.Node.Node, declared.node.PatElem.PatElem, declared.node.PatId.PatId, declared.node.PatPropNode.PatPropNode, declared.nodes.Nodes.Nodes}
 
 module _ {F C K : Type 0} {fg : Ghosts F} {cg : Ghosts C} {kg : Ghosts K} where
   abbrev pub heads_of : Nodes F C K fg cg kg → List PatId → Trees F C K
@@ -22,7 +22,7 @@ module _ {F C K : Type 0} {fg : Ghosts F} {cg : Ghosts C} {kg : Ghosts K} where
       ∙ ap (λ v. fs ++ all_reserved (heads_of ns v)) (sym (drop_more xs i p h ∙ ap (λ v. v ∷ drop (i + 1) xs) (sym e)))
       ∙ w
 
-  pub named-pats-ended : (ns : Nodes F C K fg cg kg) (xs : List (Option PatId)) (i : ℕ) (fs whole : List Span) →
+  pub named-pats-ended : (ns : Nodes F C K fg cg kg) (xs : List (Option PatElem)) (i : ℕ) (fs whole : List Span) →
       length xs ≤ i → fs ++ all_reserved (pats_of ns (drop i xs)) ≡ whole → fs ≡ whole
   named-pats-ended ns xs i fs whole h w = sym (ap (λ v. fs ++ all_reserved (pats_of ns v)) (drop_all i xs h) ∙
       append-nil fs) ∙ w

@@ -7,14 +7,14 @@ use Rattle.swc_context.specs.{declared.operator.AssignOp.AssignOp, declared.oper
 use Rattle.swc_ast.specs.{Parts.or_hole, Parts.item_tree, Tree.Trees, Tree.trees, declared.expr.ExprOrSpread.ExprOrSpread, declared.spanned.Spanned.Ghosts}
 use Rattle.swc_grammar.specs.Cover.{is_pattern}
 use Rattle.swc_cover.specs.Below.{ElemStep, PropStep, PatElemStep, PatPropStep, ElemsBelow, PropsBelow, PatElemsBelow, PatPropsBelow}
-use Rattle.swc_cover.specs.Faults.{Verdict, clean, recorded, goes_on, also, verdict, elem_verdict, elems_verdict, prop_verdict, props_verdict, param_verdict, params_verdict, left_faults, again, all_again, prop_again, props_again, Recorded}
+use Rattle.swc_cover.specs.Faults.{Verdict, clean, recorded, goes_on, also, verdict, elem_verdict, elems_verdict, prop_verdict, props_verdict, param_verdict, params_verdict, left_faults, again, all_again, props_again, Recorded}
 use Rattle.swc_cover.specs.{Fits.Way, Checking.plain_op, declared.faults.Fault.Fault}
-use Rattle.swc_cover.proofs.Fitting.{Below, chain-in, in-flat, elems_of, props_of, pats_of, pat_props_of, elem-below, prop-in, pat-elem-below, pat-prop-in, nil-by, tree-is, left-shape, left-below}
+use Rattle.swc_cover.proofs.Fitting.{Below, chain-in, in-flat, elems_of, props_of, pats_of, pat_props_of, elem-below, prop-in, pat-elem-below, pat-prop-below, nil-by, tree-is, left-shape, left-below}
 use Rattle.swc_cover.proofs.Among.{in-right}
-use Rattle.swc_nodes.specs.NodeTree.{marked_tree, prop_of, pat_prop_of}
-use Rattle.swc_nodes.specs.NodeParts.{expr, key_parts, expr_part, pat_part, target_part, flat, item_parts}
+use Rattle.swc_nodes.specs.NodeTree.{marked_tree, prop_of}
+use Rattle.swc_nodes.specs.NodeParts.{expr, key_parts, expr_part, target_part, flat, item_parts, part_parts}
 use Rattle.swc_nodes.specs.GrowingNodes.{count, tree_at, From, Stood, seat_at, Apart}
-use Rattle.swc_nodes.specs.{declared.node.ExprId.ExprId, declared.node.PatId.PatId, declared.node.Node.Node, declared.node.Node.Node as n, declared.node.PatPropNode.PatPropNode, declared.node.PatPropNode.PatPropNode as pat_prop, declared.node.PropNode.PropNode, declared.node.PropNode.PropNode as prop, declared.node.TargetNode.TargetNode, declared.node.TargetNode.TargetNode as target, declared.nodes.Nodes.Nodes}
+use Rattle.swc_nodes.specs.{declared.node.ExprId.ExprId, declared.node.PatElem.PatElem, declared.node.PatElem.PatElem as elem, declared.node.PatId.PatId, declared.node.Node.Node, declared.node.Node.Node as n, declared.node.PatPropNode.PatPropNode, declared.node.PatPropNode.PatPropNode as pat_prop, declared.node.PropNode.PropNode, declared.node.PropNode.PropNode as prop, declared.node.TargetNode.TargetNode, declared.node.TargetNode.TargetNode as target, declared.nodes.Nodes.Nodes}
 
 pub recorded-as : {was now : List Fault} {u v : Verdict} {r : Option Span} → u ≡ v → Recorded was u now r →
     Recorded was v now r
@@ -179,7 +179,7 @@ module _ {F C K : Type 0} {fg : Ghosts F} {cg : Ghosts C} {kg : Ghosts K} where
       let b = subst (λ v. Below ns i (target_part v)) q (left-below s o l r t lt e) in
       sym (ap (verdict w) (tree-is (n.Assign s o l r) t lt e)
       ∙ ap (λ v. verdict w (marked_tree fg.place cg.place kg.place (tree_at ns) (n.Assign s o v r))) q
-      ∙ simple-verdict ns w s o u r h (left-shape x (target.Simple u) b.from))
+      ∙ simple-verdict ns w s o u r h (left-shape (target.Simple u) b.from))
 
   pub assign-pattern : {ns : Nodes F C K fg cg kg} {i : ℕ} {x : Node F C K} (w : Way) (s : Span) (o : AssignOp)
       (l : TargetNode) (r : ExprId) (u : PatId) → Stood ns i x → i < count ns → x ≡ n.Assign s o l r →
@@ -189,67 +189,50 @@ module _ {F C K : Type 0} {fg : Ghosts F} {cg : Ghosts C} {kg : Ghosts K} where
       let b = subst (λ v. Below ns i (target_part v)) q (left-below s o l r t lt e) in
       sym (ap (verdict w) (tree-is (n.Assign s o l r) t lt e)
       ∙ ap (λ v. verdict w (marked_tree fg.place cg.place kg.place (tree_at ns) (n.Assign s o v r))) q
-      ∙ pattern-verdict ns w s o u r h (left-shape x (target.Pat u) b.from))
+      ∙ pattern-verdict ns w s o u r h (left-shape (target.Pat u) b.from))
 
   -- ---- all else
 
   -- ---- patterns, once more
 
-  pat-elem-by : {ns : Nodes F C K fg cg kg} {i j : ℕ} {x : Node F C K} (s : Span) (elems : Vec (Option PatId) Global)
-      (o p : Option PatId) → Stood ns i x → i < count ns → x ≡ n.PatArray s elems →
+  pat-elem-by : {ns : Nodes F C K fg cg kg} {i j : ℕ} {x : Node F C K} (s : Span) (elems : Vec (Option PatElem) Global)
+      (o p : Option PatElem) → Stood ns i x → i < count ns → x ≡ n.PatArray s elems →
       j < length elems.items → o ≡ get_or elems.items j o → o ≡ p → PatElemStep ns i p
   pat-elem-by s elems o None t lt e h g q = record { less = omega arith; from = tt }
-  pat-elem-by s elems o (Some p) t lt e h g q =
-      let b = pat-elem-below s elems o p t lt e h g q in
+  pat-elem-by s elems o (Some (elem.Item p)) t lt e h g q =
+      let b = pat-elem-below s elems o (elem.Item p) p t lt e h g q refl in
+      let a = b.less in
+      record { less = omega arith; from = b.from }
+  pat-elem-by s elems o (Some (elem.Rest u d p)) t lt e h g q =
+      let b = pat-elem-below s elems o (elem.Rest u d p) p t lt e h g q refl in
       let a = b.less in
       record { less = omega arith; from = b.from }
 
-  pub pat-elem-step : {ns : Nodes F C K fg cg kg} {i j : ℕ} {x : Node F C K} (s : Span)
-      (elems : Vec (Option PatId) Global) (o : Option PatId) → Stood ns i x → i < count ns → x ≡ n.PatArray s elems →
-      j < length elems.items → o ≡ get_or elems.items j o → PatElemStep ns i o
-  pat-elem-step s elems o t lt e h g = pat-elem-by s elems o o t lt e h g refl
-
   pub pat-elems-below : {ns : Nodes F C K fg cg kg} {i : ℕ} {x : Node F C K} (s : Span)
-      (elems : Vec (Option PatId) Global) → Stood ns i x → i < count ns → x ≡ n.PatArray s elems →
+      (elems : Vec (Option PatElem) Global) → Stood ns i x → i < count ns → x ≡ n.PatArray s elems →
       PatElemsBelow ns i elems.items
-  pat-elems-below s elems t lt e = record { each = λ j o h g. pat-elem-step s elems o t lt e h g }
+  pat-elems-below s elems t lt e = record { each = λ j o h g. pat-elem-by s elems o o t lt e h g refl }
 
   pat-prop-by : {ns : Nodes F C K fg cg kg} {i j : ℕ} {x : Node F C K} (s : Span) (props : Vec PatPropNode Global)
       (y z : PatPropNode) → Stood ns i x → i < count ns → x ≡ n.PatObject s props →
       j < length props.items → y ≡ get_or props.items j y → y ≡ z → PatPropStep ns i z
   pat-prop-by s props y (pat_prop.KeyValue u k v) t lt e h g q =
-      let b = pat-prop-in s props y (pat_prop.KeyValue u k v) (pat_part v) t lt e h g q
-      (in-right (pat_part v) (key_parts k) (pat_part v ∷ []) (inl refl)) in
+      let b = pat-prop-below s props y (pat_prop.KeyValue u k v) v t lt e h g q
+      (λ w own. in-right w (key_parts k) (part_parts v) own) in
       let a = b.less in
       record { less = omega arith; from = b.from }
   pat-prop-by s props y (pat_prop.Rest u d v) t lt e h g q =
-      let b = pat-prop-in s props y (pat_prop.Rest u d v) (pat_part v) t lt e h g q (inl refl) in
+      let b = pat-prop-below s props y (pat_prop.Rest u d v) v t lt e h g q (λ w own. own) in
       let a = b.less in
       record { less = omega arith; from = b.from }
   pat-prop-by s props y z t lt e h g q = record { less = omega arith; from = tt }
 
-  pub pat-prop-step : {ns : Nodes F C K fg cg kg} {i j : ℕ} {x : Node F C K} (s : Span)
-      (props : Vec PatPropNode Global) (y : PatPropNode) → Stood ns i x → i < count ns → x ≡ n.PatObject s props →
-      j < length props.items → y ≡ get_or props.items j y → PatPropStep ns i y
-  pat-prop-step s props y t lt e h g = pat-prop-by s props y y t lt e h g refl
-
   pub pat-props-below : {ns : Nodes F C K fg cg kg} {i : ℕ} {x : Node F C K} (s : Span)
       (props : Vec PatPropNode Global) → Stood ns i x → i < count ns → x ≡ n.PatObject s props →
       PatPropsBelow ns i props.items
-  pat-props-below s props t lt e = record { each = λ j y h g. pat-prop-step s props y t lt e h g }
+  pat-props-below s props t lt e = record { each = λ j y h g. pat-prop-by s props y y t lt e h g refl }
 
-  pub pat-props-more : (ns : Nodes F C K fg cg kg) (xs : List PatPropNode) (i : ℕ) (y : PatPropNode)
-      (fs gs whole : List Fault) → i < length xs → y ≡ get_or xs i y →
-      gs ≡ fs ++ prop_again (pat_prop_of fg.place cg.place kg.place (tree_at ns) y) →
-      fs ++ props_again (pat_props_of ns (drop i xs)) ≡ whole →
-      gs ++ props_again (pat_props_of ns (drop (i + 1) xs)) ≡ whole
-  pat-props-more ns xs i y fs gs whole h e g w =
-      let back = props_again (pat_props_of ns (drop (i + 1) xs)) in
-      ap (λ v. v ++ back) g ∙ append_assoc fs (prop_again (pat_prop_of fg.place cg.place kg.place (tree_at ns) y)) back
-      ∙ ap (λ v. fs ++ props_again (pat_props_of ns v)) (sym (drop_more xs i y h ∙ ap (λ v. v ∷ drop (i + 1) xs)
-      (sym e))) ∙ w
-
-  pub pats-ended : (ns : Nodes F C K fg cg kg) (xs : List (Option PatId)) (i : ℕ) (fs whole : List Fault) →
+  pub pats-ended : (ns : Nodes F C K fg cg kg) (xs : List (Option PatElem)) (i : ℕ) (fs whole : List Fault) →
       length xs ≤ i → fs ++ all_again (pats_of ns (drop i xs)) ≡ whole → fs ≡ whole
   pats-ended ns xs i fs whole h w = sym (ap (λ v. fs ++ all_again (pats_of ns v)) (drop_all i xs h) ∙ append-nil fs) ∙ w
 

@@ -1,19 +1,19 @@
 -- What was checked and refined: the pattern that the expression is, where nothing was recorded.
-use Rattle.std.proofs.Common.{◌≡◌, ℕ, ◌<◌, ◌≢◌, Bool, true, false, List, Option, Some, None, refl, sym, ap, subst, ◌∙◌, arith}
+use Rattle.std.proofs.Common.{◌≡◌, ℕ, List, Option, Some, None, sym, ap, subst, ◌∙◌}
 use Rattle.std.specs.Prelude.{if◌then◌else◌}
-use Rattle.swc_context.specs.{declared.context.Context.Context, declared.error.Error.Error, declared.span.Span.Span}
+use Rattle.swc_context.specs.{declared.error.Error.Error, declared.span.Span.Span}
 use Rattle.swc_input.specs.{Buffer.context, Source.Model, declared.buffer.Buffer.Buffer}
-use Rattle.swc_ast.specs.Tree.{array, array_with, object_with, Tree, node, Trees}
+use Rattle.swc_ast.specs.Tree.{array}
 use Rattle.swc_ast.specs.{Trees.is_valid, Trees.are_valid, declared.expr.ExprOrSpread.ExprOrSpread, declared.spanned.Spanned.Ghosts}
-use Rattle.swc_grammar.specs.Cover.{binding, is_pattern, as_elements, as_literal, heads_ok}
+use Rattle.swc_grammar.specs.Cover.{binding, as_elements}
 use Rattle.swc_cover.proofs.Formed.{Formed, AllFormed, part-formed, items-formed}
 use Rattle.swc_cover.proofs.{Bound.params-are, Checked.whole-then, Fitting.chain-in, Ties.pattern-is, Ties.as-elems-is}
 use Rattle.swc_cover.specs.Refining.{ChecksWhole, Unfitting, Refined, RefinedItems, fits_at, items_at, pats_at, items_floor, params_ok, takes_heads}
-use Rattle.swc_cover.specs.{Fits.Binding, Fits.elems_fit, Heads.names_ok, Items.want_items, Items.AllMade, Moving.KeptTo, PatTypes.want_as, PatTypes.pattern_as, declared.pat_type.PatType.PatType, declared.pat_type.PatType.TheVariants.AssignPat}
+use Rattle.swc_cover.specs.{Fits.Binding, Fits.elems_fit, Heads.names_ok, Items.want_items, Items.AllMade, Moving.KeptTo, PatTypes.want_as, declared.pat_type.PatType.PatType}
 use Rattle.swc_nodes.specs.NodeParts.{expr_part, pat_part, flat, item_parts}
 use Rattle.swc_nodes.specs.GrowingNodes.{count, seat_at, tree_at, first_at, Apart, From, Made}
 use Rattle.swc_nodes.specs.{declared.node.ExprId.ExprId, declared.node.PatId.PatId, declared.nodes.Nodes.Nodes}
-use Rattle.swc_steps.specs.Parsing.{Checks, Loud, recorded}
+use Rattle.swc_steps.specs.Parsing.{Checks, recorded}
 use Rattle.swc_steps.specs.declared.productions.Productions.{Productions}
 
 module _ {F C K : Type 0} {fg : Ghosts F} {cg : Ghosts C} {kg : Ghosts K} where
@@ -90,52 +90,3 @@ module _ {S H F C K : Type 0} {fg : Ghosts F} {cg : Ghosts C} {kg : Ghosts K} {m
     made = m;
     params = elements-are comma xs ps a m;
   }
-
--- ---- for callers: what is told by whether a fault was recorded
-
-must-fit : {m n : ℕ} (b : Bool) → (b ≡ false → m < n) → n ≡ m → b ≡ true
-must-fit true f e = refl
-must-fit false f e = let h = f refl in absurd (omega arith)
-
-module _ {F C K : Type 0} where
-  some-by : {o : Option (Tree F C K)} (b : Bool) (u : Tree F C K) → o ≡ (if b then Some u else None) → b ≡ true →
-      o ≡ Some u
-  some-by true u e h = e
-  some-by false u e h = cc
-
-  heads-by : (c : Context) (o : Option (Trees F C K)) (b : Bool) (us : Trees F C K) →
-      o ≡ (if b then Some us else None) →
-      takes_heads c o ≡ true → (o ≡ Some us) × (heads_ok c us ≡ true)
-  heads-by c o true us e h = (e, sym (ap (takes_heads c) e) ∙ h)
-  heads-by c o false us e h = let k = sym (ap (takes_heads c) e) ∙ h in absurd (never k)
-    where
-      never : false ≡ true → ⊥
-      never e = cc
-
-  -- a literal that is assigned to, by the grammar
-  pub literal-is : (strict : Bool) (t : Tree F C K) → is_pattern t ≡ true →
-      pattern_as strict AssignPat t ≡ as_literal strict t
-  literal-is strict (node (array_with c) s ts) h = refl
-  literal-is strict (node (object_with c) s ts) h = refl
-  literal-is strict (node k s ts) h = cc
-
-module _ {S H F C K : Type 0} {fg : Ghosts F} {cg : Ghosts C} {kg : Ghosts K} {model : Model S} where
-  -- nothing was recorded: the answer is the pattern that the expression is
-  pub refined-clean : {p q : Productions S H F C K fg cg kg} {t : PatType} {id : ExprId} {pat : PatId} →
-      Refined model t id p pat q → is_valid (tree_at p.nodes id.0) ≡ true → Loud model p.input →
-      recorded model q.input ≡ recorded model p.input →
-      pattern_as (context model p.input).strict t (tree_at p.nodes id.0) ≡ Some (tree_at q.nodes pat.0)
-  refined-clean {p} {q} {t} {id} {pat} r v loud same =
-      some-by (fits_at model t id p) (tree_at q.nodes pat.0) r.pattern
-      (must-fit (fits_at model t id p) (λ n. r.checks.notes v n loud) same)
-
-  -- the same of items that become parameters
-  pub items-clean : {p q : Productions S H F C K fg cg kg} {xs : List (ExprOrSpread ExprId)} {comma : Option Span}
-      {ps : List PatId} → RefinedItems model xs comma p ps q → are_valid (items_at p.nodes xs) ≡ true →
-      Loud model p.input → recorded model q.input ≡ recorded model p.input →
-      (as_elements binding comma (items_at p.nodes xs) ≡ Some (pats_at q.nodes ps))
-      × (heads_ok (context model p.input) (pats_at q.nodes ps) ≡ true)
-  items-clean {p} {q} {xs} {comma} {ps} r v loud same =
-      heads-by (context model p.input) (as_elements binding comma (items_at p.nodes xs))
-      (elems_fit Binding comma (items_at p.nodes xs)) (pats_at q.nodes ps) r.params
-      (must-fit (params_ok (context model p.input) comma (items_at p.nodes xs)) (λ n. r.checks.notes v n loud) same)

@@ -8,8 +8,8 @@ use Rattle.swc_cover.specs.Faults.{clean, recorded, one_if, verdict}
 use Rattle.swc_cover.specs.PatTypes.{role_in, role_for, way_in, stands_whole, held_whole, want_as, fits_as, verdict_as}
 use Rattle.swc_cover.specs.Wanted.{want, Assign, Ident}
 use Rattle.swc_cover.specs.declared.pat_type.PatType.TheVariants.{BindingPat, BindingElement, AssignPat, AssignElement}
-use Rattle.swc_cover.specs.{Fits.fits, Roles.sought, declared.faults.FaultKind.FaultKind as fault, declared.pat_type.PatType.PatType, declared.role.Role.Role as NodeRole}
-use Rattle.swc_nodes.specs.{NodeParts.Part, GrowingNodes.Made, declared.nodes.Nodes.Nodes}
+use Rattle.swc_cover.specs.{Fits.fits, Roles.sought, declared.faults.FaultKind.FaultKind as fault, declared.pat_type.PatType.PatType}
+use Rattle.swc_nodes.specs.{NodeParts.Part, GrowingNodes.Made, declared.nodes.Nodes.Nodes, declared.role.Role.Role as NodeRole}
 
 chosen : {A : Type 0} (b : Bool) (x y : A) → b ≡ true → (if b then x else y) ≡ x
 chosen true x y h = refl

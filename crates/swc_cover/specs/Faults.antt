@@ -6,7 +6,8 @@ use Rattle.swc_ast.specs.{Targets.is_target, Trees.is_ident}
 use Rattle.swc_grammar.specs.Cover.{is_assign, is_pattern}
 use Rattle.swc_cover.specs.Fits as way
 use Rattle.swc_cover.specs.declared.faults.OwnKind.TheVariants.{Held, Assignment, Other}
-use Rattle.swc_cover.specs.{Fits.is_nil, declared.faults.Fault.Fault, declared.faults.FaultKind.FaultKind, declared.faults.FaultKind.FaultKind as fault, declared.faults.OwnKind.OwnKind, Roles.kind_of}
+use Rattle.swc_cover.specs.{Fits.is_nil, declared.faults.Fault.Fault, declared.faults.FaultKind.FaultKind, declared.faults.FaultKind.FaultKind as fault, declared.faults.OwnKind.OwnKind}
+use Rattle.swc_nodes.specs.Turning.{kind_of}
 
 -- what is recorded, and the property at which it is refused: nothing is recorded after that
 pub record Verdict : Type 0 where

@@ -4,9 +4,9 @@ use Rattle.swc_context.specs.declared.span.Span.{Span}
 use Rattle.swc_ast.specs.Tree.{Trees, trees, array}
 use Rattle.swc_ast.specs.{declared.expr.ExprOrSpread.ExprOrSpread, declared.spanned.Spanned.Ghosts}
 use Rattle.swc_cover.specs.Wanted as wanted
-use Rattle.swc_cover.specs.{Wanted.pat_elems, Wanted.want_parts, Roles.Due, declared.items.Dotted.Dotted, declared.role.Role.Role}
+use Rattle.swc_cover.specs.{Wanted.pat_elems, Wanted.want_parts, declared.items.Dotted.Dotted}
 use Rattle.swc_nodes.specs.NodeParts.{expr_part, flat, one_pat}
-use Rattle.swc_nodes.specs.{Renumbering.given, GrowingNodes.tree_at, GrowingNodes.Apart, declared.renumbering.Numbers.Numbers, declared.node.ExprId.ExprId, declared.node.PatId.PatId, declared.nodes.Nodes.Nodes}
+use Rattle.swc_nodes.specs.{GrowingNodes.tree_at, GrowingNodes.Apart, declared.node.ExprId.ExprId, declared.node.PatId.PatId, declared.nodes.Nodes.Nodes, Roles.Due, declared.role.Role.Role}
 
 -- what items become: as the elements of an array do that binds
 abbrev pub want_items : {F C K : Type 0} → Trees F C K → Trees F C K
@@ -15,13 +15,13 @@ want_items ts = pat_elems (want_parts wanted.Array wanted.Bind array ts)
 abbrev pub item_due : Role → ExprOrSpread ExprId → Due
 item_due r x = record { part = expr_part x.expr; role = r }
 
--- the pattern of an item that is no spread, by its new number
-abbrev pub listed_as : Numbers → Option Span → ExprId → List PatId
-listed_as ids None e = record { 0 = given ids e.0 } ∷ []
-listed_as ids (Some d) e = []
+-- the pattern of an item that is no spread, which keeps its number
+abbrev pub listed_as : Option Span → ExprId → List PatId
+listed_as None e = record { 0 = e.0 } ∷ []
+listed_as (Some d) e = []
 
-abbrev pub listed : Numbers → ExprOrSpread ExprId → List PatId
-listed ids x = listed_as ids x.spread x.expr
+abbrev pub listed : ExprOrSpread ExprId → List PatId
+listed x = listed_as x.spread x.expr
 
 -- the last item, where it is a spread
 abbrev pub dotted : Option Span → ExprId → Option Dotted

@@ -1,5 +1,4 @@
 pub mod Moving
-pub mod Nodes
 pub mod Noting
 pub mod Rewriting
 pub mod Roles

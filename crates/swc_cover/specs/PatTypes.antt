@@ -8,7 +8,8 @@ use Rattle.swc_cover.specs.Faults.{Verdict, recorded, one_if, verdict}
 use Rattle.swc_cover.specs.Fits.{Way, Binding, Target, fits}
 use Rattle.swc_cover.specs.Wanted.{Role, Bind, Assign, want}
 use Rattle.swc_cover.specs.declared.pat_type.PatType.TheVariants.{BindingPat, BindingElement, AssignPat, AssignElement}
-use Rattle.swc_cover.specs.{declared.faults.FaultKind.FaultKind as fault, declared.pat_type.PatType.PatType, declared.role.Role.Role as NodeRole, declared.role.Role.Role as node_role}
+use Rattle.swc_cover.specs.{declared.faults.FaultKind.FaultKind as fault, declared.pat_type.PatType.PatType}
+use Rattle.swc_nodes.specs.declared.role.Role.{Role as NodeRole, Role as node_role}
 
 -- as what the parts of such a pattern are refined
 abbrev pub element_of : PatType → PatType

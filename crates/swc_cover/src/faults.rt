@@ -1,23 +1,23 @@
 // What is recorded where an expression becomes a pattern, in its order.
 ghost use Rattle.std.specs.Prelude.{◌≡◌, ◌++◌, true, None, IfOk};
 ghost use Rattle.swc_cover.specs.Faults.{again, all_again, prop_again, props_again, own_faults, own_kind, kind_faults, left_faults, one, one_if, spread_faults, rest_faults, comma_faults, plain_assignment, may_rest, Recorded, param_faults, param_verdict, params_verdict, verdict, elem_verdict, elems_verdict, held_verdict, prop_verdict, props_verdict, recorded};
-ghost use Rattle.swc_cover.specs.Below.{ElemFrom, PropFrom, PatElemFrom, PatPropFrom, ElemsBelow, PropsBelow, PatElemsBelow, PatPropsBelow};
-ghost use Rattle.swc_cover.specs.{Checking.way_of, PatTypes.verdict_as, Roles.kind_of};
+ghost use Rattle.swc_cover.specs.Below.{ElemFrom, PropFrom, PatElemFrom, PatPropFrom, ElemsBelow, PropsBelow, PatElemsBelow, PatPropsBelow, PatPartFrom};
+ghost use Rattle.swc_cover.specs.{Checking.way_of, PatTypes.verdict_as};
+ghost use Rattle.swc_nodes.specs.Turning.{kind_of};
 ghost use Rattle.swc_cover.specs.Fits as cover;
-ghost use Rattle.swc_ast.specs.Parts.{or_hole, item_tree, item_trees};
-ghost use Rattle.swc_nodes.specs.Lists.{elem_tree, elem_trees, props_trees, pat_elem_trees, pat_props_trees};
-ghost use Rattle.swc_nodes.specs.NodeTree.{prop_of, pat_prop_of};
+ghost use Rattle.swc_ast.specs.Parts.{item_tree, item_trees};
+ghost use Rattle.swc_nodes.specs.Lists.{elem_tree, elem_trees, props_trees, pat_props_trees, held_elem_tree, held_elem_trees};
+ghost use Rattle.swc_nodes.specs.NodeTree.{prop_of, pat_prop_of, part_tree};
 ghost use Rattle.swc_nodes.specs.NodeParts.{expr_part, pat_part, flat, item_parts};
 ghost use Rattle.swc_nodes.specs.GrowingNodes.{tree_at, Apart, From};
 
 use crate::checking::{Way, is_assignment, is_plain};
-use crate::making::span;
 use crate::pat_type::{PatType, stands_whole};
 use std::alloc::AllocError;
 use swc_ast::expr::ExprOrSpread;
 use swc_ast::spanned::Spanned;
 use swc_context::span::Span;
-use swc_nodes::node::{ExprId, Node, PatId, PatPropNode, PropNode, TargetNode};
+use swc_nodes::node::{ExprId, Node, PatElem, PatId, PatPart, PatPropNode, PropNode, TargetNode};
 use swc_nodes::nodes::Nodes;
 
 /// What is wrong of an expression that is to become a pattern.
@@ -530,9 +530,9 @@ fn record_again<F: Spanned + Drop, C: Spanned + Drop, K: Spanned + Drop>(
     match nodes.get(id.0) {
         Node::PatArray { elems, .. } => again_elems(faults, nodes, id, elems),
         Node::PatObject { props, .. } => again_props(faults, nodes, id, props),
-        Node::PatAssign { left, .. } => record_again(faults, nodes, *left),
+        Node::PatAssign { left, .. } => again_part(faults, nodes, *left),
         Node::PatRest { arg, .. } => record_again(faults, nodes, *arg),
-        Node::PatExpr(_) => record(faults, FaultKind::InvalidPat, span(nodes, id.0)),
+        Node::PatExpr(_) => record(faults, FaultKind::InvalidPat, nodes.pat_extent(id)),
         _ => Ok(()),
     }
 }
@@ -543,11 +543,11 @@ fn again_elems<F: Spanned + Drop, C: Spanned + Drop, K: Spanned + Drop>(
     faults: &mut Vec<Fault>,
     nodes: &Nodes<F, C, K>,
     id: PatId,
-    elems: &Vec<Option<PatId>>,
+    elems: &Vec<Option<PatElem>>,
 ) -> Result<(), AllocError>
     requires { PatElemsBelow nodes.now id.0 elems.now.items }
     ensures { IfOk result (λ _. faults.new.items
-        ≡ faults.old.items ++ all_again (pat_elem_trees (tree_at nodes.now) elems.now)) }
+        ≡ faults.old.items ++ all_again (held_elem_trees (tree_at nodes.now) elems.now)) }
 {
     for i in 0..elems.len() {
         again_elem(faults, nodes, elems[i])?;
@@ -578,15 +578,33 @@ fn again_props<F: Spanned + Drop, C: Spanned + Drop, K: Spanned + Drop>(
 fn again_elem<F: Spanned + Drop, C: Spanned + Drop, K: Spanned + Drop>(
     faults: &mut Vec<Fault>,
     nodes: &Nodes<F, C, K>,
-    elem: Option<PatId>,
+    elem: Option<PatElem>,
 ) -> Result<(), AllocError>
     requires { PatElemFrom nodes.now elem }
     ensures { IfOk result (λ _. faults.new.items
-        ≡ faults.old.items ++ again (or_hole (λ p. tree_at nodes.now p.0) elem)) }
+        ≡ faults.old.items ++ again (held_elem_tree (tree_at nodes.now) elem)) }
 {
     match elem {
         None => Ok(()),
-        Some(pat) => record_again(faults, nodes, pat),
+        Some(PatElem::Item(part)) => again_part(faults, nodes, part),
+        Some(PatElem::Rest { arg, .. }) => again_part(faults, nodes, arg),
+    }
+}
+
+/// The same of a part of a pattern.
+#[cycle(again)]
+fn again_part<F: Spanned + Drop, C: Spanned + Drop, K: Spanned + Drop>(
+    faults: &mut Vec<Fault>,
+    nodes: &Nodes<F, C, K>,
+    part: PatPart,
+) -> Result<(), AllocError>
+    requires { PatPartFrom nodes.now part }
+    ensures { IfOk result (λ _. faults.new.items
+        ≡ faults.old.items ++ again (part_tree (tree_at nodes.now) part)) }
+{
+    match part {
+        PatPart::Pat(pat) => record_again(faults, nodes, pat),
+        PatPart::Expr(expr) => record(faults, FaultKind::InvalidPat, nodes.extent(expr)),
     }
 }
 
@@ -602,7 +620,7 @@ fn again_prop<F: Spanned + Drop, C: Spanned + Drop, K: Spanned + Drop>(
         ≡ faults.old.items ++ prop_again (pat_prop_of F.place C.place K.place (tree_at nodes.now) prop.now)) }
 {
     match prop {
-        PatPropNode::KeyValue { value, .. } => record_again(faults, nodes, *value),
+        PatPropNode::KeyValue { value, .. } => again_part(faults, nodes, *value),
         PatPropNode::Assign { .. } => Ok(()),
         PatPropNode::Rest { span, arg, .. } => record_if(
             faults,
@@ -613,13 +631,16 @@ fn again_prop<F: Spanned + Drop, C: Spanned + Drop, K: Spanned + Drop>(
     }
 }
 
-/// Whether an object's rest may hold the pattern: an identifier, or what is recorded of itself.
+/// Whether an object's rest may hold the part: an identifier, or what is recorded of itself.
 fn is_rest<F: Spanned + Drop, C: Spanned + Drop, K: Spanned + Drop>(
     nodes: &Nodes<F, C, K>,
-    id: PatId,
+    part: PatPart,
 ) -> bool
-    requires { From 0 nodes.now (pat_part id) }
-    ensures { result ≡ may_rest (tree_at nodes.now id.0) }
+    requires { PatPartFrom nodes.now part }
+    ensures { result ≡ may_rest (part_tree (tree_at nodes.now) part) }
 {
-    matches!(nodes.get(id.0), Node::PatIdent(_) | Node::PatInvalid(_))
+    match part {
+        PatPart::Pat(id) => matches!(nodes.get(id.0), Node::PatIdent(_) | Node::PatInvalid(_)),
+        PatPart::Expr(_) => false,
+    }
 }

@@ -1,14 +1,15 @@
 // The names `eval` and `arguments` that parameters bind, which in strict code they may not (ECMA-262, 13.1.1 and
 // 15.3.1).
 ghost use Rattle.std.specs.Prelude.{◌≡◌, ◌++◌, ◌≤◌, not, ◌||◌, map, IfOk, OnOk};
-ghost use Rattle.swc_ast.specs.{Parts.or_hole, Tree.trees};
-ghost use Rattle.swc_cover.specs.Below.{PatElemFrom, PatPropFrom, PatElemsBelow, PatPropsBelow};
+ghost use Rattle.swc_ast.specs.Tree.{trees};
+ghost use Rattle.swc_cover.specs.Below.{PatElemFrom, PatPropFrom, PatElemsBelow, PatPropsBelow, PatPartFrom};
 ghost use Rattle.swc_cover.specs.Heads.{name_spans, reserved_spans, all_reserved, prop_reserved, props_reserved, has_none, names_ok};
 ghost use Rattle.swc_cover.specs.Noting.{name_error, names_bound, NotesStrict};
 ghost use Rattle.swc_input.specs.Buffer.{context, to_come};
 ghost use Rattle.swc_nodes.specs.NodeParts.{pat_part, one_pat, flat};
 ghost use Rattle.swc_nodes.specs.GrowingNodes.{tree_at, Apart, From};
-ghost use Rattle.swc_nodes.specs.{Lists.pat_elem_trees, Lists.pat_props_trees, NodeTree.pat_prop_of};
+ghost use Rattle.swc_nodes.specs.Lists.{pat_props_trees, held_elem_tree, held_elem_trees};
+ghost use Rattle.swc_nodes.specs.NodeTree.{pat_prop_of, part_tree};
 ghost use Rattle.swc_steps.specs.Parsing.{Checked};
 
 use std::alloc::AllocError;
@@ -19,7 +20,7 @@ use swc_context::error::{PResult, SyntaxError};
 use swc_context::span::Span;
 use swc_input::buffer::Buffer;
 use swc_input::tokens::Tokens;
-use swc_nodes::node::{Node, PatId, PatPropNode};
+use swc_nodes::node::{Node, PatElem, PatId, PatPart, PatPropNode};
 use swc_nodes::nodes::{Nodes, NodesOf};
 
 /// Records each name `eval` and `arguments` that parameters bind in strict code, in a module; elsewhere these faults
@@ -91,7 +92,7 @@ fn add_names<F: Spanned + Drop, C: Spanned + Drop, K: Spanned + Drop>(
         Node::PatIdent(name) => add_name(spans, name),
         Node::PatArray { elems, .. } => add_elems_names(spans, nodes, id, elems),
         Node::PatObject { props, .. } => add_props_names(spans, nodes, id, props),
-        Node::PatAssign { left, .. } => add_names(spans, nodes, *left),
+        Node::PatAssign { left, .. } => add_part_names(spans, nodes, *left),
         Node::PatRest { arg, .. } => add_names(spans, nodes, *arg),
         _ => Ok(()),
     }
@@ -103,11 +104,11 @@ fn add_elems_names<F: Spanned + Drop, C: Spanned + Drop, K: Spanned + Drop>(
     spans: &mut Vec<Span>,
     nodes: &Nodes<F, C, K>,
     id: PatId,
-    elems: &Vec<Option<PatId>>,
+    elems: &Vec<Option<PatElem>>,
 ) -> Result<(), AllocError>
     requires { PatElemsBelow nodes.now id.0 elems.now.items }
     ensures { IfOk result (λ _. spans.new.items
-        ≡ spans.old.items ++ all_reserved (pat_elem_trees (tree_at nodes.now) elems.now)) }
+        ≡ spans.old.items ++ all_reserved (held_elem_trees (tree_at nodes.now) elems.now)) }
 {
     for i in 0..elems.len() {
         add_elem_names(spans, nodes, elems[i])?;
@@ -138,15 +139,33 @@ fn add_props_names<F: Spanned + Drop, C: Spanned + Drop, K: Spanned + Drop>(
 fn add_elem_names<F: Spanned + Drop, C: Spanned + Drop, K: Spanned + Drop>(
     spans: &mut Vec<Span>,
     nodes: &Nodes<F, C, K>,
-    elem: Option<PatId>,
+    elem: Option<PatElem>,
 ) -> Result<(), AllocError>
     requires { PatElemFrom nodes.now elem }
     ensures { IfOk result (λ _. spans.new.items
-        ≡ spans.old.items ++ reserved_spans (or_hole (λ p. tree_at nodes.now p.0) elem)) }
+        ≡ spans.old.items ++ reserved_spans (held_elem_tree (tree_at nodes.now) elem)) }
 {
     match elem {
         None => Ok(()),
-        Some(pat) => add_names(spans, nodes, pat),
+        Some(PatElem::Item(part)) => add_part_names(spans, nodes, part),
+        Some(PatElem::Rest { arg, .. }) => add_part_names(spans, nodes, arg),
+    }
+}
+
+/// The same of a part of a pattern.
+#[cycle(names)]
+fn add_part_names<F: Spanned + Drop, C: Spanned + Drop, K: Spanned + Drop>(
+    spans: &mut Vec<Span>,
+    nodes: &Nodes<F, C, K>,
+    part: PatPart,
+) -> Result<(), AllocError>
+    requires { PatPartFrom nodes.now part }
+    ensures { IfOk result (λ _. spans.new.items
+        ≡ spans.old.items ++ reserved_spans (part_tree (tree_at nodes.now) part)) }
+{
+    match part {
+        PatPart::Pat(pat) => add_names(spans, nodes, pat),
+        PatPart::Expr(_) => Ok(()),
     }
 }
 
@@ -162,9 +181,9 @@ fn add_prop_names<F: Spanned + Drop, C: Spanned + Drop, K: Spanned + Drop>(
         ≡ spans.old.items ++ prop_reserved (pat_prop_of F.place C.place K.place (tree_at nodes.now) prop.now)) }
 {
     match prop {
-        PatPropNode::KeyValue { value, .. } => add_names(spans, nodes, *value),
+        PatPropNode::KeyValue { value, .. } => add_part_names(spans, nodes, *value),
         PatPropNode::Assign { key, .. } => add_name(spans, key),
-        PatPropNode::Rest { arg, .. } => add_names(spans, nodes, *arg),
+        PatPropNode::Rest { arg, .. } => add_part_names(spans, nodes, *arg),
     }
 }
 

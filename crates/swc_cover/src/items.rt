@@ -2,13 +2,10 @@
 ghost use Rattle.std.specs.Prelude.{◌≡◌, ◌++◌, map, IfOk};
 ghost use Rattle.swc_ast.specs.Parts.{item_trees};
 ghost use Rattle.swc_cover.specs.Items.{item_due, listed, last_rest, want_items, AllMade};
-ghost use Rattle.swc_cover.specs.{Moving.KeptTo, Roles.due};
+ghost use Rattle.swc_cover.specs.Moving.{KeptTo};
 ghost use Rattle.swc_nodes.specs.GrowingNodes.{count, tree_at, seat_at, Apart};
-ghost use Rattle.swc_nodes.specs.{NumberedTrees.floor, NodeParts.flat, NodeParts.item_parts};
+ghost use Rattle.swc_nodes.specs.{NumberedTrees.floor, NodeParts.flat, NodeParts.item_parts, Roles.due};
 
-use crate::making::span;
-use crate::moving::move_over;
-use crate::role::{Duty, Role};
 use std::alloc::{AllocError, Global};
 use swc_ast::expr::ExprOrSpread;
 use swc_ast::spanned::Spanned;
@@ -16,7 +13,7 @@ use swc_context::span::Span;
 use swc_nodes::apart::PartId;
 use swc_nodes::node::{ExprId, Node, PatId};
 use swc_nodes::nodes::Nodes;
-use swc_nodes::renumbering::Numbers;
+use swc_nodes::role::{Duty, Role};
 
 /// What a spread holds, and where its dots are.
 #[derive(Clone, Copy)]
@@ -25,8 +22,8 @@ pub struct Dotted {
     pub held: ExprId,
 }
 
-/// Makes patterns of items, and drops all after them, as `refine` does of one expression. All are taken from
-/// the end before the first is appended again. A spread that is the last becomes a rest; any other is dropped.
+/// Makes patterns of items, where they are, and drops all after them. A spread that is the last becomes a rest,
+/// which is appended; any other is dropped.
 pub fn refine_items<F: Spanned + Drop, C: Spanned + Drop, K: Spanned + Drop>(
     nodes: &mut Nodes<F, C, K>,
     alloc: Global,
@@ -40,17 +37,16 @@ pub fn refine_items<F: Spanned + Drop, C: Spanned + Drop, K: Spanned + Drop>(
         (want_items (item_trees (λ e. tree_at nodes.old e.0) items.now.items))) }
 {
     let roots = item_roots(alloc, items)?;
-    let ids = move_over(nodes, alloc, roots)?;
-    let mut pats = plain_items(alloc, items, &ids)?;
+    nodes.turn(alloc, roots)?;
+    let mut pats = plain_items(alloc, items)?;
     match last_item(items) {
         None => Ok(pats),
         Some(last) => {
-            let held = ids.get(last.held.0);
-            let place = span(nodes, held);
+            let arg = PatId(last.held.0);
             let rest = Node::PatRest {
-                span: place,
+                span: nodes.pat_extent(arg),
                 dot3_token: last.dots,
-                arg: PatId(held),
+                arg,
             };
             let id = nodes.push(rest)?;
             pats.push(PatId(id))?;
@@ -74,30 +70,22 @@ fn item_roots(alloc: Global, items: &Vec<ExprOrSpread<ExprId>>) -> Result<Vec<Du
 }
 
 /// The patterns of the items that are no spreads.
-fn plain_items(
-    alloc: Global,
-    items: &Vec<ExprOrSpread<ExprId>>,
-    ids: &Numbers,
-) -> Result<Vec<PatId>, AllocError>
-    ensures { IfOk result (λ pats. pats.items ≡ flat (listed ids.now) items.now.items) }
+fn plain_items(alloc: Global, items: &Vec<ExprOrSpread<ExprId>>) -> Result<Vec<PatId>, AllocError>
+    ensures { IfOk result (λ pats. pats.items ≡ flat listed items.now.items) }
 {
     let mut pats = Vec::new(alloc);
     for item in items {
-        add_plain(&mut pats, item, ids)?;
+        add_plain(&mut pats, item)?;
     }
     Ok(pats)
 }
 
-fn add_plain(
-    pats: &mut Vec<PatId>,
-    item: &ExprOrSpread<ExprId>,
-    ids: &Numbers,
-) -> Result<(), AllocError>
-    ensures { IfOk result (λ _. pats.new.items ≡ pats.old.items ++ listed ids.now item.now) }
+fn add_plain(pats: &mut Vec<PatId>, item: &ExprOrSpread<ExprId>) -> Result<(), AllocError>
+    ensures { IfOk result (λ _. pats.new.items ≡ pats.old.items ++ listed item.now) }
 {
     match item.spread {
         None => {
-            pats.push(PatId(ids.get(item.expr.0)))?;
+            pats.push(PatId(item.expr.0))?;
             Ok(())
         }
         Some(_) => Ok(()),

@@ -1,4 +1,5 @@
-// Expressions that were read become patterns: what is wrong of them is recorded, and their nodes are moved over.
+// Expressions that were read become patterns: what is wrong of them is recorded, and their nodes become those of
+// patterns.
 ghost use Rattle.std.specs.Prelude.{◌≡◌, ◌≢◌, ◌≤◌, ◌&&◌, true, false, IfOk, IfErr, OnOk};
 ghost use Rattle.swc_context.specs.declared.error.SyntaxError.TheVariants.{OutOfMemory};
 ghost use Rattle.swc_cover.specs.Noting.{names_bound, JudgesBy, JudgesParams};
@@ -38,7 +39,8 @@ pub fn reparse_expr_as_pat<I: Tokens, B: Bodies<I>>(
         (tree_at p.old.nodes id.0))) p.old.input p.new.input) }
     ensures unclear { IfErr result (λ e. e.kind ≢ OutOfMemory
         → is_clear (verdict_as (context I.model p.old.input).strict pat_type (tree_at p.old.nodes id.0)) ≡ false) }
-    ensures judges { JudgesBy I.model (verdict_as (context I.model p.old.input).strict pat_type (tree_at p.old.nodes id.0))
+    ensures judges { JudgesBy I.model
+        (verdict_as (context I.model p.old.input).strict pat_type (tree_at p.old.nodes id.0))
         p.old.input result p.new.input }
     ensures kept { OnOk result
         (at_token no_error (seen p.old.input) ≡ true → current p.new.input ≡ current p.old.input) }

@@ -7,21 +7,20 @@ use Rattle.swc_ast.specs.Tree.{Tree, node, args, no_span}
 use Rattle.swc_ast.specs.{Trees.items_of, Trees.unmarked, TreeOf.pat_tree, declared.pat.Pat.Pat as PatOf, declared.spanned.Spanned.Ghosts}
 use Rattle.swc_bodies.specs.Readings.{Hook, LawfulHook}
 use Rattle.swc_grammar.specs.{Clean.sym as at, Clean.run, Patterns.any, Patterns.all_bind_names, Scope.Scope, Symbols.Heads, Words.◌>>=◌}
-use Rattle.swc_grammar.proofs.Complete as clean_all
 use Rattle.swc_grammar.proofs.Cut.{cut-append}
-use Rattle.swc_grammar.proofs.Sound as clean
 use Rattle.swc_nodes.specs.GrowingNodes.{tree_at, bare_at, CutTo}
 use Rattle.swc_nodes.specs.{Commas.part_commas, Commas.Recalls, Lists.pats_parts, declared.commas.TrailingCommas.TrailingCommas, declared.node.PatId.PatId, declared.nodes.Nodes.Nodes}
 use Rattle.swc_steps.specs.Parsing.{scope, Parses}
 use Rattle.swc_steps.proofs.Steps.{Reader}
-use Rattle.swc_verifier.proofs.Left.{pats-left}
+use Rattle.swc_ecma_parser.proofs.{Left.pats-left, Placed.heads-kept-placed, Placed.heads-placed, Refined.pats-bare}
 use Rattle.swc_ecma_parser.specs.Promise.{BoundItems, EndsAt, Finished, RemembersAll, ReadsAs, Sound, covers_done, keep_items, only_items}
 use Rattle.swc_ecma_parser.specs.{Calls.pats_tree, Calls.Kept, Finishing.parts_done, Finishing.ChecksAnswer, Heads.heads_at, Heads.heads_items}
 use Rattle.swc_ecma_parser.proofs.ArrowParams.{items-bare, items-bind, items-bind-marked, pats-commas}
 use Rattle.swc_ecma_parser.proofs.Finished.{checked, finished-complete, finished-derives, finished-parses, finished-sound, finished-well, meets-checked, parts-told, parts-told-bare}
 use Rattle.swc_ecma_parser.proofs.Moving.{kept-moved, kept-parses, moved-parses, recalled-by}
 use Rattle.swc_ecma_parser.proofs.Top.{IsSound, IsComplete, Leaves, Meets, bare, is_sound_as, items_grouped, items_valid, leaves-items, meets, stripped_from, well_as}
-use Rattle.swc_ecma_parser.proofs.{Placed.heads-kept-placed, Placed.heads-placed, Refined.pats-bare}
+use Rattle.swc_grammar.proofs.Complete as clean_all
+use Rattle.swc_grammar.proofs.Sound as clean
 
 module _ {F C K : Type 0} {fun_at : F → Span} {class_at : C → Span} {block_at : K → Span} (hook : Hook F C K)
     (laws : LawfulHook fun_at class_at block_at hook) where

@@ -1,6 +1,6 @@
 -- Readings that are finished: no cover name is left in what they give, where the syntax is pedantic. From an answer that was looked
 -- through for such names to what is promised of it.
-use Rattle.std.proofs.Common.{◌≡◌, ◌≢◌, ℕ, Bool, true, false, not, ◌||◌, if◌then◌else◌, List, [], ◌∷◌, Option, Some, None, Result, Ok, Err, IfOk, OnOk, MatchResult, refl, sym, ap, subst, ◌∙◌}
+use Rattle.std.proofs.Common.{◌≡◌, ◌≢◌, ℕ, Bool, true, false, not, ◌||◌, if◌then◌else◌, List, [], ◌∷◌, Some, None, Result, Ok, Err, IfOk, OnOk, MatchResult, refl, sym, ap, subst, ◌∙◌}
 use Rattle.swc_context.specs.{declared.error.Error.Error, declared.error.SyntaxError.TheVariants.OutOfMemory, declared.span.Span.Span}
 use Rattle.swc_input.specs.{Buffer.last_position, Recording.no_memory, Source.Model, declared.buffer.Buffer.Buffer, declared.token.TokenAndSpan.TokenAndSpan}
 use Rattle.swc_ast.specs.{Parts.args_tree, Pedantic.no_cover_left, Tree.Tree, Trees.unmarked, declared.expr.ExprOrSpread.ExprOrSpread, declared.spanned.Spanned.Ghosts}
@@ -9,12 +9,11 @@ use Rattle.swc_grammar.specs.Clean.{Out, sym as at, run}
 use Rattle.swc_grammar.specs.{Scope.Scope, Symbols.Symbol, Words.◌>>=◌}
 use Rattle.swc_grammar.specs.Reads as grammar
 use Rattle.swc_nodes.specs.Commas.{commas_in, part_commas, Recalls}
-use Rattle.swc_nodes.specs.NodeParts.{Part, args_parts, one_expr, one_pat}
-use Rattle.swc_nodes.specs.{GrowingNodes.tree_at, declared.commas.TrailingCommas.TrailingCommas, declared.node.ExprId.ExprId, declared.node.PatId.PatId, declared.nodes.Nodes.Nodes}
+use Rattle.swc_nodes.specs.NodeParts.{Part, args_parts, one_expr}
+use Rattle.swc_nodes.specs.{GrowingNodes.tree_at, declared.commas.TrailingCommas.TrailingCommas, declared.node.ExprId.ExprId, declared.nodes.Nodes.Nodes}
 use Rattle.swc_laws.proofs.PedanticTrees.{covers-unmarked}
-use Rattle.swc_verifier.specs.CoverNames.{covers_left, parts_covers_left}
-use Rattle.swc_verifier.proofs.Left.{args-left, expr-left, none-has, nowhere, pat-left}
-use Rattle.swc_patterns.specs.Answers.{pat_at}
+use Rattle.swc_ecma_parser.specs.CoverNames.{covers_left, parts_covers_left}
+use Rattle.swc_ecma_parser.proofs.Left.{args-left, expr-left, none-has, nowhere}
 use Rattle.swc_steps.specs.declared.tokens.Listed.{Listed}
 use Rattle.swc_steps.specs.Parsing.{scope, args_at, tree_of, Heard, Parses, Unheard}
 use Rattle.swc_steps.proofs.Steps.{Reader, give, forgoes_later, heard_more, on_checked_in, unheard_call, unheard_memory}
@@ -213,34 +212,13 @@ module _ {F C K : Type 0} where
 
 module _ {S F C K : Type 0} {fg : Ghosts F} {cg : Ghosts C} {kg : Ghosts K} (model : Model S) (sure : Bool) (f : Reader (Tree F C K))
     (ns : Nodes F C K fg cg kg) (b c d : Buffer S) where
-  -- of the trees of expressions, and of patterns, whose numbers are answered: in boxes, and as they are
+  -- of the tree of an expression whose number is answered, in boxes
   pub expr-boxes-checked : (answer r : Result ExprId Error) → Parses model sure (tree_of ns) f b answer c
       → ChecksAnswer model (λ e. parts_done (scope model c) (tree_at ns) (one_expr e)) c answer r d
       → Parses model sure (tree_of ns) (checked unmarked f) b r d
   expr-boxes-checked answer r h checks =
       finished-parses model sure (λ k t. covers_done k (unmarked t)) f (tree_of ns) _ b c d answer r h checks
       (λ e. parts-told-bare (scope model c) (tree_at ns) (one_expr e) (tree_of ns e) (expr-left (tree_at ns) e))
-
-  pub expr-checked : (answer r : Result ExprId Error) → Parses model sure (tree_of ns) f b answer c
-      → ChecksAnswer model (λ e. parts_done (scope model c) (tree_at ns) (one_expr e)) c answer r d
-      → Parses model sure (tree_of ns) (checked (λ t. t) f) b r d
-  expr-checked answer r h checks =
-      finished-parses model sure covers_done f (tree_of ns) _ b c d answer r h checks
-      (λ e. parts-told (scope model c) (tree_at ns) (one_expr e) (tree_of ns e) (expr-left (tree_at ns) e))
-
-  pub pat-boxes-checked : (answer r : Result PatId Error) → Parses model sure (pat_at ns) f b answer c
-      → ChecksAnswer model (λ p. parts_done (scope model c) (tree_at ns) (one_pat p)) c answer r d
-      → Parses model sure (pat_at ns) (checked unmarked f) b r d
-  pat-boxes-checked answer r h checks =
-      finished-parses model sure (λ k t. covers_done k (unmarked t)) f (pat_at ns) _ b c d answer r h checks
-      (λ p. parts-told-bare (scope model c) (tree_at ns) (one_pat p) (pat_at ns p) (pat-left (tree_at ns) p))
-
-  pub pat-checked : (answer r : Result PatId Error) → Parses model sure (pat_at ns) f b answer c
-      → ChecksAnswer model (λ p. parts_done (scope model c) (tree_at ns) (one_pat p)) c answer r d
-      → Parses model sure (pat_at ns) (checked (λ t. t) f) b r d
-  pat-checked answer r h checks =
-      finished-parses model sure covers_done f (pat_at ns) _ b c d answer r h checks
-      (λ p. parts-told (scope model c) (tree_at ns) (one_pat p) (pat_at ns p) (pat-left (tree_at ns) p))
 
   -- and of arguments, of which the items alone are left
   pub args-checked : (answer r : Result (Listed (ExprOrSpread ExprId)) Error) → Parses model sure (args_at ns) f b answer c

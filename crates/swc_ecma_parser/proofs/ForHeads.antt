@@ -1,5 +1,5 @@
 -- Heads of `for` (ECMA-262, 14.7.4 and 14.7.5), from what the code reads to what is promised of them.
-use Rattle.std.proofs.Common.{◌≡◌, ◌≢◌, ℕ, Bool, true, false, ◌&&◌, if◌then◌else◌, not, List, [], ◌∷◌, ◌++◌, Option, Some, None, Result, Ok, Err, IfOk, IfErr, OnOk, MatchResult, length, ◌||◌, refl, sym, ap, subst, ◌∙◌, arith}
+use Rattle.std.proofs.Common.{◌≡◌, ◌≢◌, ℕ, Bool, true, false, ◌&&◌, if◌then◌else◌, not, List, [], ◌∷◌, ◌++◌, Option, Some, None, Result, Ok, Err, IfOk, OnOk, MatchResult, length, ◌||◌, refl, sym, ap, subst, ◌∙◌, arith}
 use Rattle.swc_context.specs.{declared.error.Error.Error, declared.error.SyntaxError.TheVariants.OutOfMemory, declared.span.BytePos.BytePos, declared.span.Span.Span}
 use Rattle.swc_input.specs.Buffer.{Future, Known, context, last_position, previous, state_of}
 use Rattle.swc_input.specs.{declared.buffer.Buffer.Buffer, declared.token.Token.Token, declared.token.Token.Token as token, declared.token.TokenAndSpan.TokenAndSpan, Kinds.at_token, Laws.Future-some, Recording.is_silent, Recording.no_memory, Source.Model}
@@ -24,16 +24,14 @@ use Rattle.swc_cover.proofs.{Formed.Formed, Clear.clear-fits, Refines.expr-forme
 use Rattle.swc_steps.specs.Parsing.{scope, recorded, seen, tree_of, Checks, Heard, Here, Leads, Loud, On, Parses, Refuses, Unheard}
 use Rattle.swc_steps.proofs.Steps.{Reader, give, consumes_of, more_recorded, read_scope}
 use Rattle.swc_steps.proofs.{Endings.read-valid, Steps.Calls.on_call_read}
-use Rattle.swc_steps.proofs.Steps as steps
-use Rattle.swc_verifier.specs.CoverNames.{covers_left, parts_covers_left}
-use Rattle.swc_verifier.proofs.Left.{expr-left, pat-left}
+use Rattle.swc_ecma_parser.specs.{CoverNames.covers_left, CoverNames.parts_covers_left, declared.parser.Parser.Parser}
+use Rattle.swc_ecma_parser.proofs.{Left.expr-left, Left.pat-left, ArrowParams.heard_behind, Calling.failing, Calling.not_both, Moving.moved-as, Top.stripped, Top.complete}
 use Rattle.swc_ecma_parser.specs.Calls.{buffer_of, nodes_of, commas_of, has_failed, wants_memory, parser_failed, Kept}
 use Rattle.swc_ecma_parser.specs.Finishing.{no_places, parts_done, ChecksAnswer, ChecksCovers}
 use Rattle.swc_ecma_parser.specs.ForHeads.{boxed_head, coded, for_head_at, head_by, head_done, head_expr, is_each_word, is_target_id, DerivesHead, HeadAnswer, HeadPromise, PromisedHead, RemembersHead}
 use Rattle.swc_ecma_parser.specs.Promise.{Complete, Derivation, Finished, Unmarred, covers_done}
-use Rattle.swc_ecma_parser.specs.declared.parser.Parser.{Parser}
 use Rattle.swc_ecma_parser.proofs.Finished.{finished, finished-from, finished-into, finished-parses, parts-told, parts-told-bare}
-use Rattle.swc_ecma_parser.proofs.{ArrowParams.heard_behind, Calling.failing, Calling.not_both, Moving.moved-as, Top.stripped, Top.complete}
+use Rattle.swc_steps.proofs.Steps as steps
 
 -- ---- the definition, as the code goes it
 

@@ -21,8 +21,8 @@ use Rattle.swc_patterns.specs.{Answers.params_at, Answers.params_of, Params.para
 use Rattle.swc_steps.specs.Parsing.{scope, recorded, Checks, Loud, Acts, On, Unheard}
 use Rattle.swc_steps.specs.{Keys.expected, Lists.eaten}
 use Rattle.swc_steps.proofs.Hearing.{same_faults}
-use Rattle.swc_steps.proofs.Steps.{Reader, forgoes_later, forgoes_refuses, on_call, on_checked_in, on_then, on_within_call, spent, more_recorded, unheard_call, unheard_memory}
-use Rattle.swc_verifier.specs.CoverNames.{covers_left, covers_left_of_all, parts_covers_left}
+use Rattle.swc_steps.proofs.Steps.{Reader, forgoes_later, forgoes_refuses, on_checked_in, on_then, on_within_call, spent, more_recorded, unheard_call, unheard_memory}
+use Rattle.swc_ecma_parser.specs.CoverNames.{covers_left, covers_left_of_all, parts_covers_left}
 use Rattle.swc_ecma_parser.specs.Calls.{buffer_of, nodes_of, commas_of, has_failed, wants_memory, parser_failed, params_tree, Kept}
 use Rattle.swc_ecma_parser.specs.Promise.{ClosedBy, Derivation, DerivesOnlyParams, DerivesParams, Finished, ParamsAnswer, PromisedParams, RemembersParams, Unmarred, items_done, pats_of}
 use Rattle.swc_ecma_parser.specs.{Finishing.parts_done, Finishing.ChecksAnswer, declared.parser.Parser.Parser}

@@ -4,11 +4,10 @@ use Rattle.swc_context.specs.{declared.error.Error.Error, declared.span.Span.Spa
 use Rattle.swc_input.specs.{Buffer.last_position, Buffer.state_of, Recording.is_silent, Source.Model, declared.buffer.Buffer.Buffer}
 use Rattle.swc_ast.specs.{Tree.Tree, declared.spanned.Spanned.Ghosts}
 use Rattle.swc_grammar.specs.Scope.{Scope}
-use Rattle.swc_nodes.specs.{GrowingNodes.tree_at, NodeParts.Part}
+use Rattle.swc_nodes.specs.{GrowingNodes.tree_at, GrowingNodes.CutTo, NodeParts.Part}
 use Rattle.swc_steps.specs.Parsing.{scope, Checks, Forgoes}
-use Rattle.swc_verifier.specs.CoverNames.{parts_covers_left}
-use Rattle.swc_ecma_parser.specs.Calls.{buffer_of, nodes_of, with_buffer, Kept, MovesOut, RemembersParts}
-use Rattle.swc_ecma_parser.specs.declared.parser.Parser.{Parser}
+use Rattle.swc_ecma_parser.specs.{CoverNames.parts_covers_left, declared.parser.Parser.Parser}
+use Rattle.swc_ecma_parser.specs.Calls.{buffer_of, nodes_of, has_failed, wants_memory, with_buffer, Kept, MovesOut, RemembersParts}
 
 abbrev pub no_places : List Span → Bool
 no_places [] = true
@@ -34,24 +33,40 @@ module _ {S : Type 0} (model : Model S) where
       (λ x. MatchResult r (λ y. (y ≡ x) × ChecksCovers (well x) b c) (λ e. Forgoes model b e c))
       (λ e. (r ≡ Err e) × (c ≡ b))
 
+-- An answer that the parser p has read was moved out of the nodes, and those from `start` on were cut off. The parser q has failed if it
+-- ran out of memory.
+pub record HandsOut {S H F C K X T : Type 0} {fg : Ghosts F} {cg : Ghosts C} {kg : Ghosts K} (parts : X → List Part) (start : ℕ)
+    (p : Parser S H F C K fg cg kg) (answer : Result X Error) (by : (ℕ → Tree F C K) → X → Tree F C K) (view : T → Tree F C K)
+    (r : Result T Error) (q : Parser S H F C K fg cg kg) : Type 0 where
+  pub moved : MovesOut by view p answer r
+  pub commas : RemembersParts parts p answer r q
+  pub nodes : CutTo start (nodes_of p) (nodes_of q)
+  pub buffer : buffer_of q ≡ buffer_of p
+  pub fails : has_failed q ≡ (has_failed p || wants_memory r)
+
 module _ {S H F C K X : Type 0} {fg : Ghosts F} {cg : Ghosts C} {kg : Ghosts K} (model : Model S)
-    (parts : X → List Part) (p : Parser S H F C K fg cg kg) (answer : Result X Error) (q : Parser S H F C K fg cg kg) where
-  -- From the parser p to q an answer was looked through.
-  abbrev pub LooksThroughAnswer : Result X Error → Type 0
-  LooksThroughAnswer checked = ChecksAnswer model (λ x. parts_done (scope model (buffer_of p)) (tree_at (nodes_of p)) (parts x))
-      (buffer_of p) answer checked (buffer_of q)
+    (parts : X → List Part) (start : ℕ) (p : Parser S H F C K fg cg kg) (answer : Result X Error) where
+  -- An answer that the parser p has read was looked through, up to the buffer b.
+  abbrev pub LooksThroughAnswer : Result X Error → Buffer S → Type 0
+  LooksThroughAnswer checked b = ChecksAnswer model (λ x. parts_done (scope model (buffer_of p)) (tree_at (nodes_of p)) (parts x))
+      (buffer_of p) answer checked b
 
-  -- What is left of it was kept among the nodes,
-  pub record KeepsChecked (r : Result X Error) : Type 0 where
+  -- What is left of it was kept among the nodes; after a refusal those from `start` on were cut off. The parser q has failed if it ran out
+  -- of memory.
+  pub record KeepsChecked (r : Result X Error) (q : Parser S H F C K fg cg kg) : Type 0 where
+    pub at : Buffer S
     pub checked : Result X Error
-    pub checks : LooksThroughAnswer checked
-    pub kept : Kept (last_position (buffer_of q)) checked r
+    pub checks : LooksThroughAnswer checked at
+    pub kept : Kept (last_position at) checked r
     pub commas : RemembersParts parts p checked r q
+    pub nodes : MatchResult r (λ x. nodes_of q ≡ nodes_of p) (λ e. CutTo start (nodes_of p) (nodes_of q))
+    pub buffer : buffer_of q ≡ at
+    pub fails : has_failed q ≡ (has_failed p || wants_memory r)
 
-  -- or moved out of them.
+  -- Or it was moved out of them.
   pub record MovesCheckedOut {T : Type 0} (by : (ℕ → Tree F C K) → X → Tree F C K) (view : T → Tree F C K) (r : Result T Error)
-      : Type 0 where
+      (q : Parser S H F C K fg cg kg) : Type 0 where
+    pub at : Buffer S
     pub checked : Result X Error
-    pub checks : LooksThroughAnswer checked
-    pub moved : MovesOut by view (with_buffer (buffer_of q) p) checked r
-    pub commas : RemembersParts parts p checked r q
+    pub checks : LooksThroughAnswer checked at
+    pub out : HandsOut parts start (with_buffer at p) checked by view r q

@@ -1,5 +1,8 @@
 pub mod BothWays
 pub mod Calls
+pub mod CoverNames
+pub mod Dues
+pub mod Faults
 pub mod Finishing
 pub mod ForHeads
 pub mod Heads

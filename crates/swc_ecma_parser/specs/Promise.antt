@@ -178,45 +178,43 @@ pub record Answer (T F C K : Type 0) (fg : Ghosts F) (cg : Ghosts C) (kg : Ghost
   pub strip : Tree F C K → Tree F C K
   pub leaves : Nodes F C K fg cg kg → Result T Error → Nodes F C K fg cg kg → Type 0
 
--- in boxes, which have no marks of commas: the nodes are what they were
-abbrev pub in_boxes : {F C K : Type 0} {fg : Ghosts F} {cg : Ghosts C} {kg : Ghosts K} → Answer (Box (ExprOf F C K) Global) F C K fg cg kg
-in_boxes {fg = fg} {cg = cg} {kg = kg} = record {
-  tree = λ ns e. tree_by fg.place cg.place kg.place e;
+-- in boxes, which have no marks of commas: the nodes are what they were; of a whole, and of a piece
+abbrev pub boxed : {T F C K : Type 0} {fg : Ghosts F} {cg : Ghosts C} {kg : Ghosts K} → (T → Tree F C K) → Answer T F C K fg cg kg
+boxed tree = record {
+  tree = λ ns x. tree x;
   derives = λ hook s. Finished covers_done (ReadsUnmarked hook s);
   marked = λ hook s. Reads hook s;
   strip = unmarked;
   leaves = λ ns r ms. SameNodes ns ms;
 }
 
--- a key in boxes, and a property of an object literal
+abbrev pub piece_boxed : {T F C K : Type 0} {fg : Ghosts F} {cg : Ghosts C} {kg : Ghosts K} → (T → Tree F C K) → Answer T F C K fg cg kg
+piece_boxed tree = record {
+  tree = λ ns x. tree x;
+  derives = λ hook s. ReadsUnmarked hook s;
+  marked = λ hook s. Reads hook s;
+  strip = unmarked;
+  leaves = λ ns r ms. SameNodes ns ms;
+}
+
+-- an expression, and a pattern
+abbrev pub in_boxes : {F C K : Type 0} {fg : Ghosts F} {cg : Ghosts C} {kg : Ghosts K} → Answer (Box (ExprOf F C K) Global) F C K fg cg kg
+in_boxes {fg = fg} {cg = cg} {kg = kg} = boxed (tree_by fg.place cg.place kg.place)
+
+abbrev pub pat_in_boxes : {F C K : Type 0} {fg : Ghosts F} {cg : Ghosts C} {kg : Ghosts K} → Answer (PatOf F C K) F C K fg cg kg
+pat_in_boxes {F} {C} {K} {fg = fg} {cg = cg} {kg = kg} = boxed (pat_tree F C K fg.place cg.place kg.place)
+
+-- a key, a property of an object literal, a template, and a property of an object pattern or a rest among these
 abbrev pub key_in_boxes : {F C K : Type 0} {fg : Ghosts F} {cg : Ghosts C} {kg : Ghosts K}
     → Answer (PropName (Box (ExprOf F C K) Global)) F C K fg cg kg
-key_in_boxes {fg = fg} {cg = cg} {kg = kg} = record {
-  tree = λ ns k. prop_name_tree (tree_by fg.place cg.place kg.place) k;
-  derives = λ hook s. ReadsUnmarked hook s;
-  marked = λ hook s. Reads hook s;
-  strip = unmarked;
-  leaves = λ ns r ms. SameNodes ns ms;
-}
+key_in_boxes {fg = fg} {cg = cg} {kg = kg} = piece_boxed (prop_name_tree (tree_by fg.place cg.place kg.place))
 
 abbrev pub prop_in_boxes : {F C K : Type 0} {fg : Ghosts F} {cg : Ghosts C} {kg : Ghosts K} → Answer (PropOrSpread F C K) F C K fg cg kg
-prop_in_boxes {F} {C} {K} {fg = fg} {cg = cg} {kg = kg} = record {
-  tree = λ ns x. prop_or_spread_tree F C K fg.place cg.place kg.place x;
-  derives = λ hook s. ReadsUnmarked hook s;
-  marked = λ hook s. Reads hook s;
-  strip = unmarked;
-  leaves = λ ns r ms. SameNodes ns ms;
-}
+prop_in_boxes {F} {C} {K} {fg = fg} {cg = cg} {kg = kg} = piece_boxed (prop_or_spread_tree F C K fg.place cg.place kg.place)
 
--- a pattern in boxes, and a property of an object pattern or a rest among these
-abbrev pub pat_in_boxes : {F C K : Type 0} {fg : Ghosts F} {cg : Ghosts C} {kg : Ghosts K} → Answer (PatOf F C K) F C K fg cg kg
-pat_in_boxes {F} {C} {K} {fg = fg} {cg = cg} {kg = kg} = record {
-  tree = λ ns x. pat_tree F C K fg.place cg.place kg.place x;
-  derives = λ hook s. Finished covers_done (ReadsUnmarked hook s);
-  marked = λ hook s. Reads hook s;
-  strip = unmarked;
-  leaves = λ ns r ms. SameNodes ns ms;
-}
+abbrev pub tpl_in_boxes : {F C K : Type 0} {fg : Ghosts F} {cg : Ghosts C} {kg : Ghosts K}
+    → Answer (Tpl (Box (ExprOf F C K) Global)) F C K fg cg kg
+tpl_in_boxes {fg = fg} {cg = cg} {kg = kg} = piece_boxed (tpl_tree (tree_by fg.place cg.place kg.place))
 
 abbrev pub pat_prop_in_boxes : {F C K : Type 0} {fg : Ghosts F} {cg : Ghosts C} {kg : Ghosts K}
     → Answer (ObjectPatProp F C K) F C K fg cg kg
@@ -251,7 +249,7 @@ abbrev pub list_tree : {F C K : Type 0} → (F → Span) → (C → Span) → (K
     → Vec (ExprOrSpread (Box (ExprOf F C K) Global)) Global × Option Span → Tree F C K
 list_tree fun class block p = node (args_with p.1) no_span (items_of (args_tree (tree_by fun class block) p.0))
 
--- arguments in boxes, and a template
+-- arguments in boxes
 abbrev pub args_in_boxes : {F C K : Type 0} {fg : Ghosts F} {cg : Ghosts C} {kg : Ghosts K}
     → Answer (Vec (ExprOrSpread (Box (ExprOf F C K) Global)) Global) F C K fg cg kg
 args_in_boxes {fg = fg} {cg = cg} {kg = kg} = record {
@@ -280,16 +278,6 @@ heads_in_boxes {F} {C} {K} {fg = fg} {cg = cg} {kg = kg} = record {
   tree = λ ns ps. pats_tree (pat_tree F C K fg.place cg.place kg.place) ps;
   derives = λ hook s. Finished covers_done (ReadsAs only_items hook s);
   marked = λ hook s. ReadsAs keep_items hook s;
-  strip = unmarked;
-  leaves = λ ns r ms. SameNodes ns ms;
-}
-
-abbrev pub tpl_in_boxes : {F C K : Type 0} {fg : Ghosts F} {cg : Ghosts C} {kg : Ghosts K}
-    → Answer (Tpl (Box (ExprOf F C K) Global)) F C K fg cg kg
-tpl_in_boxes {fg = fg} {cg = cg} {kg = kg} = record {
-  tree = λ ns t. tpl_tree (tree_by fg.place cg.place kg.place) t;
-  derives = λ hook s. ReadsUnmarked hook s;
-  marked = λ hook s. Reads hook s;
   strip = unmarked;
   leaves = λ ns r ms. SameNodes ns ms;
 }

@@ -5,12 +5,12 @@ ghost use Rattle.swc_steps.specs.Parsing.{scope};
 ghost use Rattle.swc_ecma_parser.specs.Finishing.{parts_done, ChecksAnswer, ChecksItem};
 
 use crate::taking::Covers;
+use crate::verifier::record_cover_names;
 use swc_ast::spanned::Spanned;
 use swc_context::error::PResult;
 use swc_input::buffer::Buffer;
 use swc_input::tokens::Tokens;
 use swc_nodes::nodes::Nodes;
-use swc_verifier::verifier::record_cover_names;
 
 /// Where the syntax is pedantic, records the cover names that are left in an answer (ECMA-262, 13.2.5.1), each as
 /// `AssignProperty`, in the order of the source. Beside the answer's own refusal it is refused only when out of memory.

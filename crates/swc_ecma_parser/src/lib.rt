@@ -26,4 +26,5 @@ pub mod prelude;
 pub mod replaying;
 mod taking;
 pub mod text;
+mod verifier;
 pub mod whole;

@@ -9,7 +9,8 @@ ghost use Rattle.swc_nodes.specs.GrowingNodes.{count, seat_at, tree_at, bare_at,
 ghost use Rattle.swc_grammar.specs.Symbols.{Expr, Assign, Level, Unary};
 ghost use Rattle.swc_ecma_parser.specs.Calls.{buffer_of, hook_of, nodes_of, commas_of, with_buffer, with_hook, with_nodes, with_bound, bound_of, met_bound, has_failed, wants_memory, found_import, parser_failed, Called, SeesEnd, Kept, MovesOut, RemembersParts};
 ghost use Rattle.swc_ecma_parser.specs.Promise.{Promised, PromisedLit, in_boxes, by_number};
-ghost use Rattle.swc_ecma_parser.specs.{Finishing.KeepsChecked, Finishing.MovesCheckedOut, contracts.parser.Parser.the_row};
+ghost use Rattle.swc_ecma_parser.specs.Finishing.{HandsOut, KeepsChecked, MovesCheckedOut};
+ghost use Rattle.swc_ecma_parser.specs.contracts.parser.Parser.{the_row};
 
 use crate::finishing::check_answer;
 use crate::taking::{Covers, Take};
@@ -282,11 +283,9 @@ impl<I: Tokens, B: Bodies<I>> Parser<I, B> {
     pub fn parse_expr_id(&mut self) -> PResult<ExprId>
         ensures promised { Promised I.model B.is_faithful B.forms by_number Expr self.old result self.new }
     {
-        self.begin()?;
-        let start = self.productions.nodes.len();
+        let start = self.begin()?;
         let answer = parse_expr(&mut self.productions, self.room);
-        let answer = self.keep_checked(start, answer);
-        self.finish(answer)
+        self.keep_checked(start, answer)
     }
 
     /// An expression (ECMA-262, 13.16): assignment expressions with commas between them.
@@ -296,11 +295,9 @@ impl<I: Tokens, B: Bodies<I>> Parser<I, B> {
     pub fn parse_expr(&mut self) -> PResult<Box<ExprOf<B>>>
         ensures promised { Promised I.model B.is_faithful B.forms in_boxes Expr self.old result self.new }
     {
-        self.begin()?;
-        let start = self.productions.nodes.len();
+        let start = self.begin()?;
         let answer = parse_expr(&mut self.productions, self.room);
-        let answer = self.move_out_checked(start, answer);
-        self.finish(answer)
+        self.move_out_checked(start, answer)
     }
 
     /// An assignment expression (ECMA-262, 13.15): binary operators and their operands, as `parse_bin_expr` reads
@@ -332,11 +329,9 @@ impl<I: Tokens, B: Bodies<I>> Parser<I, B> {
     pub fn parse_assignment_expr(&mut self) -> PResult<Box<ExprOf<B>>>
         ensures promised { Promised I.model B.is_faithful B.forms in_boxes Assign self.old result self.new }
     {
-        self.begin()?;
-        let start = self.productions.nodes.len();
+        let start = self.begin()?;
         let answer = parse_assignment_expr(&mut self.productions, self.room);
-        let answer = self.move_out_checked(start, answer);
-        self.finish(answer)
+        self.move_out_checked(start, answer)
     }
 
     /// An assignment expression, as `parse_assignment_expr` reads it: its number among the nodes, which keeps its tree
@@ -344,11 +339,9 @@ impl<I: Tokens, B: Bodies<I>> Parser<I, B> {
     pub fn parse_assignment_expr_id(&mut self) -> PResult<ExprId>
         ensures promised { Promised I.model B.is_faithful B.forms by_number Assign self.old result self.new }
     {
-        self.begin()?;
-        let start = self.productions.nodes.len();
+        let start = self.begin()?;
         let answer = parse_assignment_expr(&mut self.productions, self.room);
-        let answer = self.keep_checked(start, answer);
-        self.finish(answer)
+        self.keep_checked(start, answer)
     }
 
     /// Operands and the binary operators between them, of any precedence (ECMA-262, 13.6 to 13.13). They don't begin an
@@ -363,11 +356,9 @@ impl<I: Tokens, B: Bodies<I>> Parser<I, B> {
     pub fn parse_bin_expr(&mut self) -> PResult<Box<ExprOf<B>>>
         ensures promised { Promised I.model B.is_faithful B.forms in_boxes (Level 1) self.old result self.new }
     {
-        self.begin()?;
-        let start = self.productions.nodes.len();
+        let start = self.begin()?;
         let answer = parse_bin_expr(&mut self.productions, self.room);
-        let answer = self.move_out_checked(start, answer);
-        self.finish(answer)
+        self.move_out_checked(start, answer)
     }
 
     /// A unary expression (ECMA-262, 13.5): any number of `delete`, `void`, `typeof`, `+`, `-`, `~`, `!`, `++` and `--`
@@ -401,11 +392,9 @@ impl<I: Tokens, B: Bodies<I>> Parser<I, B> {
     pub fn parse_unary_expr(&mut self) -> PResult<Box<ExprOf<B>>>
         ensures promised { Promised I.model B.is_faithful B.forms in_boxes Unary self.old result self.new }
     {
-        self.begin()?;
-        let start = self.productions.nodes.len();
+        let start = self.begin()?;
         let answer = parse_unary_expr(&mut self.productions, self.room);
-        let answer = self.move_out_checked(start, answer);
-        self.finish(answer)
+        self.move_out_checked(start, answer)
     }
 
     /// A literal that is no regular expression (ECMA-262, 13.2.3).
@@ -419,24 +408,22 @@ impl<I: Tokens, B: Bodies<I>> Parser<I, B> {
         self.finish(answer)
     }
 
-    /// As `keep`, of a whole answer: where the syntax is pedantic, the cover names that are left in it are recorded
-    /// first.
+    /// As `keep` and `finish`, of a whole answer: where the syntax is pedantic, the cover names that are left in it are
+    /// recorded first.
     fn keep_checked<T: Covers<B::Fun, B::Class, B::Block> + Drop>(
         &mut self,
         start: usize,
         answer: PResult<T>,
     ) -> PResult<T>
         requires { IfOk answer (λ id. Apart start (nodes_of self.old) (T.parts id)) }
-        ensures keeps { KeepsChecked I.model T.parts self.old answer self.new result }
-        ensures nodes { MatchResult result (λ id. nodes_of self.new ≡ nodes_of self.old)
-            (λ e. CutTo start (nodes_of self.old) (nodes_of self.new)) }
-        ensures runs { has_failed self.new ≡ has_failed self.old }
+        ensures { KeepsChecked I.model T.parts start self.old answer result self.new }
     {
         let answer = check_answer(&mut self.productions.input, &self.productions.nodes, answer);
-        self.keep(start, answer)
+        let answer = self.keep(start, answer);
+        self.finish(answer)
     }
 
-    /// As `move_out`, of a whole answer: where the syntax is pedantic, the cover names that are left in it are recorded
+    /// As `hand_out`, of a whole answer: where the syntax is pedantic, the cover names that are left in it are recorded
     /// first.
     fn move_out_checked<T: Covers<B::Fun, B::Class, B::Block> + Drop>(
         &mut self,
@@ -444,12 +431,23 @@ impl<I: Tokens, B: Bodies<I>> Parser<I, B> {
         answer: PResult<T>,
     ) -> PResult<T::Whole>
         requires { IfOk answer (λ x. Apart start (nodes_of self.old) (T.parts x)) }
-        ensures moves { MovesCheckedOut I.model T.parts self.old answer self.new T.by T.tree result }
-        ensures nodes { CutTo start (nodes_of self.old) (nodes_of self.new) }
-        ensures runs { has_failed self.new ≡ has_failed self.old }
+        ensures { MovesCheckedOut I.model T.parts start self.old answer T.by T.tree result self.new }
     {
         let answer = check_answer(&mut self.productions.input, &self.productions.nodes, answer);
-        self.move_out(start, answer)
+        self.hand_out(start, answer)
+    }
+
+    /// As `move_out` and `finish`.
+    fn hand_out<T: Take<B::Fun, B::Class, B::Block> + Drop>(
+        &mut self,
+        start: usize,
+        answer: PResult<T>,
+    ) -> PResult<T::Whole>
+        requires { IfOk answer (λ x. Apart start (nodes_of self.old) (T.parts x)) }
+        ensures { HandsOut T.parts start self.old answer T.by T.tree result self.new }
+    {
+        let answer = self.move_out(start, answer);
+        self.finish(answer)
     }
 
     /// Keeps the nodes that were made for the answer, and remembers the commas of its literals; or cuts them off
@@ -544,9 +542,10 @@ impl<I: Tokens, B: Bodies<I>> Parser<I, B> {
         numbers.take(&mut self.productions.nodes, self.productions.alloc)
     }
 
-    /// After it ran out of memory, refuses.
-    fn begin(&self) -> PResult<()>
+    /// How many nodes there are; after it ran out of memory, refuses.
+    fn begin(&self) -> PResult<usize>
         ensures runs { OnOk result (has_failed self.now ≡ false) }
+        ensures start { IfOk result (λ k. k ≡ count (nodes_of self.now)) }
         ensures again { IfErr result
             (λ e. (has_failed self.now ≡ true) × (e ≡ parser_failed (previous (buffer_of self.now)))) }
     {
@@ -554,7 +553,7 @@ impl<I: Tokens, B: Bodies<I>> Parser<I, B> {
             let span = self.productions.input.prev_span();
             return Err(Error::new(span, SyntaxError::ParserFailed));
         }
-        Ok(())
+        Ok(self.productions.nodes.len())
     }
 
     /// Remembers out of memory.

@@ -2,8 +2,9 @@
 ghost use Rattle.std.specs.Prelude.{◌≡◌, IfOk, OnOk};
 ghost use Rattle.swc_nodes.specs.GrowingNodes.{count, seat_at, tree_at, bare_at, Apart, Left};
 ghost use Rattle.swc_nodes.specs.{Commas.part_commas, Commas.Recalls, NumberedTrees.floor};
-ghost use Rattle.swc_verifier.specs.CoverNames.{parts_covers_left};
+ghost use Rattle.swc_ecma_parser.specs.CoverNames.{parts_covers_left};
 
+use crate::verifier::find_covers_left;
 use std::alloc::{AllocError, Global};
 use swc_ast::expr::{Expr, ExprOrSpread, Tpl};
 use swc_ast::for_head::ForHead;
@@ -20,7 +21,6 @@ use swc_trees::taking::{
     take_args, take_expr, take_for_head, take_key, take_params, take_pat, take_pat_prop, take_pats,
     take_prop, take_tpl,
 };
-use swc_verifier::verifier::find_covers_left;
 
 /// What holds numbers of nodes, and is moved out of them into boxes.
 pub(crate) trait Take<F: Spanned + Drop, C: Spanned + Drop, K: Spanned + Drop> {

@@ -23,14 +23,15 @@ use swc_nodes::nodes::Nodes;
 ///
 /// The tokens are read as the parser asks for them (`TextInput`). What is no token is refused with its kind and place
 /// (`UnterminatedStrLit` and the like), where the parser comes to it; numbers and escapes of old scripts, as `010`, are
-/// recorded in strict code and modules; other refusals are those of `Parser::parse_expr`, and `OutOfMemory`, at 0..0 where the text
-/// couldn't be copied. All places are in bytes of the text.
+/// recorded in strict code and modules; other refusals are those of `Parser::parse_expr`, and `OutOfMemory`, at 0..0
+/// where the text couldn't be copied. All places are in bytes of the text.
 ///
-/// Where early errors are on and not ignored, and the text has no number or escape of old scripts (`headline`): a tree answered with no token left after it and no fault
-/// recorded is one that the written grammar derives from the text's tokens, and the only one (`sound`, `one_tree`);
-/// and with a faithful hook each tree that it derives from them is answered so, unless memory runs out or it is nested
-/// too deeply (`complete`). The text's tokens are those of the written lexical grammar. Where the syntax is pedantic,
-/// that is so of trees in which no property `name = value` of an object literal is left (ECMA-262, 13.2.5.1).
+/// Where early errors are on and not ignored, and the text has no number or escape of old scripts (`headline`): a tree
+/// answered with no token left after it and no fault recorded is one that the written grammar derives from the text's
+/// tokens, and the only one (`sound`, `one_tree`); and with a faithful hook each tree that it derives from them is
+/// answered so, unless memory runs out or it is nested too deeply (`complete`). The text's tokens are those of the
+/// written lexical grammar. Where the syntax is pedantic, that is so of trees in which no property `name = value` of an
+/// object literal is left (ECMA-262, 13.2.5.1).
 pub fn parse_text_expr<B: Bodies<TextInput>>(
     alloc: Global,
     text: &str,

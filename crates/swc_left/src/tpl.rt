@@ -21,7 +21,7 @@ use swc_input::tokens::Tokens;
 use swc_nodes::node::ExprId;
 use swc_nodes::nodes::NodesOf;
 use swc_steps::productions::Productions;
-use swc_steps::tokens::{Sign, bump, eat, emit_err, expect, is_sign, look, unexpected};
+use swc_steps::tokens::{Sign, eat, emit_err, expect, is_sign, look, unexpected};
 
 /// What is between the backquotes of a template: its texts, an expression between each two of them, and the place
 /// of the backquote that closes it.
@@ -64,7 +64,7 @@ pub fn parse_tpl_element<I: Tokens>(input: &mut Buffer<I>, is_tagged: bool) -> P
         let kind = SyntaxError::Unexpected(Wanted::TplToken);
         return Err(unexpected(input, kind));
     }
-    let token = bump(input);
+    let token = input.bump();
     let span = input.prev_span();
     let (raw, cooked) = template_of(token);
     let cooked = cooked_text(cooked, is_tagged)?;

@@ -1,11 +1,9 @@
 -- Lines and columns.
 use Rattle.std.proofs.Common.{◌≡◌, ℕ, zero, suc, ◌+◌, ◌-◌, ◌*◌, ◌<◌, ◌≤◌, Bool, true, false, List, [], ◌∷◌, ◌++◌, length, length-append, refl, sym, ap, ◌∙◌, subst, arith}
 use Rattle.std.specs.Prelude.{if◌then◌else◌, nat_lt, slice_index_or}
-use Rattle.std.proofs.lemmas.Bool.Decides.{nat_tests}
-use Rattle.std.proofs.lemmas.List.{get_or_append_left, get_or_push}
-use Rattle.swc_lexer.specs.declared.lines.Point.{Point}
+use Rattle.std.proofs.{lemmas.Bool.Decides.nat_tests, lemmas.List.get_or_append_left, lemmas.List.get_or_push}
+use Rattle.swc_lexer.specs.{declared.lines.Point.Point, Coming.is_lt}
 use Rattle.swc_lexer.specs.Lines.{count, line_start, ends_line, begins_char, is_long, one_if, point_of, step, AreMarks, MarkedTo}
-use Rattle.swc_lexer.specs.Coming.{is_lt}
 
 if_suc : (b : Bool) (n : ℕ) → (if b then suc n else n) ≡ n + one_if b
 if_suc true n = omega arith
@@ -23,10 +21,6 @@ count_most p (suc n) = if_most (p n) (count p n) n (count_most p n)
     if_most : (b : Bool) (k n : ℕ) → k ≤ n → (if b then suc k else k) ≤ suc n
     if_most true k n h = omega (arith, h)
     if_most false k n h = omega (arith, h)
-
-if_least : (b : Bool) (k : ℕ) → k ≤ (if b then suc k else k)
-if_least true k = omega arith
-if_least false k = omega arith
 
 count_more : (p : ℕ → Bool) (m k : ℕ) → count p m ≤ count p (m + k)
 count_more p m zero = let e : m + 0 ≡ m = omega arith in let f = ap (count p) e in omega (arith, f)

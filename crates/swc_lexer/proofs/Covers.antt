@@ -1,34 +1,18 @@
 -- The tokens of a text without a fault cover it.
 use Rattle.std.proofs.Common.{◌≡◌, ℕ, zero, suc, ◌+◌, ◌<◌, ◌≤◌, Bool, true, false, List, [], ◌∷◌, length, drop, Option, Some, None, refl, sym, ap, ◌∙◌, arith, subst}
 use Rattle.std.specs.Prelude.{nat_lt, nat_eq, if◌then◌else◌, ◌&&◌, ◌||◌, not, slice_get, slice_range, All}
-use Rattle.std.proofs.lemmas.Bool.Decides.{nat_tests}
-use Rattle.std.proofs.lemmas.List.Elements.{All-head, All-tail}
-use Rattle.swc_input.specs.declared.token.Token.{Token}
-use Rattle.swc_input.specs.declared.token.TokenAndSpan.{TokenAndSpan}
-use Rattle.swc_lexical.specs.declared.lexeme.Kind.{Kind}
-use Rattle.swc_lexical.specs.declared.lexeme.Kind.TheVariants as lexical
-use Rattle.swc_lexical.specs.declared.scan.Goal.{Goal}
-use Rattle.swc_lexical.specs.declared.scan.Goal.TheVariants as goal
-use Rattle.swc_lexical.specs.declared.scan.Piece.{Piece}
-use Rattle.swc_lexical.specs.Blanks.{blanks_len}
-use Rattle.swc_lexical.specs.Lexemes.{lexeme}
-use Rattle.swc_lexical.specs.Runs.{is_at}
+use Rattle.std.proofs.{lemmas.Bool.Decides.nat_tests, lemmas.List.Elements.All-head, lemmas.List.Elements.All-tail}
+use Rattle.swc_input.specs.{declared.token.Token.Token, declared.token.TokenAndSpan.TokenAndSpan}
+use Rattle.swc_lexical.specs.{declared.lexeme.Kind.Kind, declared.scan.Goal.Goal, declared.scan.Piece.Piece, Blanks.blanks_len, Lexemes.lexeme, Runs.is_at}
 use Rattle.swc_lexical.specs.Scans.{piece_at, piece_of, text_of, gapes}
-use Rattle.swc_lexical.specs.Templates as templates
-use Rattle.swc_lexer.specs.declared.place.Kind.{Kind as Function}
-use Rattle.swc_lexer.specs.declared.reader.End.{End}
-use Rattle.swc_lexer.specs.declared.reader.End.TheVariants.{Whole, BeforeBrace}
-use Rattle.swc_lexer.specs.declared.reader.Here.{Here}
-use Rattle.swc_lexer.specs.declared.reader.Here.TheVariants as here_
-use Rattle.swc_lexer.specs.declared.stack.Start.{Start}
-use Rattle.swc_lexer.specs.Coming.{from_next, from_end}
+use Rattle.swc_lexer.specs.{declared.place.Kind.Kind as Function, declared.reader.End.End, declared.reader.End.TheVariants.Whole, declared.reader.End.TheVariants.BeforeBrace, declared.reader.Here.Here, declared.stack.Start.Start, Coming.from_next, Coming.from_end, Places.is_dot, Places.is_asking, Reads.is_error, Reads.IsClean, Stacks.State, Stacks.has_brace, Tokens.token_of}
 use Rattle.swc_lexer.specs.Covers.{is_end, Follows, Covers}
-use Rattle.swc_lexer.specs.Places.{is_dot, is_asking}
-use Rattle.swc_lexer.specs.Reads.{is_error, IsClean}
 use Rattle.swc_lexer.specs.Readings.{Reading, bound, ended, read, given_of, given_fault, given_long, fault_of_kind, one_of, placed, edge_of, is_edge, is_over, is_over_in_code, piece_here, piece_or_fault, goal_here, what_comes, next_by, next_in, next_of, tokens_from, tokens_of, first, begin, moves}
-use Rattle.swc_lexer.specs.Stacks.{State, has_brace}
-use Rattle.swc_lexer.specs.Tokens.{token_of}
 use Rattle.swc_lexer.proofs.Readings.{comes, lower_read, lower_fault, bound_runs, weights}
+use Rattle.swc_lexical.specs.declared.lexeme.Kind.TheVariants as lexical
+use Rattle.swc_lexical.specs.declared.scan.Goal.TheVariants as goal
+use Rattle.swc_lexical.specs.Templates as templates
+use Rattle.swc_lexer.specs.declared.reader.Here.TheVariants as here_
 
 some_is : {A : Type 0} (x y : A) → Some x ≡ Some y → x ≡ y
 some_is x y h = cc

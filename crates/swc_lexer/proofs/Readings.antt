@@ -3,24 +3,17 @@ use Rattle.std.proofs.Common.{◌≡◌, ℕ, ◌+◌, ◌-◌, ◌*◌, ◌<◌
 use Rattle.std.specs.Prelude.{nat_lt, if◌then◌else◌, ◌&&◌, ◌||◌, not, slice_range, Result, Ok, Err, IfOk}
 use Rattle.std.proofs.Math.Seq.{take-length}
 use Rattle.swc_input.specs.declared.token.TokenAndSpan.{TokenAndSpan}
-use Rattle.swc_lexical.specs.declared.lexeme.Kind.{Kind}
-use Rattle.swc_lexical.specs.declared.lexeme.Kind.TheVariants as lexical
-use Rattle.swc_lexical.specs.declared.scan.Goal.{Goal}
-use Rattle.swc_lexical.specs.declared.scan.Goal.TheVariants as goal
-use Rattle.swc_lexical.specs.declared.scan.Piece.{Piece}
-use Rattle.swc_lexical.specs.Blanks.{blanks_len, has_break}
+use Rattle.swc_lexical.specs.{declared.lexeme.Kind.Kind, declared.scan.Goal.Goal, declared.scan.Piece.Piece, Blanks.blanks_len, Blanks.has_break, Templates.text_len}
 use Rattle.swc_lexical.specs.Scans.{piece_at, text_of, gapes}
-use Rattle.swc_lexical.specs.Templates.{text_len}
 use Rattle.swc_lexer.specs.Coming.{lt_true, lt_false, is_lt, next_ended}
-use Rattle.swc_lexer.specs.declared.reader.End.{End}
-use Rattle.swc_lexer.specs.declared.reader.Here.{Here}
-use Rattle.swc_lexer.specs.declared.reader.Here.TheVariants as here_
-use Rattle.swc_lexer.specs.Marks.{mark_of}
+use Rattle.swc_lexer.specs.{declared.reader.End.End, declared.reader.Here.Here, Marks.mark_of, Tokens.token_of}
 use Rattle.swc_lexer.specs.Places.{is_template, is_asking, wants_regexp, is_dot}
-use Rattle.swc_lexer.specs.Stacks as stacks
 use Rattle.swc_lexer.specs.Stacks.{State, innermost, is_chars}
 use Rattle.swc_lexer.specs.Readings.{Reading, Gives, gave, stopped, bound, weight, is_text, read, moves, ended, given, given_of, AreGiven, given_fault, given_long, one_of, placed, piece_here, piece_or_fault, is_over, goal_here, what_comes, next_by, next_in, next_of, is_edge}
-use Rattle.swc_lexer.specs.Tokens.{token_of}
+use Rattle.swc_lexical.specs.declared.lexeme.Kind.TheVariants as lexical
+use Rattle.swc_lexical.specs.declared.scan.Goal.TheVariants as goal
+use Rattle.swc_lexer.specs.declared.reader.Here.TheVariants as here_
+use Rattle.swc_lexer.specs.Stacks as stacks
 
 -- the rest of a text, as code cuts it
 pub cut_is : (bs : List ℕ) (at : ℕ) → take (length bs - at) (drop at bs) ≡ drop at bs

@@ -1,9 +1,7 @@
 -- Slashes are characters of their own.
 use Rattle.std.proofs.Common.{◌≡◌, ℕ, zero, suc, ◌+◌, ◌<◌, Bool, true, List, [], ◌∷◌, length, get_or, sym, ap, ◌∙◌, arith, subst}
-use Rattle.std.specs.Prelude.{nat_eq}
-use Rattle.std.specs.Str.{IsCharBoundary, IsUtf8}
-use Rattle.std.proofs.lemmas.Bool.Decides.{nat_tests}
-use Rattle.std.proofs.lemmas.Str.{IsCharBoundary-after_ascii}
+use Rattle.std.specs.{Prelude.nat_eq, Str.IsCharBoundary, Str.IsUtf8}
+use Rattle.std.proofs.{lemmas.Bool.Decides.nat_tests, lemmas.Str.IsCharBoundary-after_ascii}
 use Rattle.swc_lexical.specs.Runs.{is_at}
 
 is_eq : (a b : ℕ) → nat_eq a b ≡ true → a ≡ b

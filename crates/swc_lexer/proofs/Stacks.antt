@@ -2,16 +2,8 @@
 use Rattle.std.proofs.Common.{◌≡◌, ℕ, zero, suc, ◌+◌, ◌-◌, ◌<◌, ◌≤◌, Bool, true, false, List, [], ◌∷◌, ◌++◌, length, take, Option, Some, None, get_or, refl, sym, ap, ◌∙◌, arith}
 use Rattle.std.specs.Prelude.{not, reverse}
 use Rattle.std.proofs.lemmas.List.{take_more, reverse-append, take_all}
-use Rattle.swc_lexer.specs.declared.mark.Mark.{Mark}
-use Rattle.swc_lexer.specs.declared.place.Before.{Before}
-use Rattle.swc_lexer.specs.declared.place.Break.{Break}
+use Rattle.swc_lexer.specs.{declared.mark.Mark.Mark, declared.place.Before.Before, declared.place.Break.Break, declared.place.Entry.Entry, declared.place.Frame.Frame, declared.place.Kind.Kind, declared.place.Move.Move, declared.place.Open.Open, declared.place.Place.Place}
 use Rattle.swc_lexer.specs.declared.place.Break.TheVariants.{Nothing, Changes, Closes}
-use Rattle.swc_lexer.specs.declared.place.Entry.{Entry}
-use Rattle.swc_lexer.specs.declared.place.Frame.{Frame}
-use Rattle.swc_lexer.specs.declared.place.Kind.{Kind}
-use Rattle.swc_lexer.specs.declared.place.Move.{Move}
-use Rattle.swc_lexer.specs.declared.place.Open.{Open}
-use Rattle.swc_lexer.specs.declared.place.Place.{Place}
 use Rattle.swc_lexer.specs.Places.{after, at_break, closes, enters, is_brace, is_passed}
 use Rattle.swc_lexer.specs.Stacks.{State, below, break_if, broken, broken_by, closed, counted_as, counting_as, entered, entered_by, is_chars, moved, moved_by, passed, with_frames, with_text, closed_from, has_brace, inner, innermost, outer, opened, shut, depth_after, kept, state_at, top_of, with_kind}
 

@@ -1,24 +1,15 @@
 -- Reading all tokens of a text.
-use Rattle.std.proofs.Common.{◌≡◌, ℕ, ◌<◌, ◌≤◌, List, [], ◌∷◌, ◌++◌, length, Option, Some, None, refl, sym, ap, ◌∙◌, append_assoc, append-nil, arith, subst}
-use Rattle.std.specs.Prelude.{IfSome}
+use Rattle.std.proofs.Common.{◌≡◌, ℕ, ◌<◌, ◌≤◌, List, [], ◌∷◌, ◌++◌, length, Option, Some, None, refl, sym, ap, ◌∙◌, append_assoc, append-nil, arith, subst, Bool}
+use Rattle.std.specs.Prelude.{IfSome, Result, Ok, Err, IfOk, All}
 use Rattle.std.specs.Iterator.{Count, IsFinite, MakesProgress, at_most, size}
-use Rattle.swc_input.specs.declared.token.TokenAndSpan.{TokenAndSpan}
-use Rattle.std.proofs.Common.{Bool}
-use Rattle.swc_input.specs.Source.{Source}
-use Rattle.swc_lexer.specs.declared.input.TextInput.{TextInput}
+use Rattle.swc_input.specs.{declared.token.TokenAndSpan.TokenAndSpan, Source.Source}
+use Rattle.swc_lexer.specs.{declared.input.TextInput.TextInput, declared.reader.End.End, Covers.Covers, declared.place.Kind.Kind, declared.stack.Start.Start, Coming.from_next, Coming.from_end}
 use Rattle.swc_lexer.specs.Inputs.{bytes_of, reading, left, held_list, Hands, handed}
-use Rattle.swc_lexer.specs.declared.reader.End.{End}
-use Rattle.swc_lexer.specs.Covers.{Covers}
 use Rattle.swc_lexer.proofs.Covers.{covers_of}
 use Rattle.swc_lexer.specs.Readings.{Reading, Gives, gave, stopped, bound, begin, first, tokens_from, tokens_of}
 use Rattle.swc_lexer.specs.Reads.{Answers, Reads, IsClean, read, refused, out_of_memory}
-use Rattle.swc_lexer.specs.declared.place.Kind.{Kind}
-use Rattle.swc_lexer.specs.declared.stack.Start.{Start}
-use Rattle.std.specs.Prelude.{Result, Ok, Err, IfOk, All}
-use Rattle.std.specs.declared.alloc.Global.{Global}
-use Rattle.std.specs.declared.vec.Vec.{Vec}
+use Rattle.std.specs.{declared.alloc.Global.Global, declared.vec.Vec.Vec}
 use Rattle.swc_context.specs.declared.error.Error.{Error}
-use Rattle.swc_lexer.specs.Coming.{from_next, from_end}
 
 -- a token more was read
 pub sum_more : (e : End) (bs : List ℕ) (r t : Reading) (o : Option TokenAndSpan) (x : TokenAndSpan) (ts ns all : List TokenAndSpan) →
@@ -65,10 +56,6 @@ ReadTo_more e bs all ts ns at next r t o x i g within is added = record { within
 pub ReadTo_over : (e : End) (bs : List ℕ) (all ts : List TokenAndSpan) (at : ℕ) (r t : Reading) (o : Option TokenAndSpan) → ReadTo e bs all ts at r →
     Gives e bs r o t → o ≡ None → ts ≡ all
 ReadTo_over e bs all ts at r t o i g is = sum_end e bs r t o ts all i.sum g is
-
-pub lower_of : (e : End) (b bs : List ℕ) (r t : Reading) (o : Option TokenAndSpan) → b ≡ bs → Gives e b r o t → IfSome o (λ x. bound bs t < bound bs r)
-lower_of e b bs r t None is g = tt
-lower_of e b bs r t (Some y) is (gave n l) = subst (λ z. bound z t < bound z r) is l
 
 -- an iterator went on
 pub progress : {S : Type 0} (can : S → Type 0) (count : S → Count) (s t : S) (o : Option TokenAndSpan) (m n : ℕ) → count s ≡ at_most m → count t ≡ at_most n →

@@ -1,8 +1,7 @@
 -- The comments of a text (ECMA-262, 12.4 and 12.5).
 use Rattle.std.specs.Prelude.{◌≡◌, ◌≤◌, ℕ, zero, suc, ◌+◌, ◌&&◌, if◌then◌else◌, nat_lt, nat_le, List, [], ◌∷◌, ◌++◌, length, drop, slice_range}
 use Rattle.swc_input.specs.declared.token.TokenAndSpan.{TokenAndSpan}
-use Rattle.swc_lexer.specs.declared.comments.Comment.{Comment}
-use Rattle.swc_lexer.specs.declared.comments.CommentKind.{CommentKind}
+use Rattle.swc_lexer.specs.{declared.comments.Comment.Comment, declared.comments.CommentKind.CommentKind}
 use Rattle.swc_lexer.specs.declared.comments.CommentKind.TheVariants.{Line, Block, Hashbang}
 use Rattle.swc_lexical.specs.Blanks.{blank_len, comment_len, hashbang_len}
 use Rattle.swc_lexical.specs.Runs.{is_at}

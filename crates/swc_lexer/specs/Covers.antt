@@ -2,10 +2,8 @@
 use Rattle.std.specs.Prelude.{ℕ, ◌+◌, ◌≤◌, Bool, ◌||◌, nat_eq, List, [], ◌∷◌, length, drop, IsTrue}
 use Rattle.swc_context.specs.declared.span.Span.{Span}
 use Rattle.swc_input.specs.declared.token.TokenAndSpan.{TokenAndSpan}
-use Rattle.swc_lexical.specs.Blanks.{blanks_len}
-use Rattle.swc_lexical.specs.Runs.{is_at}
-use Rattle.swc_lexer.specs.declared.reader.End.{End}
-use Rattle.swc_lexer.specs.declared.reader.End.TheVariants.{Whole, BeforeBrace}
+use Rattle.swc_lexical.specs.{Blanks.blanks_len, Runs.is_at}
+use Rattle.swc_lexer.specs.{declared.reader.End.End, declared.reader.End.TheVariants.Whole, declared.reader.End.TheVariants.BeforeBrace}
 
 -- between two places is nothing, or all blanks that begin at the first
 abbrev pub is_gap : List ℕ → ℕ → ℕ → Bool

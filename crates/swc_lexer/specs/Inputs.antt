@@ -3,27 +3,15 @@ use Rattle.std.specs.Prelude.{◌≡◌, ℕ, ◌+◌, ◌<◌, ◌≤◌, Bool,
 use Rattle.std.specs.Option.{is_some}
 use Rattle.std.proofs.lemmas.List.Elements.{All-cons, All-nil}
 use Rattle.std.proofs.Common.{refl, ap, sym, ◌∙◌, append_assoc, arith, subst}
-use Rattle.swc_context.specs.declared.context.Context.{Context}
-use Rattle.swc_context.specs.declared.context.EsVersion.{EsVersion}
-use Rattle.swc_context.specs.declared.context.Syntax.{Syntax}
-use Rattle.swc_context.specs.declared.context.TokenContexts.{TokenContexts}
-use Rattle.swc_context.specs.declared.error.Error.{Error}
-use Rattle.swc_context.specs.declared.error.SyntaxError.{LegacyOctal, LegacyDecimal}
-use Rattle.swc_context.specs.declared.span.Span.{Span}
-use Rattle.swc_input.specs.Laws.{keeps_same}
+use Rattle.swc_context.specs.{declared.context.Context.Context, declared.context.EsVersion.EsVersion, declared.context.Syntax.Syntax, declared.context.TokenContexts.TokenContexts, declared.error.Error.Error, declared.error.SyntaxError.LegacyOctal, declared.error.SyntaxError.LegacyDecimal, declared.span.Span.Span}
+use Rattle.swc_input.specs.{Laws.keeps_same, Plain.plain, declared.listed.TokensInput.TokensInput, declared.token.Token.Token, declared.token.TokenAndSpan.TokenAndSpan}
 use Rattle.swc_input.specs.Listed.{listed_state, listed_lawful, ListedGives}
-use Rattle.swc_input.specs.Plain.{plain}
 use Rattle.swc_input.specs.Source.{Source, Model, Laws, Keeping, Keeps, IsFault, Gave, Asked, Unmoved, with_error, with_module_error, recorded_in, waiting_in}
-use Rattle.swc_input.specs.declared.listed.TokensInput.{TokensInput}
-use Rattle.swc_input.specs.declared.token.Token.{Token}
-use Rattle.swc_input.specs.declared.token.Token.TheVariants as token
-use Rattle.swc_input.specs.declared.token.TokenAndSpan.{TokenAndSpan}
-use Rattle.swc_lexer.specs.declared.input.TextInput.{TextInput}
-use Rattle.swc_lexer.specs.declared.reader.End.{End}
-use Rattle.swc_lexer.specs.declared.stack.Start.{Start}
+use Rattle.swc_lexer.specs.{declared.input.TextInput.TextInput, declared.reader.End.End, declared.stack.Start.Start}
 use Rattle.swc_lexer.specs.Legacy.{noted, fault, in_string_by, in_token, legacy_of, is_legacy_token, any_legacy}
 use Rattle.swc_lexer.specs.Readings.{Reading, Gives, gave, stopped, bound, next_of, tokens_from, tokens_of, first, kind_in, reading_of}
 use Rattle.swc_lexer.specs.Coming.{from_next, from_end, next_ended, bound_ended}
+use Rattle.swc_input.specs.declared.token.Token.TheVariants as token
 
 abbrev pub bytes_of : TextInput → List ℕ
 bytes_of s = string_bytes s.text

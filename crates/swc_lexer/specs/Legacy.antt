@@ -1,18 +1,14 @@
 -- The faults of strict code that a token has: numbers and escapes of old scripts (ECMA-262, 12.9.3.1 and 12.9.4.1).
 use Rattle.std.specs.Prelude.{◌≡◌, ◌++◌, ℕ, ◌+◌, Bool, true, false, ◌||◌, ◌&&◌, if◌then◌else◌, nat_le, List, [], ◌∷◌, Option, Some, None, slice_get, drop}
 use Rattle.std.specs.Option.{is_some}
-use Rattle.swc_context.specs.declared.error.Error.{Error}
+use Rattle.swc_context.specs.{declared.error.Error.Error, declared.span.Span.Span}
 use Rattle.swc_context.specs.declared.error.SyntaxError.{SyntaxError, LegacyOctal, LegacyDecimal}
-use Rattle.swc_context.specs.declared.span.Span.{Span}
 use Rattle.swc_input.specs.Source.{Source, with_error, with_module_error}
-use Rattle.swc_input.specs.declared.token.Token.{Token}
-use Rattle.swc_input.specs.declared.token.Token.TheVariants as token
-use Rattle.swc_input.specs.declared.token.TokenAndSpan.{TokenAndSpan}
-use Rattle.swc_lexical.specs.Escapes.{string_escape_len}
+use Rattle.swc_input.specs.{declared.token.Token.Token, declared.token.TokenAndSpan.TokenAndSpan}
+use Rattle.swc_lexical.specs.{Escapes.string_escape_len, declared.number.Base.TheVariants.Decimal, Strings.in_string}
 use Rattle.swc_lexical.specs.Numbers.{is_digit, is_legacy, is_octal}
-use Rattle.swc_lexical.specs.declared.number.Base.TheVariants.{Decimal}
 use Rattle.swc_lexical.specs.Runs.{is_at, test_at, run}
-use Rattle.swc_lexical.specs.Strings.{in_string}
+use Rattle.swc_input.specs.declared.token.Token.TheVariants as token
 
 abbrev pub fault : Span → SyntaxError → Error
 fault s k = record { span = s; kind = k }

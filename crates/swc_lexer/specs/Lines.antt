@@ -1,8 +1,7 @@
 -- Lines and columns of a text in UTF-8. A line ends with LF, CR, CR and LF, LS or PS (ECMA-262, 12.3).
 use Rattle.std.specs.Prelude.{◌≡◌, ℕ, zero, suc, ◌+◌, ◌-◌, ◌*◌, ◌/◌, ◌<◌, ◌≤◌, Bool, not, ◌&&◌, ◌||◌, if◌then◌else◌, nat_le, List, length, min, slice_index_or}
 use Rattle.swc_lexical.specs.Runs.{is_at, test_at}
-use Rattle.swc_lexer.specs.declared.lines.Point.{Point}
-use Rattle.swc_lexer.specs.declared.lines.Position.{Position}
+use Rattle.swc_lexer.specs.{declared.lines.Point.Point, declared.lines.Position.Position}
 use Rattle.swc_lexer.specs.Readings as readings
 
 -- of how many places below n it holds

@@ -1,16 +1,13 @@
 -- Tokens, as far as they tell whether a slash after them divides.
 use Rattle.std.specs.Prelude.{ℕ, List, codes, if◌then◌else◌}
-use Rattle.swc_context.specs.declared.operator.BinOpToken.TheVariants as binary
-use Rattle.swc_context.specs.declared.word.Keyword.{Keyword}
-use Rattle.swc_context.specs.declared.word.Keyword.TheVariants as keyword
-use Rattle.swc_context.specs.declared.word.Word.{Word}
-use Rattle.swc_context.specs.declared.word.Word.TheVariants as word
-use Rattle.swc_context.specs.Texts.{is_text}
+use Rattle.swc_context.specs.{declared.word.Keyword.Keyword, declared.word.Word.Word, Texts.is_text}
 use Rattle.swc_input.specs.declared.token.Token.{Token}
+use Rattle.swc_lexer.specs.{declared.mark.Mark.Mark, declared.mark.Name.Name}
+use Rattle.swc_context.specs.declared.operator.BinOpToken.TheVariants as binary
+use Rattle.swc_context.specs.declared.word.Keyword.TheVariants as keyword
+use Rattle.swc_context.specs.declared.word.Word.TheVariants as word
 use Rattle.swc_input.specs.declared.token.Token.TheVariants as token
-use Rattle.swc_lexer.specs.declared.mark.Mark.{Mark}
 use Rattle.swc_lexer.specs.declared.mark.Mark.TheVariants as mark
-use Rattle.swc_lexer.specs.declared.mark.Name.{Name}
 use Rattle.swc_lexer.specs.declared.mark.Name.TheVariants as name
 
 abbrev pub keyword_name : Keyword → Name

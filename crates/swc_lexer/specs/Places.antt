@@ -2,23 +2,13 @@
 -- of the function, and what is opened.
 use Rattle.std.specs.Prelude.{Bool, true, false, not, ◌&&◌, ◌||◌, if◌then◌else◌, Option, Some, None}
 use Rattle.swc_lexical.specs.declared.scan.Goal.{Goal}
-use Rattle.swc_lexical.specs.declared.scan.Goal.TheVariants as goal
-use Rattle.swc_lexer.specs.declared.mark.Mark.{Mark}
-use Rattle.swc_lexer.specs.declared.mark.Mark.TheVariants as mark
-use Rattle.swc_lexer.specs.declared.mark.Name.{Name}
-use Rattle.swc_lexer.specs.declared.mark.Name.TheVariants as name
-use Rattle.swc_lexer.specs.declared.place.Before.{Before}
-use Rattle.swc_lexer.specs.declared.place.Before.TheVariants as before
-use Rattle.swc_lexer.specs.declared.place.Break.{Break}
+use Rattle.swc_lexer.specs.{declared.mark.Mark.Mark, declared.mark.Name.Name, declared.place.Before.Before, declared.place.Break.Break, declared.place.Entry.Entry, declared.place.Frame.Frame, declared.place.Kind.Kind, declared.place.Move.Move, declared.place.Open.Open, declared.place.Place.Place, declared.place.Then.Then}
 use Rattle.swc_lexer.specs.declared.place.Break.TheVariants.{Nothing, Changes, Closes}
-use Rattle.swc_lexer.specs.declared.place.Entry.{Entry}
-use Rattle.swc_lexer.specs.declared.place.Frame.{Frame}
-use Rattle.swc_lexer.specs.declared.place.Kind.{Kind}
-use Rattle.swc_lexer.specs.declared.place.Move.{Move}
-use Rattle.swc_lexer.specs.declared.place.Open.{Open}
+use Rattle.swc_lexical.specs.declared.scan.Goal.TheVariants as goal
+use Rattle.swc_lexer.specs.declared.mark.Mark.TheVariants as mark
+use Rattle.swc_lexer.specs.declared.mark.Name.TheVariants as name
+use Rattle.swc_lexer.specs.declared.place.Before.TheVariants as before
 use Rattle.swc_lexer.specs.declared.place.Open.TheVariants as opened
-use Rattle.swc_lexer.specs.declared.place.Place.{Place}
-use Rattle.swc_lexer.specs.declared.place.Then.{Then}
 use Rattle.swc_lexer.specs.declared.place.Then.TheVariants as then_
 
 -- of a kind: whether `await` and `yield` are operators

@@ -1,35 +1,19 @@
 -- How a text is read: token by token, each by the goal that the tokens before it tell.
 use Rattle.std.specs.Prelude.{◌≡◌, ℕ, zero, suc, ◌+◌, ◌-◌, ◌*◌, ◌≤◌, ◌<◌, Bool, true, false, not, ◌&&◌, ◌||◌, if◌then◌else◌, nat_eq, nat_lt, nat_le, List, [], ◌∷◌, Option, Some, None, length, drop, slice_range, slice_get}
-use Rattle.swc_context.specs.declared.context.Context.{Context}
-use Rattle.swc_context.specs.declared.error.SyntaxError.{SyntaxError}
-use Rattle.swc_context.specs.declared.error.SyntaxError.TheVariants as fault
-use Rattle.swc_context.specs.declared.span.Span.{Span}
-use Rattle.swc_input.specs.declared.token.Token.{Token}
-use Rattle.swc_input.specs.declared.token.Token.TheVariants as token
-use Rattle.swc_input.specs.declared.token.TokenAndSpan.{TokenAndSpan}
-use Rattle.swc_lexical.specs.declared.scan.Goal.{Goal}
-use Rattle.swc_lexical.specs.declared.scan.Goal.TheVariants as goal
-use Rattle.swc_lexical.specs.declared.scan.Piece.{Piece}
+use Rattle.swc_context.specs.{declared.context.Context.Context, declared.error.SyntaxError.SyntaxError, declared.span.Span.Span}
+use Rattle.swc_input.specs.{declared.token.Token.Token, declared.token.TokenAndSpan.TokenAndSpan}
+use Rattle.swc_lexical.specs.{declared.scan.Goal.Goal, declared.scan.Piece.Piece, declared.fault.Wrong.Wrong, declared.lexeme.Kind.Kind as Lexical, Faults.char_len, Faults.fault_of, Runs.is_at, Scans.piece_at, Scans.gapes}
 use Rattle.swc_lexical.specs.Blanks.{blanks_len, has_break, hashbang_len}
-use Rattle.swc_lexical.specs.declared.fault.Wrong.{Wrong}
-use Rattle.swc_lexical.specs.declared.fault.Wrong.TheVariants as wrong
-use Rattle.swc_lexical.specs.declared.lexeme.Kind.{Kind as Lexical}
-use Rattle.swc_lexical.specs.declared.lexeme.Kind.TheVariants as lexical
-use Rattle.swc_lexical.specs.Faults.{char_len, fault_of}
-use Rattle.swc_lexical.specs.Runs.{is_at}
-use Rattle.swc_lexical.specs.Scans.{piece_at, gapes}
-use Rattle.swc_lexer.specs.declared.place.Kind.{Kind}
-use Rattle.swc_lexer.specs.declared.reader.End.{End}
-use Rattle.swc_lexer.specs.declared.reader.End.TheVariants.{Whole, BeforeBrace}
-use Rattle.swc_lexer.specs.declared.reader.Here.{Here}
-use Rattle.swc_lexer.specs.declared.reader.Here.TheVariants as here_
-use Rattle.swc_lexer.specs.declared.reader.Reader.{Reader}
-use Rattle.swc_lexer.specs.declared.stack.Start.{Start}
-use Rattle.swc_lexer.specs.Marks.{mark_of}
+use Rattle.swc_lexer.specs.{declared.place.Kind.Kind, declared.reader.End.End, declared.reader.End.TheVariants.Whole, declared.reader.End.TheVariants.BeforeBrace, declared.reader.Here.Here, declared.reader.Reader.Reader, declared.stack.Start.Start, Marks.mark_of, Tokens.token_of}
 use Rattle.swc_lexer.specs.Places.{is_asking, is_dot, is_template}
-use Rattle.swc_lexer.specs.Stacks as stacks
 use Rattle.swc_lexer.specs.Stacks.{State, innermost, passed, first_state, has_brace}
-use Rattle.swc_lexer.specs.Tokens.{token_of}
+use Rattle.swc_context.specs.declared.error.SyntaxError.TheVariants as fault
+use Rattle.swc_input.specs.declared.token.Token.TheVariants as token
+use Rattle.swc_lexical.specs.declared.scan.Goal.TheVariants as goal
+use Rattle.swc_lexical.specs.declared.fault.Wrong.TheVariants as wrong
+use Rattle.swc_lexical.specs.declared.lexeme.Kind.TheVariants as lexical
+use Rattle.swc_lexer.specs.declared.reader.Here.TheVariants as here_
+use Rattle.swc_lexer.specs.Stacks as stacks
 
 -- how far a text was read, and what was read so far; whether nothing comes any more
 pub record Reading : Type 0 where

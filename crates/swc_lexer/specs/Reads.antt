@@ -1,12 +1,9 @@
 -- All tokens of a text, or its first fault.
 use Rattle.std.specs.Prelude.{◌≡◌, ℕ, ◌+◌, min, Bool, true, false, List, ◌∷◌, ◌++◌, Result, Ok, Err, All, IsFalse}
-use Rattle.std.specs.declared.alloc.Global.{Global}
-use Rattle.std.specs.declared.vec.Vec.{Vec}
-use Rattle.swc_context.specs.declared.error.Error.{Error}
-use Rattle.swc_context.specs.declared.error.SyntaxError.{OutOfMemory, InvalidUtf8}
-use Rattle.swc_input.specs.declared.token.Token.{Token}
+use Rattle.std.specs.{declared.alloc.Global.Global, declared.vec.Vec.Vec}
+use Rattle.swc_context.specs.{declared.error.Error.Error, declared.error.SyntaxError.OutOfMemory, declared.error.SyntaxError.InvalidUtf8}
+use Rattle.swc_input.specs.{declared.token.Token.Token, declared.token.TokenAndSpan.TokenAndSpan}
 use Rattle.swc_input.specs.declared.token.Token.TheVariants as token
-use Rattle.swc_input.specs.declared.token.TokenAndSpan.{TokenAndSpan}
 
 abbrev pub out_of_memory : Error
 out_of_memory = record { span = record { lo = record { 0 = 0 }; hi = record { 0 = 0 } }; kind = OutOfMemory }

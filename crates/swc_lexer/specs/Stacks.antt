@@ -1,23 +1,11 @@
 -- The stack of what is open in a text: a function of the tokens so far.
 use Rattle.std.specs.Prelude.{ℕ, ◌-◌, Bool, true, false, if◌then◌else◌, List, [], ◌∷◌, Option, Some, None, take, reverse}
 use Rattle.swc_lexical.specs.declared.scan.Goal.{Goal}
-use Rattle.swc_lexer.specs.declared.mark.Mark.{Mark}
-use Rattle.swc_lexer.specs.declared.mark.Mark.TheVariants as mark
-use Rattle.swc_lexer.specs.declared.place.Before.{Before}
-use Rattle.swc_lexer.specs.declared.place.Before.TheVariants as before
-use Rattle.swc_lexer.specs.declared.place.Break.{Break}
+use Rattle.swc_lexer.specs.{declared.mark.Mark.Mark, declared.place.Before.Before, declared.place.Break.Break, declared.place.Entry.Entry, declared.place.Frame.Frame, declared.place.Kind.Kind, declared.place.Move.Move, declared.place.Open.Open, declared.place.Place.Place, declared.stack.Change.Change, declared.stack.Stack.Stack, declared.stack.Start.Start, declared.stack.Start.TheVariants.Statements, declared.stack.Start.TheVariants.Operand}
 use Rattle.swc_lexer.specs.declared.place.Break.TheVariants.{Nothing, Changes, Closes}
-use Rattle.swc_lexer.specs.declared.place.Entry.{Entry}
-use Rattle.swc_lexer.specs.declared.place.Frame.{Frame}
-use Rattle.swc_lexer.specs.declared.place.Kind.{Kind}
-use Rattle.swc_lexer.specs.declared.place.Move.{Move}
-use Rattle.swc_lexer.specs.declared.place.Open.{Open}
-use Rattle.swc_lexer.specs.declared.place.Place.{Place}
-use Rattle.swc_lexer.specs.declared.stack.Change.{Change}
-use Rattle.swc_lexer.specs.declared.stack.Stack.{Stack}
-use Rattle.swc_lexer.specs.declared.stack.Start.{Start}
-use Rattle.swc_lexer.specs.declared.stack.Start.TheVariants.{Statements, Operand}
 use Rattle.swc_lexer.specs.Places.{at_break, closes, is_brace, is_passed, enters, after, goal_at}
+use Rattle.swc_lexer.specs.declared.mark.Mark.TheVariants as mark
+use Rattle.swc_lexer.specs.declared.place.Before.TheVariants as before
 
 pub record State : Type 0 where
   -- what is open, the innermost first

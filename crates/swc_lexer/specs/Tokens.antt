@@ -1,21 +1,13 @@
 -- The token that a lexeme is (ECMA-262, 12), by its kind, how it is written, and where it begins.
 use Rattle.std.specs.Prelude.{ℕ, ◌+◌, ◌-◌, Bool, true, false, if◌then◌else◌, nat_eq, nat_lt, List, Option, Some, None, Result, Ok, Err, length, drop, slice_range}
 use Rattle.std.specs.List.{list_any}
-use Rattle.swc_context.specs.declared.error.Error.{Error}
-use Rattle.swc_context.specs.declared.error.SyntaxError.{BadCharacterEscapeSequence}
-use Rattle.swc_context.specs.declared.word.Word.{Word}
-use Rattle.swc_context.specs.declared.word.Word.TheVariants as word
-use Rattle.swc_context.specs.Words.{word_of}
+use Rattle.swc_context.specs.{declared.error.Error.Error, declared.error.SyntaxError.BadCharacterEscapeSequence, declared.word.Word.Word, Words.word_of}
 use Rattle.swc_input.specs.declared.token.Token.{Token}
-use Rattle.swc_input.specs.declared.token.Token.TheVariants as token
-use Rattle.swc_lexical.specs.declared.lexeme.Kind.{Kind}
-use Rattle.swc_lexical.specs.declared.lexeme.Kind.TheVariants as kind
-use Rattle.swc_lexical.specs.Faults.{bad_len}
-use Rattle.swc_lexical.specs.Meanings.{meaning}
-use Rattle.swc_lexical.specs.Runs.{is_at}
-use Rattle.swc_lexical.specs.Templates.{good_len}
-use Rattle.swc_lexical.specs.Regexps.{body_len}
+use Rattle.swc_lexical.specs.{declared.lexeme.Kind.Kind, Faults.bad_len, Meanings.meaning, Runs.is_at, Templates.good_len, Regexps.body_len}
 use Rattle.swc_lexer.specs.Signs.{sign_of}
+use Rattle.swc_context.specs.declared.word.Word.TheVariants as word
+use Rattle.swc_input.specs.declared.token.Token.TheVariants as token
+use Rattle.swc_lexical.specs.declared.lexeme.Kind.TheVariants as kind
 
 -- whether a backslash is among the bytes
 abbrev pub has_escape : List ℕ → Bool

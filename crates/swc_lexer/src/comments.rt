@@ -145,8 +145,8 @@ fn push_hashbang(comments: &mut Vec<Comment>, text: &[u8]) -> Result<(), AllocEr
     Ok(())
 }
 
-/// The comments of a text that has these tokens, in the order of their places: those in the blanks before each token, and
-/// after the last. None of a text of 4 GB or more. The only error is out of memory.
+/// The comments of a text that has these tokens, in the order of their places: those in the blanks before each token,
+/// and after the last. None of a text of 4 GB or more. The only error is out of memory.
 pub fn comments_of(
     alloc: Global,
     text: &str,

@@ -15,9 +15,9 @@ use swc_input::token::TokenAndSpan;
 use swc_input::tokens::Tokens;
 
 /// A source that gives the tokens of a text as they are asked for. It holds no list of them, and owns its text. A fault
-/// of the text is an error token, after which nothing comes. A number or an escape of old scripts, as `010` or `"\1"`, is
-/// recorded where it is read in strict code or a module, and elsewhere waits for the text to turn out a module. The source
-/// fails only when it is out of memory.
+/// of the text is an error token, after which nothing comes. A number or an escape of old scripts, as `010` or `"\1"`,
+/// is recorded where it is read in strict code or a module, and elsewhere waits for the text to turn out a module. The
+/// source fails only when it is out of memory.
 #[derive(Drop)]
 pub struct TextInput {
     alloc: Global,
@@ -68,8 +68,8 @@ impl TextInput {
         TextInput::new_at(alloc, text, 0, start, end, context, syntax, target)
     }
 
-    /// A source of the tokens of a part of this text, as `new` makes it: from the byte `at` on, as far as `end` says. The
-    /// places of tokens are in the whole text. A hashbang is read at its beginning alone.
+    /// A source of the tokens of a part of this text, as `new` makes it: from the byte `at` on, as far as `end` says.
+    /// The places of tokens are in the whole text. A hashbang is read at its beginning alone.
     pub fn new_at(
         alloc: Global,
         text: String,
@@ -98,8 +98,8 @@ impl TextInput {
         }
     }
 
-    /// Gives the token, whose fault of strict code, if it has one, is recorded. Where there is no memory to record it, the
-    /// source fails.
+    /// Gives the token, whose fault of strict code, if it has one, is recorded. Where there is no memory to record it,
+    /// the source fails.
     #[tactic(auto, using(crate::specs::Inputs::hands_none, crate::specs::Inputs::hands_some, crate::specs::Inputs::hands_lost))]
     fn hand(&mut self, token: TokenAndSpan) -> Option<TokenAndSpan>
         requires { self.old.failed ≡ false }

@@ -85,8 +85,8 @@ fn in_string(span: Span, raw: &[u8]) -> Option<Error>
     }
 }
 
-/// The fault that the token has in strict code: a number as `010` or `08`, at its place, and the first escape by digits of
-/// a string, as `\1` or `\8`, at the place of the escape. A template's text never has one.
+/// The fault that the token has in strict code: a number as `010` or `08`, at its place, and the first escape by digits
+/// of a string, as `\1` or `\8`, at the place of the escape. A template's text never has one.
 pub fn legacy_fault(token: &TokenAndSpan) -> Option<Error>
     ensures { result ≡ legacy.legacy_of token.now }
 {

@@ -1,7 +1,6 @@
 //! All tokens of a text.
 ghost use Rattle.std.specs.Prelude.{◌≡◌, ◌≤◌, length, IfOk, IfErr, Err};
-ghost use Rattle.std.specs.Str.{IsUtf8};
-ghost use Rattle.std.specs.Str.Lossy.{utf8_valid_len};
+ghost use Rattle.std.specs.{Str.IsUtf8, Str.Lossy.utf8_valid_len};
 ghost use Rattle.swc_lexer.specs.Covers as covers;
 ghost use Rattle.swc_lexer.specs.Reads as reads;
 ghost use Rattle.swc_lexer.specs.Readings as readings;
@@ -78,9 +77,10 @@ pub fn read_list(
     Ok(tokens)
 }
 
-/// The tokens of a text (ECMA-262, 12), of a program or an expression, in a function of the kind. Between them are white
-/// space, line terminators and comments alone (`comments_of` reads these). A fault refuses the text, the first one, with
-/// its place; and memory, at 0..0. Numbers and escapes of old scripts are read: `legacy_faults` has their faults.
+/// The tokens of a text (ECMA-262, 12), of a program or an expression, in a function of the kind. Between them are
+/// white space, line terminators and comments alone (`comments_of` reads these). A fault refuses the text, the first
+/// one, with its place; and memory, at 0..0. Numbers and escapes of old scripts are read: `legacy_faults` has their
+/// faults.
 pub fn read_text(
     alloc: Global,
     text: &str,
@@ -110,8 +110,8 @@ fn bad_utf8(at: usize) -> Error
     Error::new(span, SyntaxError::InvalidUtf8)
 }
 
-/// The tokens of a text in UTF-8, as `read_text` gives them. Bytes that are no UTF-8 refuse the text as `InvalidUtf8`, at
-/// the first such byte.
+/// The tokens of a text in UTF-8, as `read_text` gives them. Bytes that are no UTF-8 refuse the text as `InvalidUtf8`,
+/// at the first such byte.
 pub fn read_bytes(
     alloc: Global,
     bytes: &[u8],

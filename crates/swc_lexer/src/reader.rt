@@ -304,7 +304,6 @@ impl Reader {
     }
 
     /// Gives the token of the piece that comes next, or a fault. A sign takes no memory.
-    #[inline(never)]
     fn give(
         &mut self,
         alloc: Global,

@@ -6,29 +6,6 @@ ghost use Rattle.swc_lexer.specs.Signs.{sign_text};
 use swc_context::operator::{AssignOp, BinOpToken};
 use swc_input::token::Token;
 
-/// The bracket, or the sign that separates, that is this byte.
-fn bracket(a: u8) -> Option<Token>
-    ensures value { result ≡ signs.bracket a }
-    ensures spells { IfSome result (λ t. sign_text t ≡ a ∷ []) }
-{
-    match a {
-        b'(' => Some(Token::LParen),
-        b')' => Some(Token::RParen),
-        b'[' => Some(Token::LBracket),
-        b']' => Some(Token::RBracket),
-        b'{' => Some(Token::LBrace),
-        b'}' => Some(Token::RBrace),
-        b';' => Some(Token::Semi),
-        b',' => Some(Token::Comma),
-        b':' => Some(Token::Colon),
-        b'.' => Some(Token::Dot),
-        b'`' => Some(Token::BackQuote),
-        b'#' => Some(Token::Hash),
-        b'@' => Some(Token::At),
-        _ => None,
-    }
-}
-
 /// The sign that is this byte.
 fn one(a: u8) -> Option<Token>
     ensures value { result ≡ signs.one a }
@@ -49,7 +26,20 @@ fn one(a: u8) -> Option<Token>
         b'|' => Some(Token::BinOp(BinOpToken::BitOr)),
         b'^' => Some(Token::BinOp(BinOpToken::BitXor)),
         b'&' => Some(Token::BinOp(BinOpToken::BitAnd)),
-        _ => bracket(a),
+        b'(' => Some(Token::LParen),
+        b')' => Some(Token::RParen),
+        b'[' => Some(Token::LBracket),
+        b']' => Some(Token::RBracket),
+        b'{' => Some(Token::LBrace),
+        b'}' => Some(Token::RBrace),
+        b';' => Some(Token::Semi),
+        b',' => Some(Token::Comma),
+        b':' => Some(Token::Colon),
+        b'.' => Some(Token::Dot),
+        b'`' => Some(Token::BackQuote),
+        b'#' => Some(Token::Hash),
+        b'@' => Some(Token::At),
+        _ => None,
     }
 }
 

@@ -1,9 +1,8 @@
 //! The token that a lexeme is (ECMA-262, 12).
 ghost use Rattle.std.specs.Prelude.{◌≡◌, ◌+◌, ◌≤◌, ◌<◌, ◌^◌, IfOk, length, drop, true};
+ghost use Rattle.swc_lexical.specs.{Regexps.body_len, Runs.is_at};
 ghost use Rattle.swc_input.specs.declared.token.Token.TheVariants as token;
 ghost use Rattle.swc_lexer.specs.Tokens as tokens;
-ghost use Rattle.swc_lexical.specs.Regexps.{body_len};
-ghost use Rattle.swc_lexical.specs.Runs.{is_at};
 ghost use Rattle.swc_lexical.specs.Meanings as meanings;
 
 use crate::sign::sign;
@@ -39,7 +38,6 @@ fn escaped(named: bool, word: Word) -> Option<Token>
 }
 
 /// A word (ECMA-262, 12.7).
-#[inline(never)]
 fn word(alloc: Global, named: bool, text: &str) -> Result<Option<Token>, AllocError>
     ensures { IfOk result (λ o. o ≡ tokens.word_token named text.now) }
 {
@@ -152,7 +150,6 @@ fn regexp(alloc: Global, text: &str) -> Result<Option<Token>, AllocError>
 
 /// The token that begins at the place, of this kind, and is written so; none where none is. After `.` a word is a
 /// name (`named`). The only error is out of memory.
-#[inline(never)]
 pub fn token(
     alloc: Global,
     named: bool,

@@ -1,7 +1,6 @@
 -- Laws of runs.
 use Rattle.std.proofs.Common.{◌≡◌, ℕ, zero, suc, ◌+◌, ◌-◌, ◌<◌, ◌≤◌, List, [], ◌∷◌, length, drop, take, refl, sym, ap, ◌∙◌, arith, length-drop, nat_eq, cond, true, false, subst}
-use Rattle.std.proofs.lemmas.List.{drop-drop}
-use Rattle.std.proofs.Math.Seq.{take-length}
+use Rattle.std.proofs.{lemmas.List.drop-drop, Math.Seq.take-length}
 use Rattle.swc_lexical.specs.Runs.{run_from, run, RunsTo}
 
 -- what is left of a piece is passed

@@ -1,9 +1,7 @@
 -- White space, line terminators and comments (ECMA-262, 12.2 to 12.5).
 use Rattle.std.specs.Prelude.{ℕ, ◌+◌, Bool, ◌||◌, ◌&&◌, if◌then◌else◌, nat_eq, nat_lt, length, List, Option, Some, None, drop, take, slice_get}
-use Rattle.swc_lexical.specs.Runs.{is_at, run}
+use Rattle.swc_lexical.specs.{Runs.is_at, Runs.run, PlainNames.fitting, Comments.block_len}
 use Rattle.swc_lexical.specs.Chars.{is_white_space, terminator_len, plain_len}
-use Rattle.swc_lexical.specs.PlainNames.{fitting}
-use Rattle.swc_lexical.specs.Comments.{block_len}
 
 -- so many bytes and two, or none
 abbrev pub and_two : Option ℕ → ℕ

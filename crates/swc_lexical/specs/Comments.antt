@@ -1,7 +1,6 @@
 -- Comments (ECMA-262, 12.4).
 use Rattle.std.specs.Prelude.{ℕ, ◌+◌, Bool, not, ◌&&◌, ◌||◌, if◌then◌else◌, nat_eq, nat_lt, List, Option, Some, None, length, drop}
-use Rattle.swc_lexical.specs.Runs.{is_at, run}
-use Rattle.swc_lexical.specs.Chars.{plain_len}
+use Rattle.swc_lexical.specs.{Runs.is_at, Runs.run, Chars.plain_len}
 
 -- how many bytes come before a line terminator, or before the end: `//` and they are a comment
 abbrev pub line_len : List ℕ → ℕ

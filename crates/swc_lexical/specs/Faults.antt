@@ -1,20 +1,11 @@
 -- What is wrong where no token begins (ECMA-262, 12): its kind, how many bytes after the place it begins, and how many it takes.
 use Rattle.std.specs.Prelude.{ℕ, ◌+◌, Bool, true, false, ◌||◌, ◌&&◌, if◌then◌else◌, nat_eq, nat_lt, List, Option, Some, None, slice_get, drop, length}
 use Rattle.std.specs.Char.{is_ascii_digit}
-use Rattle.swc_lexical.specs.declared.fault.Fault.{Fault}
-use Rattle.swc_lexical.specs.declared.fault.Wrong.{Wrong}
-use Rattle.swc_lexical.specs.declared.fault.Wrong.TheVariants as wrong
-use Rattle.swc_lexical.specs.declared.number.Base.TheVariants.{Decimal}
-use Rattle.swc_lexical.specs.declared.scan.Goal.{Goal}
+use Rattle.swc_lexical.specs.{declared.fault.Fault.Fault, declared.fault.Wrong.Wrong, declared.number.Base.TheVariants.Decimal, declared.scan.Goal.Goal, Blanks.blanks_len, Chars.first_char, Chars.plain_len, Escapes.escape_len, Escapes.hex_digit_len, Lexemes.begins_word, Names.more_len, Strings.in_string}
 use Rattle.swc_lexical.specs.declared.scan.Goal.TheVariants.{Div, RegExp, Text, Delimiter}
-use Rattle.swc_lexical.specs.Blanks.{blanks_len}
-use Rattle.swc_lexical.specs.Chars.{first_char, plain_len}
-use Rattle.swc_lexical.specs.Escapes.{escape_len, hex_digit_len}
-use Rattle.swc_lexical.specs.Lexemes.{begins_word}
-use Rattle.swc_lexical.specs.Names.{more_len}
 use Rattle.swc_lexical.specs.Numbers.{is_digit, number_len, has_base, whole_len, mantissa}
 use Rattle.swc_lexical.specs.Runs.{is_at, test_at, run}
-use Rattle.swc_lexical.specs.Strings.{in_string}
+use Rattle.swc_lexical.specs.declared.fault.Wrong.TheVariants as wrong
 
 abbrev pub wrong_at : Wrong → ℕ → ℕ → Fault
 wrong_at w at n = record { wrong = w; offset = at; len = n }

@@ -1,17 +1,12 @@
 -- What begins at a place of a text (ECMA-262, 12): its kind and its length; none where nothing fits.
 use Rattle.std.specs.Prelude.{ℕ, ◌+◌, Bool, not, ◌||◌, ◌&&◌, if◌then◌else◌, nat_eq, nat_lt, nat_le, List, Option, Some, None, slice_get, drop}
 use Rattle.std.specs.Char.{is_ascii_digit}
-use Rattle.swc_lexical.specs.declared.lexeme.Kind.{Kind}
-use Rattle.swc_lexical.specs.declared.lexeme.Kind.TheVariants as kind
-use Rattle.swc_lexical.specs.declared.number.Base.TheVariants.{Decimal}
+use Rattle.swc_lexical.specs.{declared.lexeme.Kind.Kind, declared.number.Base.TheVariants.Decimal, Chars.starts_plain, Strings.string_len, Regexps.body_len, Signs.sign_len}
 use Rattle.swc_lexical.specs.Runs.{is_at, test_at, run}
-use Rattle.swc_lexical.specs.Chars.{starts_plain}
+use Rattle.swc_lexical.specs.Numbers.{is_digit, digits_len, number_len, is_legacy, has_base}
+use Rattle.swc_lexical.specs.declared.lexeme.Kind.TheVariants as kind
 use Rattle.swc_lexical.specs.Names as names
 use Rattle.swc_lexical.specs.PlainNames as plain
-use Rattle.swc_lexical.specs.Numbers.{is_digit, digits_len, number_len, is_legacy, has_base}
-use Rattle.swc_lexical.specs.Strings.{string_len}
-use Rattle.swc_lexical.specs.Regexps.{body_len}
-use Rattle.swc_lexical.specs.Signs.{sign_len}
 
 abbrev pub some_of : Kind → ℕ → Option (Kind × ℕ)
 some_of k n = if nat_lt 0 n then Some (k, n) else None

@@ -1,12 +1,7 @@
 -- What the texts of strings and templates mean, and how templates' are written (ECMA-262, 12.9.4.2 and 12.9.6.1), in UTF-8. A half of
 -- a pair by which UTF-16 writes a character, without the other half, is U+FFFD.
 use Rattle.std.specs.Prelude.{◌≡◌, ◌≤◌, ℕ, suc, zero, ◌+◌, ◌*◌, ◌-◌, ◌<◌, Bool, not, ◌&&◌, if◌then◌else◌, nat_lt, nat_le, length, List, [], ◌∷◌, ◌++◌, Option, Some, None, drop, IfSome, encode_utf8}
-use Rattle.swc_lexical.specs.declared.escape.Meaning.{Meaning}
-use Rattle.swc_lexical.specs.declared.escape.Meaning.TheVariants.{Code, Nothing}
-use Rattle.swc_lexical.specs.Runs.{is_at}
-use Rattle.swc_lexical.specs.Chars.{first_char, terminator_len}
-use Rattle.swc_lexical.specs.Escapes.{string_escape}
-use Rattle.swc_lexical.specs.Names.{scalar}
+use Rattle.swc_lexical.specs.{declared.escape.Meaning.Meaning, declared.escape.Meaning.TheVariants.Code, declared.escape.Meaning.TheVariants.Nothing, Runs.is_at, Chars.first_char, Chars.terminator_len, Escapes.string_escape, Names.scalar}
 
 abbrev pub is_high : ℕ → Bool
 is_high n = nat_le 0xD800 n && nat_lt n 0xDC00

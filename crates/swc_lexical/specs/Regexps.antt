@@ -1,7 +1,6 @@
 -- Regular expressions (ECMA-262, 12.9.5).
 use Rattle.std.specs.Prelude.{ℕ, ◌+◌, Bool, ◌||◌, ◌&&◌, if◌then◌else◌, nat_eq, nat_lt, List, Option, Some, None, drop, length}
-use Rattle.swc_lexical.specs.Runs.{is_at, run}
-use Rattle.swc_lexical.specs.Chars.{plain_len}
+use Rattle.swc_lexical.specs.{Runs.is_at, Runs.run, Chars.plain_len}
 
 -- a backslash and such a byte
 abbrev pub backslash_len : List ℕ → ℕ

@@ -1,15 +1,8 @@
 -- The token that is next in a text (ECMA-262, 12), by the goal of the lexical grammar that holds there.
-use Rattle.std.specs.Prelude.{ℕ, if◌then◌else◌, List, Option, Some, None, drop}
-use Rattle.swc_lexical.specs.declared.lexeme.Kind.{Kind}
-use Rattle.swc_lexical.specs.declared.lexeme.Kind.TheVariants as kind
-use Rattle.swc_lexical.specs.declared.scan.Goal.{Goal}
+use Rattle.std.specs.Prelude.{ℕ, if◌then◌else◌, List, Option, Some, None, drop, Bool, true, false, ◌&&◌, nat_eq, nat_lt}
+use Rattle.swc_lexical.specs.{declared.lexeme.Kind.Kind, declared.scan.Goal.Goal, declared.scan.Piece.Piece, Runs.is_at, Blanks.blanks_len, Templates.text_len, Templates.is_end, Lexemes.lexeme}
 use Rattle.swc_lexical.specs.declared.scan.Goal.TheVariants.{Div, RegExp, Text, Delimiter}
-use Rattle.swc_lexical.specs.declared.scan.Piece.{Piece}
-use Rattle.std.specs.Prelude.{Bool, true, false, ◌&&◌, nat_eq, nat_lt}
-use Rattle.swc_lexical.specs.Runs.{is_at}
-use Rattle.swc_lexical.specs.Blanks.{blanks_len}
-use Rattle.swc_lexical.specs.Templates.{text_len, is_end}
-use Rattle.swc_lexical.specs.Lexemes.{lexeme}
+use Rattle.swc_lexical.specs.declared.lexeme.Kind.TheVariants as kind
 
 abbrev pub piece_of : Goal → ℕ → Option (Kind × ℕ) → Option Piece
 piece_of goal blanks None = None

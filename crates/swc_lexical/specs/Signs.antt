@@ -1,7 +1,6 @@
 -- Signs (ECMA-262, 12.8): the longest.
-use Rattle.std.specs.Prelude.{ℕ, Bool, ◌||◌, ◌&&◌, if◌then◌else◌, List, Option, Some, None, slice_get}
+use Rattle.std.specs.Prelude.{ℕ, Bool, ◌||◌, ◌&&◌, if◌then◌else◌, List, Option, Some, None, slice_get, nat_eq}
 use Rattle.swc_lexical.specs.Runs.{is_at}
-use Rattle.std.specs.Prelude.{nat_eq}
 
 -- with `=` after so many bytes, or without
 abbrev pub with_equal : List ℕ → ℕ → ℕ → ℕ

@@ -281,7 +281,8 @@ fn after_two(first: u32, second: u32, third: Option<u32>) -> (u32, usize)
 fn after_one(first: u32, rest: &[u8]) -> (u32, usize)
     requires digit { first < 8 }
     requires within { 1 < length rest.now }
-    ensures value { result ≡ escapes.after_one first (escapes.octal_at (slice_get rest.now 2)) (escapes.octal_at (slice_get rest.now 3)) }
+    ensures value { result ≡ escapes.after_one first (escapes.octal_at (slice_get rest.now 2))
+        (escapes.octal_at (slice_get rest.now 3)) }
     ensures within { result.1 ≤ length rest.now }
     ensures some { 0 < result.1 }
 {

@@ -324,7 +324,8 @@ fn in_code(wants: bool, rest: &[u8]) -> Fault
     }
 }
 
-/// What is wrong here, by the goal, where no token begins. Of a template's text that isn't closed it is all that is left.
+/// What is wrong here, by the goal, where no token begins. Of a template's text that isn't closed it is all that is
+/// left.
 pub fn fault_of(goal: Goal, rest: &[u8]) -> Fault
     ensures value { result ≡ faults.fault_of goal rest.now }
     ensures within { result.offset + result.len ≤ length rest.now }

@@ -25,11 +25,11 @@ pub enum Goal {
 /// A token.
 #[derive(Clone, Copy, PartialEq, Eq, Debug)]
 pub struct Piece {
-    pub goal: Goal,
     /// How many bytes of blanks are before it.
     pub blanks: usize,
-    pub kind: Kind,
     pub len: usize,
+    pub goal: Goal,
+    pub kind: Kind,
 }
 
 /// The token after so many bytes of blanks.
@@ -95,9 +95,8 @@ pub fn piece_after(goal: Goal, blanks: usize, rest: &[u8]) -> Option<Piece>
     ensures goal { IfSome result (λ p. p.goal ≡ goal) }
 {
     match goal {
-        Goal::Div => in_code(goal, false, blanks, rest),
-        Goal::RegExp => in_code(goal, true, blanks, rest),
         Goal::Text => text(rest),
         Goal::Delimiter => delimiter(rest),
+        Goal::Div | Goal::RegExp => in_code(goal, matches!(goal, Goal::RegExp), blanks, rest),
     }
 }

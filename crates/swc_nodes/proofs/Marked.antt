@@ -8,11 +8,11 @@ use Rattle.swc_ast.specs.Parts.{leaf, or_hole, ident_tree, prop_name_tree, membe
 use Rattle.swc_ast.specs.Tree.{Tree, node, Trees, nil, cons, trees, span_of, no_span, item, spread, dots, args, args_with, array, array_with, object, object_with, unary, update, bin, assign, cond, seq, paren, member, super, super_prop, call, new, opt_chain, tpl, tagged, arrow, await, yield, computed, key_value, cover, method, function, getter, setter, block, binding_prop, rest, default, param, pat_expr}
 use Rattle.swc_ast.specs.{Trees.unmarked, Trees.all_unmarked, declared.expr.BlockStmtOrExpr.BlockStmtOrExpr, declared.expr.BlockStmtOrExpr.BlockStmtOrExpr as body, declared.expr.Callee.Callee, declared.expr.Callee.Callee as callee, declared.expr.ExprOrSpread.ExprOrSpread, declared.expr.MemberProp.MemberProp, declared.expr.MemberProp.MemberProp as member_prop, declared.expr.OptChainBase.OptChainBase, declared.expr.OptChainBase.OptChainBase as base, declared.expr.SuperProp.SuperProp, declared.expr.SuperProp.SuperProp as super_part, declared.expr.Tpl.Tpl, declared.expr.TplElement.TplElement, declared.function.Function.Function, declared.function.Param.Param, declared.prop.PropName.PropName, declared.prop.PropName.PropName as prop_name, declared.spanned.Spanned.Ghosts}
 use Rattle.swc_nodes.specs.Marking.{Marker, marked_by, all_marked_by, target_marked_by, pat_marked_by, pats_marked_by, marked_as, marked_node, marked_from, Marks}
-use Rattle.swc_nodes.specs.NodeTree.{target_of, prop_of, pat_prop_of, marked_tree}
-use Rattle.swc_nodes.specs.NodeParts.{Part, View, expr, pat, simple, pattern, Form, target_expr, other_expr, target_pat, other_pat, slots, form, view_ok, flat, if_some, one_expr, one_pat, item_parts, args_parts, key_parts, member_parts, super_parts, callee_parts, base_parts, body_parts, param_parts, prop_parts, pat_prop_parts, target_part}
+use Rattle.swc_nodes.specs.NodeTree.{target_of, prop_of, pat_prop_of, marked_tree, part_tree, pat_elem_of}
+use Rattle.swc_nodes.specs.NodeParts.{Part, View, expr, pat, simple, pattern, Form, target_expr, other_expr, target_pat, other_pat, slots, form, view_ok, flat, if_some, one_expr, one_pat, item_parts, args_parts, key_parts, member_parts, super_parts, callee_parts, base_parts, body_parts, param_parts, prop_parts, pat_prop_parts, target_part, part_parts, pat_elem_part}
 use Rattle.swc_nodes.specs.NumberedTrees.{Seat, no_seat, found, floor, fits, chain, seat, seats_after, ordered}
 use Rattle.swc_nodes.specs.GrowingNodes.{count, seat_at, tree_at, Apart, From}
-use Rattle.swc_nodes.specs.{declared.node.ExprId.ExprId, declared.node.PatId.PatId, declared.node.Node.Node, declared.node.Node.Node as n, declared.node.PatPropNode.PatPropNode, declared.node.PatPropNode.PatPropNode as pat_prop, declared.node.PropNode.PropNode, declared.node.PropNode.PropNode as prop, declared.node.TargetNode.TargetNode, declared.node.TargetNode.TargetNode as target, declared.nodes.Nodes.Nodes}
+use Rattle.swc_nodes.specs.{declared.node.ExprId.ExprId, declared.node.PatId.PatId, declared.node.Node.Node, declared.node.Node.Node as n, declared.node.PatPropNode.PatPropNode, declared.node.PatPropNode.PatPropNode as pat_prop, declared.node.PropNode.PropNode, declared.node.PropNode.PropNode as prop, declared.node.TargetNode.TargetNode, declared.node.TargetNode.TargetNode as target, declared.nodes.Nodes.Nodes, declared.node.PatElem.PatElem, declared.node.PatElem.PatElem as elem, declared.node.PatPart.PatPart, declared.node.PatPart.PatPart as of_pat}
 use Rattle.swc_nodes.proofs.Chains.{both_true, true_both, fitting, fits-of, chain-bound, chain-cons}
 use Rattle.swc_nodes.proofs.Lists.{same_first, same_rest}
 use Rattle.swc_nodes.proofs.Standing.{after_append, after_length, ordered_front, ordered_back, ordered_both}
@@ -58,10 +58,11 @@ module _ {F C K : Type 0} (m : Marker) (at by : ℕ → Tree F C K) where
   if_there parts f g same None h = refl
   if_there parts f g same (Some x) h = same x h
 
-  pat_if_there : (o : Option PatId) → AreMarked (if_some one_pat o)
-      → or_hole (λ (p : PatId). by p.0) o ≡ pat_marked_by m (or_hole (λ (p : PatId). at p.0) o)
-  pat_if_there None h = refl
-  pat_if_there (Some p) h = same_first h
+  pat_if_there : {X : Type 0} (parts : X → List Part) (f g : X → Tree F C K) → ((x : X) → AreMarked (parts x)
+      → f x ≡ pat_marked_by m (g x))
+      → (o : Option X) → AreMarked (if_some parts o) → or_hole f o ≡ pat_marked_by m (or_hole g o)
+  pat_if_there parts f g same None h = refl
+  pat_if_there parts f g same (Some x) h = same x h
 
   abbrev expr_at : ExprId → Tree F C K
   expr_at e = at e.0
@@ -207,17 +208,27 @@ module _ {F C K : Type 0} (fun_at : F → Span) (class_at : C → Span) (block_a
       ∙ ap (λ t. node setter s (cons (marked_by m (key_at k)) (cons t own))) (same_first (back m at by (key_parts k)
       (one_pat p) h))
 
+  a_part : (p : PatPart) → Marked (part_parts p) → part_tree by p ≡ pat_marked_by m (part_tree at p)
+  a_part (of_pat.Pat p) h = same_first h
+  a_part (of_pat.Expr e) h =
+      ap (λ t. node pat_expr (span_of t) (cons t nil)) (same_first h)
+      ∙ ap (λ s. node pat_expr s (cons (marked_by m (at e.0)) nil)) (marked-place m (at e.0))
+
+  an_elem : (p : PatElem) → Marked (pat_elem_part p) → pat_elem_of by p ≡ pat_marked_by m (pat_elem_of at p)
+  an_elem (elem.Item p) h = a_part p h
+  an_elem (elem.Rest s d p) h = ap (λ t. node rest s (cons (leaf dots d) (cons t nil))) (a_part p h)
+
   a_pat_prop : (p : PatPropNode) → Marked (pat_prop_parts p)
       → pat_prop_of fun_at class_at block_at by p ≡ pat_marked_by m (pat_prop_of fun_at class_at block_at at p)
   a_pat_prop (pat_prop.KeyValue s k v) h =
-      ap (λ t. node key_value s (cons t (cons (by v.0) nil))) (key m at by k (front m at by (key_parts k)
-      (one_pat v) h))
-      ∙ ap (λ t. node key_value s (cons (marked_by m (key_at k)) (cons t nil))) (same_first (back m at by
-      (key_parts k) (one_pat v) h))
+      ap (λ t. node key_value s (cons t (cons (part_tree by v) nil))) (key m at by k (front m at by (key_parts k)
+      (part_parts v) h))
+      ∙ ap (λ t. node key_value s (cons (marked_by m (key_at k)) (cons t nil))) (a_part v (back m at by
+      (key_parts k) (part_parts v) h))
   a_pat_prop (pat_prop.Assign s k v) h =
       ap (λ t. node binding_prop s (cons (ident_tree k.id) (cons t nil)))
       (if_there m at by one_expr (λ (e : ExprId). by e.0) (λ (e : ExprId). at e.0) (one m at by) v h)
-  a_pat_prop (pat_prop.Rest s d p) h = ap (λ t. node rest s (cons (leaf dots d) (cons t nil))) (same_first h)
+  a_pat_prop (pat_prop.Rest s d p) h = ap (λ t. node rest s (cons (leaf dots d) (cons t nil))) (a_part p h)
 
   abbrev now : Node F C K → Tree F C K
   now x = marked_tree fun_at class_at block_at by (marked_node m x)
@@ -289,13 +300,14 @@ module _ {F C K : Type 0} (fun_at : F → Span) (class_at : C → Span) (block_a
 
   a_pat : (x : Node F C K) → Marked (slots x) → view_ok pat (form x) ≡ true → now x ≡ pat_marked_by m (was x)
   a_pat (n.PatIdent b) h e = refl
-  a_pat (n.PatArray s elems) h e = ap (node array s) (listed-pats m at by (if_some one_pat) _ _
-      (pat_if_there m at by) elems.items h)
+  a_pat (n.PatArray s elems) h e = ap (node array s) (listed-pats m at by (if_some pat_elem_part) _ _
+      (pat_if_there m at by pat_elem_part (pat_elem_of by) (pat_elem_of at) an_elem) elems.items h)
   a_pat (n.PatObject s props) h e = ap (node object s) (listed-pats m at by pat_prop_parts _ _ a_pat_prop props.items h)
   a_pat (n.PatRest s d p) h e = ap (λ t. node rest s (cons (leaf dots d) (cons t nil))) (same_first h)
   a_pat (n.PatAssign s l r) h e =
-      ap (λ t. node default s (cons t (cons (by r.0) nil))) (same_first h)
-      ∙ ap (λ t. node default s (cons (pat_marked_by m (at l.0)) (cons t nil))) (same_first (same_rest h))
+      ap (λ t. node default s (cons t (cons (by r.0) nil))) (a_part l (front m at by (part_parts l) (one_expr r) h))
+      ∙ ap (λ t. node default s (cons (pat_marked_by m (part_tree at l)) (cons t nil)))
+      (same_first (back m at by (part_parts l) (one_expr r) h))
   a_pat (n.PatExpr i) h e =
       ap (λ t. node pat_expr (span_of t) (cons t nil)) (same_first h)
       ∙ ap (λ s. node pat_expr s (cons (marked_by m (at i.0)) nil)) (marked-place m (at i.0))
@@ -348,7 +360,7 @@ form-same m x = refl
 -- ---- seats of nodes, and of the nodes with marks
 
 -- what holds of the items of two lists at each place, where one more was appended to both
-more : {X : Type 0} (P : ℕ → X → X → Type 0) (xs ys : List X) (x y d : X) → length ys ≡ length xs
+pub more : {X : Type 0} (P : ℕ → X → X → Type 0) (xs ys : List X) (x y d : X) → length ys ≡ length xs
     → ((i : ℕ) → i < length xs → P i (slice_index_or xs i d) (slice_index_or ys i d)) → P (length xs) x y
     → ((i : ℕ) → length xs < i → P i d d)
     → (i : ℕ) → P i (slice_index_or (xs ++ x ∷ []) i d) (slice_index_or (ys ++ y ∷ []) i d)
@@ -528,6 +540,13 @@ module _ {F C K : Type 0} (fun_at : F → Span) (class_at : C → Span) (block_a
             (take k xs) (drop k xs) o1) w.1,
       )
 
+  -- what is reached from each number is what it was
+  pub marked_firsts : (xs ys : List (Node F C K)) → ys ≡ marked_from m k xs →
+      ordered fun_at class_at block_at [] xs ≡ true → (i : ℕ) →
+      (found (seats_after fun_at class_at block_at [] ys) i).first
+      ≡ (found (seats_after fun_at class_at block_at [] xs) i).first
+  marked_firsts xs ys e o i = ((split-twins xs ys e o).0.each i).first
+
 kept-front : {X : Type 0} (f : X → X) (k : ℕ) (xs : List X) → take k (take k xs ++ map f (drop k xs)) ≡ take k xs
 kept-front f k xs = ⊎_elim
     (λ lt.
@@ -536,7 +555,7 @@ kept-front f k xs = ⊎_elim
     (λ le. take_at (take k xs) (map f (drop k xs)) k (length-take-le k xs le))
     (cases_lt (length xs) k)
 
-same-length : {X : Type 0} (f : X → X) (k : ℕ) (xs : List X) → length (take k xs ++ map f (drop k xs)) ≡ length xs
+pub same-length : {X : Type 0} (f : X → X) (k : ℕ) (xs : List X) → length (take k xs ++ map f (drop k xs)) ≡ length xs
 same-length f k xs =
     let a = length-append (take k xs) (map f (drop k xs)) in
     let b = length-map (drop k xs) f in

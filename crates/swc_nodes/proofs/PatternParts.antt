@@ -1,21 +1,28 @@
 -- The parts of patterns: elements, properties and parameters that are read one after another keep what they stand for;
 -- and an expression as a pattern.
-use Rattle.std.proofs.Common.{◌≡◌, ℕ, suc, ◌<◌, true, List, [], ◌∷◌, ◌++◌, map, Option, Some, None, refl, sym, ap, ◌∙◌}
+use Rattle.std.proofs.Common.{◌≡◌, ℕ, suc, ◌<◌, true, List, [], ◌∷◌, ◌++◌, map, Option, Some, None, refl, sym, ap, ◌∙◌, subst}
 use Rattle.std.proofs.lemmas.Bool.{le-leb}
 use Rattle.swc_context.specs.declared.span.Span.{Span}
-use Rattle.swc_ast.specs.Parts.{leaf, or_hole, binding_tree, prop_name_tree, param_tree}
-use Rattle.swc_ast.specs.Tree.{Tree, node, cons, nil, trees, span_of, key_value, binding_prop, rest, dots}
+use Rattle.swc_ast.specs.Parts.{leaf, or_hole, binding_tree, prop_name_tree, param_tree, no_tree}
+use Rattle.swc_ast.specs.Tree.{Tree, node, cons, nil, trees, span_of, key_value, binding_prop, rest, dots, pat_expr, array}
 use Rattle.swc_ast.specs.{Trees.trees_append, Trees.setter_parts, declared.function.Param.Param, declared.spanned.Spanned.Ghosts}
-use Rattle.swc_nodes.specs.NodeParts.{Part, expr_part, flat, one_expr, one_pat, if_some, key_parts, param_parts, pat_prop_parts}
-use Rattle.swc_nodes.specs.GrowingNodes.{count, seat_at, tree_at, Apart, Grows, Stood}
-use Rattle.swc_nodes.specs.{Lists.first_param_pat, NodeTree.pat_prop_of, NumberedTrees.Seat, NumberedTrees.chain, declared.node.ExprId.ExprId, declared.node.PatId.PatId, declared.node.Node.Node, declared.node.Node.Node as n, declared.node.PatPropNode.PatPropNode, declared.node.PatPropNode.PatPropNode as pat_prop, declared.nodes.Nodes.Nodes}
+use Rattle.swc_nodes.specs.NodeParts.{Part, expr_part, flat, one_expr, one_pat, if_some, key_parts, param_parts, pat_prop_parts, pat, pat_part, part_parts, pat_elem_part}
+use Rattle.swc_nodes.specs.GrowingNodes.{count, seat_at, tree_at, Apart, Grows, Stood, Added, Made}
+use Rattle.swc_nodes.specs.Lists.{first_param_pat, pat_elem, pat_elem_tree, pat_elem_trees, pat_elem_parts, held_elem_parts}
+use Rattle.swc_nodes.specs.NodeTree.{pat_prop_of, part_tree, pat_elem_of}
+use Rattle.swc_nodes.specs.{NumberedTrees.Seat, NumberedTrees.chain, declared.node.ExprId.ExprId, declared.node.PatId.PatId, declared.node.Node.Node, declared.node.Node.Node as n, declared.node.PatPropNode.PatPropNode, declared.node.PatPropNode.PatPropNode as pat_prop, declared.nodes.Nodes.Nodes, declared.node.PatElem.PatElem, declared.node.PatPart.PatPart, declared.node.PatPart.PatPart as of_pat}
 use Rattle.swc_nodes.proofs.Chains.{both_true, true_both, chain-bound}
-use Rattle.swc_nodes.proofs.Lists.{SameTrees, same_first, same-front, same-back, key-same, param-same, list-later, list-more}
+use Rattle.swc_nodes.proofs.Lists.{SameTrees, same_first, same-front, same-back, key-same, param-same, list-later, list-more, list-made-as}
 use Rattle.swc_nodes.proofs.{Held.stood-is, Held.stood-parts, Targets.Leads, Targets.leads}
+use Rattle.std.specs.{declared.alloc.Global.Global, declared.vec.Vec.Vec}
 
 module _ {F C K : Type 0} (at by : ℕ → Tree F C K) where
   pub pat-same : (p : PatId) → SameTrees at by (one_pat p) → at p.0 ≡ by p.0
   pat-same p h = same_first h
+
+  part-same : (p : PatPart) → SameTrees at by (part_parts p) → part_tree at p ≡ part_tree by p
+  part-same (of_pat.Pat p) h = same_first h
+  part-same (of_pat.Expr e) h = ap (λ t. node pat_expr (span_of t) (cons t nil)) (same_first h)
 
   value-same : (v : Option ExprId) → SameTrees at by (if_some one_expr v) →
       or_hole (λ e. at e.0) v ≡ or_hole (λ e. by e.0) v
@@ -26,14 +33,28 @@ module _ {F C K : Type 0} (fun_at : F → Span) (class_at : C → Span) (block_a
   pub pat-prop-same : (p : PatPropNode) → SameTrees at by (pat_prop_parts p) →
       pat_prop_of fun_at class_at block_at at p ≡ pat_prop_of fun_at class_at block_at by p
   pat-prop-same (pat_prop.KeyValue s k v) h =
-      let key = key-same at by k (same-front at by (key_parts k) (one_pat v) h) in
-      let value = pat-same at by v (same-back at by (key_parts k) (one_pat v) h) in
+      let key = key-same at by k (same-front at by (key_parts k) (part_parts v) h) in
+      let value = part-same at by v (same-back at by (key_parts k) (part_parts v) h) in
       let key_by = prop_name_tree (λ e. by e.0) k in
-      ap (λ t. node key_value s (cons t (cons (at v.0) nil))) key
+      ap (λ t. node key_value s (cons t (cons (part_tree at v) nil))) key
       ∙ ap (λ t. node key_value s (cons key_by (cons t nil))) value
   pat-prop-same (pat_prop.Assign s k v) h =
       ap (λ t. node binding_prop s (cons (binding_tree k) (cons t nil))) (value-same at by v h)
-  pat-prop-same (pat_prop.Rest s d p) h = ap (λ t. node rest s (cons (leaf dots d) (cons t nil))) (pat-same at by p h)
+  pat-prop-same (pat_prop.Rest s d p) h = ap (λ t. node rest s (cons (leaf dots d) (cons t nil))) (part-same at by p h)
+
+-- ---- elements that are patterns, as an array pattern holds them
+
+pub elems-parts : (xs : List (Option PatId)) →
+    flat (if_some pat_elem_part) (map pat_elem xs) ≡ flat (if_some one_pat) xs
+elems-parts [] = refl
+elems-parts (None ∷ xs) = elems-parts xs
+elems-parts (Some p ∷ xs) = ap (λ v. pat_part p ∷ v) (elems-parts xs)
+
+pub elems-trees : {F C K : Type 0} (at : ℕ → Tree F C K) (xs : List (Option PatId)) →
+    map (or_hole (pat_elem_of at)) (map pat_elem xs) ≡ map (pat_elem_tree at) xs
+elems-trees at [] = refl
+elems-trees at (None ∷ xs) = ap (λ v. no_tree ∷ v) (elems-trees at xs)
+elems-trees at (Some p ∷ xs) = ap (λ v. at p.0 ∷ v) (elems-trees at xs)
 
 -- ---- trees of parameters, and then more of them
 
@@ -105,6 +126,23 @@ module _ {F C K : Type 0} {fg : Ghosts F} {cg : Ghosts C} {kg : Ghosts K} where
       trees (map (param_tree (λ p. tree_at ms p.0)) (xs ++ x ∷ []))
       ≡ trees_append (trees (map (param_tree (λ p. tree_at ns p.0)) xs)) (cons (param_tree (λ p. tree_at ms p.0) x) nil)
   params-more xs x g a = list-more param_parts (λ at. param_tree (λ p. at p.0)) param-same xs x g a
+
+  -- ---- an array pattern
+
+  pub array-apart : {ns : Nodes F C K fg cg kg} {k : ℕ} (elems : Vec (Option PatId) Global)
+      (all : Vec (Option PatElem) Global) → all.items ≡ map pat_elem elems.items → Apart k ns (pat_elem_parts elems) →
+      Apart k ns (held_elem_parts all)
+  array-apart {ns} {k} elems all e a =
+      subst (λ v. Apart k ns v) (sym (ap (flat (if_some pat_elem_part)) e ∙ elems-parts elems.items)) a
+
+  pub array-made : {ns ms : Nodes F C K fg cg kg} {i : ℕ} (s : Span) (elems : Vec (Option PatId) Global)
+      (all : Vec (Option PatElem) Global) → all.items ≡ map pat_elem elems.items → Apart 0 ns (pat_elem_parts elems) →
+      Added ns ms i (n.PatArray s all) → (k : ℕ) → Apart k ns (pat_elem_parts elems) →
+      Made k ms (record { at = i; view = pat }) (node array s (pat_elem_trees (tree_at ns) elems))
+  array-made {ns} s elems all e a d k b =
+      let m = list-made-as pat (n.PatArray s all) refl (array-apart elems all e a) d k (array-apart elems all e b) in
+      let same = ap (map (or_hole (pat_elem_of (tree_at ns)))) e ∙ elems-trees (tree_at ns) elems.items in
+      record { from = m.from; stands = m.stands ∙ ap (λ v. node array s (trees v)) same }
 
   -- ---- an expression as a pattern, which is where the expression does
 

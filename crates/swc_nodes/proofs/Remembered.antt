@@ -6,10 +6,10 @@ use Rattle.swc_context.specs.declared.span.Span.{Span}
 use Rattle.swc_ast.specs.Parts.{or_hole, prop_name_tree, member_prop_tree, super_part_tree, item_of, item_tree, item_trees, args_tree, base_tree, callee_tree, quasi_tree, tpl_tree, param_tree, function_tree}
 use Rattle.swc_ast.specs.{Tree.Tree, Tree.trees, declared.expr.Callee.Callee, declared.expr.Callee.Callee as callee, declared.expr.ExprOrSpread.ExprOrSpread, declared.expr.MemberProp.MemberProp, declared.expr.MemberProp.MemberProp as member_prop, declared.expr.OptChainBase.OptChainBase, declared.expr.OptChainBase.OptChainBase as base, declared.expr.SuperProp.SuperProp, declared.expr.SuperProp.SuperProp as super_part, declared.expr.Tpl.Tpl, declared.expr.TplElement.TplElement, declared.function.Function.Function, declared.prop.PropName.PropName, declared.prop.PropName.PropName as prop_name, declared.spanned.Spanned.Ghosts}
 use Rattle.swc_nodes.specs.Commas.{comma_at, Literal, commas_in, commas_of_all, part_commas, node_comma, outer_parts, body_part, recalled, Recalls}
-use Rattle.swc_nodes.specs.NodeTree.{target_of, prop_of, pat_prop_of, marked_tree}
-use Rattle.swc_nodes.specs.NodeParts.{Part, slots, flat, if_some, one_expr, one_pat, item_parts, args_parts, key_parts, member_parts, super_parts, callee_parts, base_parts, param_parts, prop_parts, pat_prop_parts, target_part}
+use Rattle.swc_nodes.specs.NodeTree.{target_of, prop_of, pat_prop_of, marked_tree, part_tree, pat_elem_of}
+use Rattle.swc_nodes.specs.NodeParts.{Part, slots, flat, if_some, one_expr, one_pat, item_parts, args_parts, key_parts, member_parts, super_parts, callee_parts, base_parts, param_parts, prop_parts, pat_prop_parts, target_part, part_parts, pat_elem_part}
 use Rattle.swc_nodes.specs.GrowingNodes.{count, seat_before, tree_at, Stood}
-use Rattle.swc_nodes.specs.{Walking.part_of, declared.apart.PartId.PartId, declared.commas.TrailingCommas.TrailingCommas, declared.node.ExprId.ExprId, declared.node.PatId.PatId, declared.node.Node.Node, declared.node.Node.Node as n, declared.node.PatPropNode.PatPropNode, declared.node.PatPropNode.PatPropNode as pat_prop, declared.node.PropNode.PropNode, declared.node.PropNode.PropNode as prop, declared.node.TargetNode.TargetNode, declared.node.TargetNode.TargetNode as target, declared.nodes.Nodes.Nodes}
+use Rattle.swc_nodes.specs.{Walking.part_of, declared.apart.PartId.PartId, declared.commas.TrailingCommas.TrailingCommas, declared.node.ExprId.ExprId, declared.node.PatId.PatId, declared.node.Node.Node, declared.node.Node.Node as n, declared.node.PatPropNode.PatPropNode, declared.node.PatPropNode.PatPropNode as pat_prop, declared.node.PropNode.PropNode, declared.node.PropNode.PropNode as prop, declared.node.TargetNode.TargetNode, declared.node.TargetNode.TargetNode as target, declared.nodes.Nodes.Nodes, declared.node.PatElem.PatElem, declared.node.PatElem.PatElem as elem, declared.node.PatPart.PatPart, declared.node.PatPart.PatPart as of_pat}
 use Rattle.swc_nodes.proofs.Lists.{SameTrees, same_first, same_rest, same-front, stood-trees}
 
 module _ {F C K : Type 0} (at : ℕ → Tree F C K) where
@@ -117,10 +117,18 @@ module _ {F C K : Type 0} (fun_at : F → Span) (class_at : C → Span) (block_a
   prop-commas (prop.Getter s k b) = key-commas at k
   prop-commas (prop.Setter s k p b) = both at (key_parts k) (one_pat p) _ _ (key-commas at k) refl
 
+  part-commas : (p : PatPart) → commas_in (part_tree at p) ≡ commas_now (part_parts p)
+  part-commas (of_pat.Pat p) = refl
+  part-commas (of_pat.Expr e) = refl
+
+  elem-commas : (p : PatElem) → commas_in (pat_elem_of at p) ≡ commas_now (pat_elem_part p)
+  elem-commas (elem.Item p) = part-commas p
+  elem-commas (elem.Rest s d p) = append-nil (commas_in (part_tree at p)) ∙ part-commas p
+
   pub pat-prop-commas : (p : PatPropNode) → commas_in (pat_prop_of fun_at class_at block_at at p) ≡ commas_now (pat_prop_parts p)
-  pat-prop-commas (pat_prop.KeyValue s k v) = both at (key_parts k) (one_pat v) _ _ (key-commas at k) refl
+  pat-prop-commas (pat_prop.KeyValue s k v) = both at (key_parts k) (part_parts v) _ _ (key-commas at k) (part-commas v)
   pat-prop-commas (pat_prop.Assign s k v) = append-nil _ ∙ if_there at (λ (e : ExprId). at e.0) one_expr (λ e. refl) v
-  pat-prop-commas (pat_prop.Rest s d p) = append-nil (commas_in (at p.0))
+  pat-prop-commas (pat_prop.Rest s d p) = append-nil (commas_in (part_tree at p)) ∙ part-commas p
 
   pub node-commas : (x : Node F C K) → commas_in (marked_tree fun_at class_at block_at at x) ≡ node_comma x ++ commas_now (outer_parts x)
   node-commas (n.Array s elems comma) =
@@ -141,9 +149,10 @@ module _ {F C K : Type 0} (fun_at : F → Span) (class_at : C → Span) (block_a
   node-commas (n.Yield s a d) = if_there at (λ (e : ExprId). at e.0) one_expr (λ e. refl) a
   node-commas (n.PatArray s elems) =
       ap (λ v. (s.lo.0, None) ∷ v)
-      (listed at (or_hole (λ (p : PatId). at p.0)) (if_some one_pat) (if_there at (λ (p : PatId). at p.0) one_pat (λ p. refl)) elems.items)
+      (listed at (or_hole (pat_elem_of at)) (if_some pat_elem_part) (if_there at (pat_elem_of at) pat_elem_part elem-commas) elems.items)
   node-commas (n.PatObject s props) =
       ap (λ v. (s.lo.0, None) ∷ v) (listed at (pat_prop_of fun_at class_at block_at at) pat_prop_parts pat-prop-commas props.items)
+  node-commas (n.PatAssign s l r) = both at (part_parts l) (one_expr r) _ _ (part-commas l) refl
   node-commas (n.PatRest s d p) = append-nil (commas_in (at p.0))
   node-commas x = refl
 

@@ -5,8 +5,8 @@ use Rattle.swc_context.specs.declared.span.Span.{Span}
 use Rattle.swc_ast.specs.Tree.{Tree, node, nil, cons, trees, no_span, span_of, args, array, object, computed, param, seq, tpl}
 use Rattle.swc_ast.specs.Parts.{or_hole, prop_name_tree, member_prop_tree, super_part_tree, item_of, item_tree, item_trees, args_tree, base_tree, callee_tree, quasi_tree, tpl_tree, body_tree, param_tree, function_tree}
 use Rattle.swc_ast.specs.{Trees.unmarked, Trees.all_unmarked, declared.expr.BlockStmtOrExpr.BlockStmtOrExpr, declared.expr.BlockStmtOrExpr.BlockStmtOrExpr as body, declared.expr.Callee.Callee, declared.expr.Callee.Callee as callee, declared.expr.ExprOrSpread.ExprOrSpread, declared.expr.MemberProp.MemberProp, declared.expr.MemberProp.MemberProp as member_prop, declared.expr.OptChainBase.OptChainBase, declared.expr.OptChainBase.OptChainBase as base, declared.expr.SuperProp.SuperProp, declared.expr.SuperProp.SuperProp as super_part, declared.expr.Tpl.Tpl, declared.expr.TplElement.TplElement, declared.function.Function.Function, declared.prop.PropName.PropName, declared.prop.PropName.PropName as prop_name}
-use Rattle.swc_nodes.specs.NodeTree.{expr_of, pat_of, target_of, prop_of, pat_prop_of, node_tree, marked_tree}
-use Rattle.swc_nodes.specs.{declared.node.ExprId.ExprId, declared.node.PatId.PatId, declared.node.Node.Node, declared.node.Node.Node as n, declared.node.PatPropNode.PatPropNode, declared.node.PatPropNode.PatPropNode as pat_prop, declared.node.PropNode.PropNode, declared.node.PropNode.PropNode as prop, declared.node.TargetNode.TargetNode, declared.node.TargetNode.TargetNode as target}
+use Rattle.swc_nodes.specs.NodeTree.{expr_of, pat_of, target_of, prop_of, pat_prop_of, node_tree, marked_tree, part_tree, pat_elem_of}
+use Rattle.swc_nodes.specs.{declared.node.ExprId.ExprId, declared.node.PatId.PatId, declared.node.Node.Node, declared.node.Node.Node as n, declared.node.PatPropNode.PatPropNode, declared.node.PatPropNode.PatPropNode as pat_prop, declared.node.PropNode.PropNode, declared.node.PropNode.PropNode as prop, declared.node.TargetNode.TargetNode, declared.node.TargetNode.TargetNode as target, declared.node.PatElem.PatElem, declared.node.PatElem.PatElem as elem, declared.node.PatPart.PatPart, declared.node.PatPart.PatPart as of_pat}
 
 module _ {F C K : Type 0} where
   unmarked-place : (t : Tree F C K) → span_of (unmarked t) ≡ span_of t
@@ -112,10 +112,18 @@ module _ {F C K : Type 0} (fun_at : F → Span) (class_at : C → Span) (block_a
   unmarked-prop (prop.Getter s k b) = rw (unmarked-key expr_now expr_bare expr-same k) refl
   unmarked-prop (prop.Setter s k p b) = rw (unmarked-key expr_now expr_bare expr-same k) refl
 
+  pub unmarked-part : (p : PatPart) → unmarked (part_tree at p) ≡ part_tree bare p
+  unmarked-part (of_pat.Pat p) = refl
+  unmarked-part (of_pat.Expr e) = rw (unmarked-place (at e.0)) refl
+
+  pub unmarked-elem : (p : PatElem) → unmarked (pat_elem_of at p) ≡ pat_elem_of bare p
+  unmarked-elem (elem.Item p) = unmarked-part p
+  unmarked-elem (elem.Rest s d p) = rw (unmarked-part p) refl
+
   pub unmarked-pat-prop : (p : PatPropNode) → unmarked (pat_prop_of fun_at class_at block_at at p) ≡ pat_prop_of fun_at class_at block_at bare p
-  unmarked-pat-prop (pat_prop.KeyValue s k v) = rw (unmarked-key expr_now expr_bare expr-same k) refl
+  unmarked-pat-prop (pat_prop.KeyValue s k v) = rw (unmarked-key expr_now expr_bare expr-same k, unmarked-part v) refl
   unmarked-pat-prop (pat_prop.Assign s k v) = rw (unmarked-if expr_now expr_bare expr-same v) refl
-  unmarked-pat-prop (pat_prop.Rest s d p) = refl
+  unmarked-pat-prop (pat_prop.Rest s d p) = rw (unmarked-part p) refl
 
   pub unmarked-node : (x : Node F C K) → unmarked (marked_tree fun_at class_at block_at at x) ≡ node_tree fun_at class_at block_at bare x
   unmarked-node (n.Array s elems comma) =
@@ -136,7 +144,9 @@ module _ {F C K : Type 0} (fun_at : F → Span) (class_at : C → Span) (block_a
       rw (unmarked-body expr_now expr_bare expr-same block_at b.value, unmarked-list pat_now pat_bare pat-same ps.items) refl
   unmarked-node (n.Yield s a d) = rw (unmarked-if expr_now expr_bare expr-same a) refl
   unmarked-node (n.PatArray s elems) =
-      ap (node array s) (unmarked-list (or_hole pat_now) (or_hole pat_bare) (unmarked-if pat_now pat_bare pat-same) elems.items)
+      ap (node array s) (unmarked-list (or_hole (pat_elem_of at)) (or_hole (pat_elem_of bare))
+      (unmarked-if (pat_elem_of at) (pat_elem_of bare) unmarked-elem) elems.items)
   unmarked-node (n.PatObject s props) = ap (node object s) (unmarked-list _ _ unmarked-pat-prop props.items)
+  unmarked-node (n.PatAssign s l r) = rw (unmarked-part l) refl
   unmarked-node (n.PatExpr e) = rw (unmarked-place (at e.0)) refl
   unmarked-node x = refl

@@ -109,8 +109,8 @@ impl<F: Spanned + Drop, C: Spanned + Drop, K: Spanned + Drop> Nodes<F, C, K> {
         }
     }
 
-    /// The text of the expression or the pattern that has the number, as it is in the text that was parsed; `None` where
-    /// no node has it, and where its place isn't one in that text.
+    /// The text of the expression or the pattern that has the number, as it is in the text that was parsed; `None`
+    /// where no node has it, and where its place isn't one in that text.
     pub fn text_of<'a, N: NodeNumber>(&self, text: &'a str, id: N) -> Option<&'a str>
         ensures { IfSome result (λ part. IsTextAt text.now
             (in_order (tree_span (tree_at self.now (N.at id)))) part.now) }

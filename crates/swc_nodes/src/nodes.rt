@@ -1,11 +1,13 @@
 // The nodes of trees, in one vector.
-ghost use Rattle.std.specs.Prelude.{◌≡◌, ℕ, ◌<◌, ◌≤◌, ◌↔◌, true, length, IfOk, IsTrue, []};
-ghost use Rattle.swc_nodes.specs.NumberedTrees.{ordered};
+ghost use Rattle.std.specs.Prelude.{◌≡◌, ℕ, ◌<◌, ◌≤◌, ◌↔◌, true, length, IfOk, IsTrue, [], map};
+ghost use Rattle.swc_nodes.specs.{NumberedTrees.ordered, Settled.SettledIn, Settled.settled-prop};
 ghost use Rattle.swc_nodes.specs.NodeParts.{form, view_ok, expr, simple, pattern};
 
 use crate::commas::TrailingCommas;
 use crate::marking::mark_all;
 use crate::node::{ExprId, Node, PatId, TargetNode};
+use crate::role::Duty;
+use crate::turning::{Settled, drop_settled, turn_all};
 use std::alloc::{AllocError, Global};
 use swc_ast::spanned::Spanned;
 use swc_bodies::bodies::BodyForms;
@@ -16,13 +18,19 @@ use swc_bodies::bodies::BodyForms;
 /// A number keeps its tree as nodes are appended. Dropping nodes takes no recursion over trees.
 pub struct Nodes<F: Spanned, C: Spanned, K: Spanned> {
     nodes: Vec<Node<F, C, K>>,
+    settled: Vec<Settled>,
     ghost in_order: { ordered F.place C.place K.place [] nodes.items ≡ true },
+    ghost in_ranges: { SettledIn F.place C.place K.place nodes.items settled.items } by { settled-prop F.place C.place
+        K.place nodes.items settled.items },
 }
 
 // Not derived: so dropping nodes is a call, and is proved here alone.
 impl<F: Spanned + Drop, C: Spanned + Drop, K: Spanned + Drop> Drop for Nodes<F, C, K> {
     fn drop(self) {
-        let Nodes { nodes: _ } = self;
+        let Nodes {
+            nodes: _,
+            settled: _,
+        } = self;
     }
 }
 
@@ -36,7 +44,8 @@ pub type NodesOf<B> = Nodes<
 impl<F: Spanned + Drop, C: Spanned + Drop, K: Spanned + Drop> Nodes<F, C, K> {
     ghost use Rattle.swc_nodes.specs.NodeParts.{slots, expr_part, pat_part, target_part};
     ghost use Rattle.swc_nodes.specs.GrowingNodes.{count, Apart, From, Grows, Added, Stood, Popped, CutTo};
-    ghost use Rattle.swc_nodes.specs.{Commas.comma_at, Marking.Marks};
+    ghost use Rattle.swc_nodes.specs.{Commas.comma_at, Marking.Marks, Roles.due, Roles.suit};
+    ghost use Rattle.swc_nodes.specs.Turning.{AllTurned, DuesApart, KeptBelow};
 
     /// No nodes. Takes no memory.
     pub fn new(alloc: Global) -> Self
@@ -44,6 +53,7 @@ impl<F: Spanned + Drop, C: Spanned + Drop, K: Spanned + Drop> Nodes<F, C, K> {
     {
         Nodes {
             nodes: Vec::new(alloc),
+            settled: Vec::new(alloc),
         }
     }
 
@@ -117,6 +127,7 @@ impl<F: Spanned + Drop, C: Spanned + Drop, K: Spanned + Drop> Nodes<F, C, K> {
         requires { id < count self.old }
         ensures { Popped self.old id result self.new }
     {
+        drop_settled(&mut self.settled, id);
         self.nodes.truncate(id + 1);
         self.nodes.remove(id)
     }
@@ -129,10 +140,26 @@ impl<F: Spanned + Drop, C: Spanned + Drop, K: Spanned + Drop> Nodes<F, C, K> {
         mark_all(&mut self.nodes, from, commas);
     }
 
-    /// Lets go of all nodes from a number on.
+    /// Makes of parts that lie apart what they are to become, each node where it is, and drops all after the last.
+    /// Nodes with numbers below all that is reached from them stay. When out of memory, drops what isn't done.
+    ///
+    /// Takes time in proportion to how many nodes there are between, but for those of patterns that were made before,
+    /// which aren't entered again.
+    pub fn turn(&mut self, alloc: Global, roots: Vec<Duty>) -> Result<(), AllocError>
+        requires apart { DuesApart 0 self.old (map due roots.items) }
+        requires suit { suit (map due roots.items) ≡ true }
+        ensures kept { (k : ℕ) → DuesApart k self.old (map due roots.items) → KeptBelow k self.old self.new }
+        ensures turned { IfOk result (λ _. (k : ℕ) → DuesApart k self.old (map due roots.items) →
+            AllTurned k self.old (map due roots.items) self.new) }
+    {
+        turn_all(&mut self.nodes, &mut self.settled, alloc, roots)
+    }
+
+    /// Drops all nodes from a number on.
     pub fn cut(&mut self, from: usize)
         ensures { CutTo from self.old self.new }
     {
+        drop_settled(&mut self.settled, from);
         self.nodes.truncate(from);
     }
 }

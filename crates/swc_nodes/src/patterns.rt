@@ -1,19 +1,19 @@
 // Makes the nodes of patterns, of formal parameters and of assignments to patterns, and says where they are.
-ghost use Rattle.std.specs.Prelude.{◌≡◌, ℕ, ◌+◌, ◌++◌, None, IfOk};
+ghost use Rattle.std.specs.Prelude.{◌≡◌, ℕ, ◌+◌, ◌++◌, None, IfOk, map};
 ghost use Rattle.swc_context.specs.{Spans.from_to, declared.operator.AssignOp.AssignOp as assign_op};
 ghost use Rattle.swc_ast.specs.Parts.{leaf, binding_tree, prop_name_tree, param_tree};
 ghost use Rattle.swc_ast.specs.Spans.{prop_name_span};
 ghost use Rattle.swc_ast.specs.Tree.{node, nil, cons, dots as dots_kind, invalid, param as param_kind, span_of};
 ghost use Rattle.swc_ast.specs.Patterns as patterns;
 ghost use Rattle.swc_ast.specs.Trees as trees;
-ghost use Rattle.swc_nodes.specs.Lists.{pat_elem_parts, pat_elem_trees, pat_props_parts, pat_props_trees, first_param_pat};
+ghost use Rattle.swc_nodes.specs.Lists.{pat_elem_parts, pat_elem_trees, pat_props_parts, pat_props_trees, first_param_pat, pat_elem};
 ghost use Rattle.swc_nodes.specs.NodeParts.{expr_part, pat_part, one_expr, one_pat, key_parts, pat_prop_parts, param_parts, target_part};
 ghost use Rattle.swc_nodes.specs.GrowingNodes.{count, tree_at, first_at, end_at, Apart, From, Grows, Made};
 ghost use Rattle.swc_nodes.specs.{NodeTree.pat_prop_of, declared.node.PatPropNode.PatPropNode as pat_prop, declared.node.TargetNode.TargetNode as target};
 
-use crate::node::{ExprId, Node, PatId, PatPropNode, TargetNode};
+use crate::node::{ExprId, Node, PatElem, PatId, PatPart, PatPropNode, TargetNode};
 use crate::nodes::Nodes;
-use std::alloc::AllocError;
+use std::alloc::{AllocError, Global};
 use swc_ast::expr::Invalid;
 use swc_ast::function::Param;
 use swc_ast::ident::BindingIdent;
@@ -48,6 +48,7 @@ impl<F: Spanned + Drop, C: Spanned + Drop, K: Spanned + Drop> Nodes<F, C, K> {
             (patterns.array_p (from_to start end) (pat_elem_trees (tree_at self.old) elems))) }
     {
         let span = Span { lo: start, hi: end };
+        let elems = pat_elems(self.allocator(), &elems)?;
         Ok(PatId(self.push(Node::PatArray { span, elems })?))
     }
 
@@ -94,7 +95,7 @@ impl<F: Spanned + Drop, C: Spanned + Drop, K: Spanned + Drop> Nodes<F, C, K> {
         };
         Ok(PatId(self.push(Node::PatAssign {
             span,
-            left,
+            left: PatPart::Pat(left),
             right: value,
         })?))
     }
@@ -163,7 +164,11 @@ impl<F: Spanned + Drop, C: Spanned + Drop, K: Spanned + Drop> Nodes<F, C, K> {
             lo: key.span().lo,
             hi: self.pat_extent(value).hi,
         };
-        PatPropNode::KeyValue { span, key, value }
+        PatPropNode::KeyValue {
+            span,
+            key,
+            value: PatPart::Pat(value),
+        }
     }
 
     /// A property of an object pattern: a name, and the initialiser after its `=` (ECMA-262, 14.3.3). It ends with the
@@ -202,7 +207,7 @@ impl<F: Spanned + Drop, C: Spanned + Drop, K: Spanned + Drop> Nodes<F, C, K> {
         PatPropNode::Rest {
             span,
             dot3_token: dots,
-            arg,
+            arg: PatPart::Pat(arg),
         }
     }
 
@@ -215,6 +220,30 @@ impl<F: Spanned + Drop, C: Spanned + Drop, K: Spanned + Drop> Nodes<F, C, K> {
     {
         let span = self.pat_extent(pat);
         Param { span, pat }
+    }
+}
+
+/// The elements of an array pattern, of patterns and holes.
+pub fn pat_elems(
+    alloc: Global,
+    pats: &Vec<Option<PatId>>,
+) -> Result<Vec<Option<PatElem>>, AllocError>
+    ensures { IfOk result (λ elems. elems.items ≡ map pat_elem pats.now.items) }
+{
+    let mut elems = Vec::new(alloc);
+    for pat in pats {
+        elems.push(as_elem(pat))?;
+    }
+    Ok(elems)
+}
+
+/// A pattern or a hole, as an element.
+fn as_elem(pat: &Option<PatId>) -> Option<PatElem>
+    ensures { result ≡ pat_elem pat.now }
+{
+    match pat {
+        Some(pat) => Some(PatElem::Item(PatPart::Pat(*pat))),
+        None => None,
     }
 }
 

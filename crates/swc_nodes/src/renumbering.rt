@@ -2,11 +2,11 @@
 ghost use Rattle.std.specs.Prelude.{◌≡◌, ◌++◌, ◌∷◌, [], true, map};
 ghost use Rattle.swc_ast.specs.Parts.{or_hole, prop_name_tree, member_prop_tree, super_part_tree, callee_tree, args_tree, base_tree, body_tree, param_tree, item_tree, member_tree, tpl_tree};
 ghost use Rattle.swc_ast.specs.Tree.{args, node, no_span, trees};
-ghost use Rattle.swc_nodes.specs.NodeTree.{expr_of, pat_of, target_of, prop_of, pat_prop_of, marked_tree};
-ghost use Rattle.swc_nodes.specs.NodeParts.{slots, form, flat, if_some, one_expr, one_pat, target_part, item_parts, key_parts, member_parts, super_parts, callee_parts, base_parts, body_parts, args_parts, param_parts, prop_parts, pat_prop_parts};
+ghost use Rattle.swc_nodes.specs.NodeTree.{expr_of, pat_of, target_of, prop_of, pat_prop_of, marked_tree, part_tree, pat_elem_of};
+ghost use Rattle.swc_nodes.specs.NodeParts.{slots, form, flat, if_some, one_expr, one_pat, target_part, item_parts, key_parts, member_parts, super_parts, callee_parts, base_parts, body_parts, args_parts, param_parts, prop_parts, pat_prop_parts, part_parts, pat_elem_part};
 ghost use Rattle.swc_nodes.specs.{Renumbering.given, Renumbering.Renumbered, Walking.is_operation};
 
-use crate::node::{ExprId, Node, PatId, PatPropNode, PropNode, TargetNode};
+use crate::node::{ExprId, Node, PatElem, PatId, PatPart, PatPropNode, PropNode, TargetNode};
 use swc_ast::expr::{
     BlockStmtOrExpr, Callee, ExprOrSpread, MemberExpr, MemberProp, OptChainBase, SuperProp, Tpl,
 };
@@ -234,6 +234,32 @@ impl<F: Spanned, C: Spanned, K: Spanned> Numbered<F, C, K> for PropNode<K> {
                 <_ as Numbered<F, C, K>>::renumber(key, ids);
                 <_ as Numbered<F, C, K>>::renumber(param, ids);
             }
+        }
+    }
+}
+
+impl<F: Spanned, C: Spanned, K: Spanned> Numbered<F, C, K> for PatPart {
+    ghost parts = { part_parts };
+
+    ghost of = { part_tree };
+
+    fn renumber(&mut self, ids: &Numbers) {
+        match self {
+            PatPart::Pat(pat) => <_ as Numbered<F, C, K>>::renumber(pat, ids),
+            PatPart::Expr(expr) => <_ as Numbered<F, C, K>>::renumber(expr, ids),
+        }
+    }
+}
+
+impl<F: Spanned, C: Spanned, K: Spanned> Numbered<F, C, K> for PatElem {
+    ghost parts = { pat_elem_part };
+
+    ghost of = { pat_elem_of };
+
+    fn renumber(&mut self, ids: &Numbers) {
+        match self {
+            PatElem::Item(part) => <_ as Numbered<F, C, K>>::renumber(part, ids),
+            PatElem::Rest { arg, .. } => <_ as Numbered<F, C, K>>::renumber(arg, ids),
         }
     }
 }

@@ -1,14 +1,15 @@
 // Where a node is, and what form it has.
-ghost use Rattle.std.specs.Prelude.{◌≡◌, not, true, false, MatchOption};
+ghost use Rattle.std.specs.Prelude.{◌≡◌, not, true, false, MatchOption, ℕ};
 ghost use Rattle.swc_context.specs.Spans.{in_order};
 ghost use Rattle.swc_ast.specs.Targets as targets;
-ghost use Rattle.swc_ast.specs.{Tree.span_of, Trees.left_ok};
+ghost use Rattle.swc_ast.specs.{Tree.span_of, Tree.Tree, Trees.left_ok};
 ghost use Rattle.swc_ast.specs.Trees as trees;
 ghost use Rattle.swc_nodes.specs.Lists.{has_cover, is_object, IsObject};
-ghost use Rattle.swc_nodes.specs.NodeParts.{expr_part, pat_part, target_part};
-ghost use Rattle.swc_nodes.specs.{declared.node.TargetNode.TargetNode as target, GrowingNodes.tree_at, GrowingNodes.From};
+ghost use Rattle.swc_nodes.specs.NodeParts.{expr_part, pat_part, target_part, part_parts, form, view_ok, expr};
+ghost use Rattle.swc_nodes.specs.{declared.node.TargetNode.TargetNode as target, NodeTree.marked_tree, NodeTree.part_tree};
+ghost use Rattle.swc_nodes.specs.GrowingNodes.{tree_at, From, Apart};
 
-use crate::node::{ExprId, Node, PatId, PropNode};
+use crate::node::{ExprId, Node, PatId, PatPart, PropNode};
 use crate::nodes::Nodes;
 use swc_ast::spanned::Spanned;
 use swc_context::operator::BinaryOp;
@@ -29,41 +30,7 @@ impl<F: Spanned + Drop, C: Spanned + Drop, K: Spanned + Drop> Nodes<F, C, K> {
         requires { From 0 self.now (expr_part id) }
         ensures { result ≡ span_of (tree_at self.now id.0) }
     {
-        match self.get(id.0) {
-            Node::Fn(f) => f.span(),
-            Node::Class(c) => c.span(),
-            Node::Array { span, .. }
-            | Node::Object { span, .. }
-            | Node::Unary { span, .. }
-            | Node::Update { span, .. }
-            | Node::Bin { span, .. }
-            | Node::Assign { span, .. }
-            | Node::Cond { span, .. }
-            | Node::Seq { span, .. }
-            | Node::Call { span, .. }
-            | Node::New { span, .. }
-            | Node::TaggedTpl { span, .. }
-            | Node::Arrow { span, .. }
-            | Node::Await { span, .. }
-            | Node::Yield { span, .. } => *span,
-            Node::This(e) => e.span,
-            Node::Paren(e) => e.span,
-            Node::Member(e) => e.span,
-            Node::SuperProp(e) => e.span,
-            Node::OptChain(e) => e.span,
-            Node::Tpl(e) => e.span,
-            Node::MetaProp(e) => e.span,
-            Node::PrivateName(e) => e.span,
-            Node::Ident(e) => e.span,
-            Node::Str(e) => e.span,
-            Node::Bool(e) => e.span,
-            Node::Null(e) => e.span,
-            Node::Num(e) => e.span,
-            Node::BigInt(e) => e.span,
-            Node::Regex(e) => e.span,
-            Node::Invalid(e) => e.span,
-            _ => unreachable!(),
-        }
+        place_of(self.get(id.0))
     }
 
     /// The place of a pattern, the smaller end first.
@@ -105,6 +72,17 @@ impl<F: Spanned + Drop, C: Spanned + Drop, K: Spanned + Drop> Nodes<F, C, K> {
         ensures { result ≡ trees.is_ident (tree_at self.now id.0) }
     {
         matches!(self.get(id.0), Node::PatIdent(_))
+    }
+
+    /// Whether the part of a pattern is an identifier.
+    pub fn is_ident_part(&self, part: PatPart) -> bool
+        requires { Apart 0 self.now (part_parts part) }
+        ensures { result ≡ trees.is_ident (part_tree (tree_at self.now) part) }
+    {
+        match part {
+            PatPart::Pat(pat) => self.is_ident_pat(pat),
+            PatPart::Expr(_) => false,
+        }
     }
 
     /// Whether the pattern is a rest.
@@ -238,4 +216,46 @@ pub fn is_nullish_op(op: BinaryOp) -> bool
     ensures { result ≡ trees.is_nullish_op op }
 {
     matches!(op, BinaryOp::NullishCoalescing)
+}
+
+/// Where the node of an expression lies.
+pub(crate) fn place_of<F: Spanned, C: Spanned, K: Spanned>(node: &Node<F, C, K>) -> Span
+    requires { view_ok expr (form node.now) ≡ true }
+    ensures { (at : ℕ → Tree F C K) → result ≡ span_of (marked_tree F.place C.place K.place at node.now) }
+{
+    match node {
+        Node::Fn(f) => f.span(),
+        Node::Class(c) => c.span(),
+        Node::Array { span, .. }
+        | Node::Object { span, .. }
+        | Node::Unary { span, .. }
+        | Node::Update { span, .. }
+        | Node::Bin { span, .. }
+        | Node::Assign { span, .. }
+        | Node::Cond { span, .. }
+        | Node::Seq { span, .. }
+        | Node::Call { span, .. }
+        | Node::New { span, .. }
+        | Node::TaggedTpl { span, .. }
+        | Node::Arrow { span, .. }
+        | Node::Await { span, .. }
+        | Node::Yield { span, .. } => *span,
+        Node::This(e) => e.span,
+        Node::Paren(e) => e.span,
+        Node::Member(e) => e.span,
+        Node::SuperProp(e) => e.span,
+        Node::OptChain(e) => e.span,
+        Node::Tpl(e) => e.span,
+        Node::MetaProp(e) => e.span,
+        Node::PrivateName(e) => e.span,
+        Node::Ident(e) => e.span,
+        Node::Str(e) => e.span,
+        Node::Bool(e) => e.span,
+        Node::Null(e) => e.span,
+        Node::Num(e) => e.span,
+        Node::BigInt(e) => e.span,
+        Node::Regex(e) => e.span,
+        Node::Invalid(e) => e.span,
+        _ => unreachable!(),
+    }
 }

@@ -96,7 +96,8 @@ fn leave(
     part: PartId,
     rest: usize,
 ) -> Result<(), AllocError>
-    ensures visits { OnOk result (visits.new.items ≡ visits.old.items ++ visiting.leaving part (visiting.opened around.old.items) ∷ []) }
+    ensures visits { OnOk result (visits.new.items
+        ≡ visits.old.items ++ visiting.leaving part (visiting.opened around.old.items) ∷ []) }
     ensures around { OnOk result (around.new.items ≡ around.old.items ++ visiting.opening part rest ∷ []) }
 {
     visits.push(Visit {
@@ -111,7 +112,8 @@ fn leave(
 /// Enters those nodes around that have no part that is due any more.
 fn enter_all(visits: &mut Vec<Visit>, around: &mut Vec<Open>, due: usize) -> Result<(), AllocError>
     ensures goes { OnOk result ((at : ℕ → List Part) (ps ds : List Part) → length ds ≡ due
-        → visiting.Goes at ps ds visits.old.items around.old.items → visiting.Goes at ps ds visits.new.items around.new.items) }
+        → visiting.Goes at ps ds visits.old.items around.old.items
+        → visiting.Goes at ps ds visits.new.items around.new.items) }
     ensures left { OnOk result (left_in (reverse visits.new.items) ≡ left_in (reverse visits.old.items)) }
     ensures ready { OnOk result (visiting.IsReady due (reverse around.new.items)) }
 {

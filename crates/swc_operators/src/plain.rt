@@ -1,5 +1,5 @@
-// Operands that begin with a name, a literal or `this` (ECMA-262, 13.1, 13.2.1 and 13.2.3). No prefix operator is before
-// one, and mostly nothing goes on after it.
+// Operands that begin with a name, a literal or `this` (ECMA-262, 13.1, 13.2.1 and 13.2.3). No prefix operator is
+// before one, and mostly nothing goes on after it.
 ghost use Rattle.std.specs.Prelude.{◌≡◌};
 ghost use Rattle.swc_input.specs.Kinds.{at_token};
 ghost use Rattle.swc_operators.specs.Operands.{is_plain, goes_on};

@@ -154,7 +154,7 @@ fn rest_of<I: Tokens, B: Bodies<I>>(nodes: &NodesOf<B>, prop: &PatPropNode) -> O
     match prop {
         PatPropNode::Rest { span, arg, .. } => Some(RestProp {
             span: *span,
-            is_name: nodes.is_ident_pat(*arg),
+            is_name: nodes.is_ident_part(*arg),
         }),
         _ => None,
     }

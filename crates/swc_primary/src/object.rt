@@ -30,7 +30,7 @@ use swc_nodes::node::{ExprId, PropNode};
 use swc_nodes::nodes::Nodes;
 use swc_steps::productions::{Productions, is_key_lit};
 use swc_steps::tokens::{
-    Sign, bump, eat, emit_err, expect, look, parse_ident_name, require_cur, unexpected,
+    Sign, eat, emit_err, expect, look, parse_ident_name, require_cur, unexpected,
 };
 
 /// The bracket that closes the key of an expression, after this; that which opens it is at `start`. Another token is
@@ -69,7 +69,7 @@ pub fn parse_plain_prop_name<I: Tokens>(
     if !is_key_lit(input) {
         return Err(unexpected(input, SyntaxError::Unexpected(Wanted::PropName)));
     }
-    let token = bump(input);
+    let token = input.bump();
     let span = input.prev_span();
     Ok(key_lit_of(token, span))
 }

@@ -35,9 +35,9 @@ use swc_nodes::node::ExprId;
 use swc_steps::productions::{Productions, is_identifier_word, is_strict_word};
 use swc_steps::regex::parse_regex;
 use swc_steps::tokens::{
-    Listed, Sign, answered, bump, copy_of, emit_err, emit_strict_mode_err, is_async_function,
-    is_sign, look, parse_ident_name, parse_ident_ref, parse_private_name, require_cur, skip,
-    syntax_error, unexpected,
+    Listed, Sign, answered, copy_of, emit_err, emit_strict_mode_err, is_async_function, is_sign,
+    look, parse_ident_name, parse_ident_ref, parse_private_name, require_cur, skip, syntax_error,
+    unexpected,
 };
 
 /// An element of an array literal, or a hole.
@@ -439,7 +439,7 @@ pub fn parse_lit<I: Tokens, B: Bodies<I>>(p: &mut Productions<I, B>) -> PResult<
     if !is_lit(&p.input) {
         return Err(no_primary(&mut p.input));
     }
-    let token = bump(&mut p.input);
+    let token = p.input.bump();
     let span = p.prev_span();
     Ok(lit_of(token, span))
 }

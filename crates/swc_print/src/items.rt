@@ -1,6 +1,6 @@
 // What is in lists: the items of arrays and arguments, parameters and properties.
 ghost use Rattle.std.specs.Prelude.{◌≡◌, ◌++◌, ◌∷◌, [], OnOk};
-ghost use Rattle.swc_nodes.specs.NodeParts.{one_expr, one_pat, if_some, item_parts, param_parts, prop_parts, pat_prop_parts, key_parts, flat};
+ghost use Rattle.swc_nodes.specs.NodeParts.{one_expr, one_pat, if_some, item_parts, param_parts, prop_parts, pat_prop_parts, key_parts, flat, part_parts, pat_elem_part};
 ghost use Rattle.swc_nodes.specs.Weights.{ats};
 ghost use Rattle.swc_print.specs.Numbers.{Lays, numbers};
 
@@ -13,7 +13,7 @@ use swc_ast::expr::ExprOrSpread;
 use swc_ast::function::{Function, Param};
 use swc_ast::prop::PropName;
 use swc_context::span::Span;
-use swc_nodes::node::{ExprId, PatId, PatPropNode, PropNode};
+use swc_nodes::node::{ExprId, PatElem, PatId, PatPart, PatPropNode, PropNode};
 
 /// An item of a list.
 pub trait Item {
@@ -117,17 +117,47 @@ impl<K: Kept> Item for PropNode<K> {
     }
 }
 
+impl Item for PatElem {
+    ghost parts = { pat_elem_part };
+
+    fn put<'a>(&'a self, pieces: &mut Pieces<'a>) -> Result<(), AllocError> {
+        match self {
+            PatElem::Item(part) => put_pat_part(pieces, *part),
+            PatElem::Rest { arg, .. } => put_rest(pieces, *arg),
+        }
+    }
+}
+
+/// Appends the pieces of a part of a pattern.
+pub fn put_pat_part<'a>(pieces: &mut Pieces<'a>, part: PatPart) -> Result<(), AllocError>
+    ensures { Lays (part_parts part) pieces.old result pieces.new }
+{
+    match part {
+        PatPart::Pat(pat) => put_part(pieces, Piece::Node(pat.0)),
+        PatPart::Expr(expr) => put_in(pieces, "Expr(", expr.0),
+    }
+}
+
+/// Appends the pieces of a rest.
+fn put_rest<'a>(pieces: &mut Pieces<'a>, arg: PatPart) -> Result<(), AllocError>
+    ensures { Lays (part_parts arg) pieces.old result pieces.new }
+{
+    put_text(pieces, "Rest(")?;
+    put_pat_part(pieces, arg)?;
+    put_text(pieces, ")")
+}
+
 impl Item for PatPropNode {
     ghost parts = { pat_prop_parts };
 
     fn put<'a>(&'a self, pieces: &mut Pieces<'a>) -> Result<(), AllocError> {
         match self {
-            PatPropNode::KeyValue { key, value, .. } => put_key_value(pieces, key, value.0),
+            PatPropNode::KeyValue { key, value, .. } => put_key_part(pieces, key, *value),
             PatPropNode::Assign { key, value, .. } => match value {
                 None => put_text(pieces, key.id.sym.as_str()),
                 Some(e) => put_default(pieces, key.id.sym.as_str(), e.0),
             },
-            PatPropNode::Rest { arg, .. } => put_in(pieces, "Rest(", arg.0),
+            PatPropNode::Rest { arg, .. } => put_rest(pieces, *arg),
         }
     }
 }
@@ -166,6 +196,18 @@ fn put_key_value<'a>(
 {
     put_key(pieces, key)?;
     put_after(pieces, ": ", value)
+}
+
+fn put_key_part<'a>(
+    pieces: &mut Pieces<'a>,
+    key: &'a PropName<ExprId>,
+    part: PatPart,
+) -> Result<(), AllocError>
+    ensures { Lays (key_parts key.now ++ part_parts part) pieces.old result pieces.new }
+{
+    put_key(pieces, key)?;
+    put_text(pieces, ": ")?;
+    put_pat_part(pieces, part)
 }
 
 fn put_method<'a, K: Kept>(

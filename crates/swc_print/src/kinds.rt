@@ -3,7 +3,7 @@ ghost use Rattle.std.specs.Prelude.{◌≡◌, ◌++◌, ◌∷◌, [], true, On
 ghost use Rattle.swc_nodes.specs.NodeParts.{target_part};
 ghost use Rattle.swc_print.specs.Numbers.{Lays, numbers, shown, is_operation, is_infix};
 
-use crate::items::put_list;
+use crate::items::{put_list, put_pat_part};
 use crate::links::{
     put_arrow, put_call, put_chain, put_member, put_new, put_super_prop, put_tagged, put_tpl,
     put_yield,
@@ -108,7 +108,11 @@ fn put_operation<'a, F, C, K>(
         Node::Paren(p) => put_in(pieces, "Paren(", p.expr.0),
         Node::Await { arg, .. } => put_in(pieces, "Await(", arg.0),
         Node::PatRest { arg, .. } => put_in(pieces, "Rest(", arg.0),
-        Node::PatAssign { left, right, .. } => put_two(pieces, "Assign(", left.0, right.0),
+        Node::PatAssign { left, right, .. } => {
+            put_text(pieces, "Assign(")?;
+            put_pat_part(pieces, *left)?;
+            put_in(pieces, ", ", right.0)
+        }
         Node::PatExpr(e) => put_in(pieces, "Expr(", e.0),
         _ => put_infix(pieces, node),
     }

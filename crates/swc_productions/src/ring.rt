@@ -717,7 +717,8 @@ pub fn parse_bin_expr<I: Tokens, B: Bodies<I>>(
 }
 
 /// Reads on where the left operand of a binary operator, which begins at `first`, was refused, if an operator follows:
-/// that is recorded, and `Invalid` stands in for the operand. Elsewhere the refusal is the answer, and so is out of memory.
+/// that is recorded, and `Invalid` takes its place. Elsewhere the refusal is the answer, and so is out of
+/// memory.
 #[cycle(productions)]
 #[inline(never)]
 fn recover_operators<I: Tokens, B: Bodies<I>>(

@@ -11,7 +11,7 @@ ghost use Rattle.swc_grammar.specs.Parts as parts;
 ghost use Rattle.swc_steps.specs.Regexes as regexes;
 
 use crate::productions::Productions;
-use crate::tokens::{bump, emit_err, end_hint, look, skip_slash, syntax_error};
+use crate::tokens::{emit_err, end_hint, look, skip_slash, syntax_error};
 use swc_ast::lit::{Lit, Regex};
 use swc_bodies::bodies::Bodies;
 use swc_context::error::{PResult, SyntaxError};
@@ -105,7 +105,7 @@ fn bump_regex<I: Tokens>(input: &mut Buffer<I>) -> Regex
     ensures heard { (sure : Bool) → Heard I.model sure regex_alone result input.old input.new }
     ensures falls { to_come I.model input.new < to_come I.model input.old }
 {
-    let token = bump(input);
+    let token = input.bump();
     let span = input.prev_span();
     regex_of(token, span)
 }

@@ -126,15 +126,6 @@ pub fn require_cur<I: Tokens>(input: &mut Buffer<I>) -> PResult<()>
     input.require_cur()
 }
 
-/// Consumes the current token.
-pub fn bump<I: Tokens>(input: &mut Buffer<I>) -> Token
-    requires { IsSome (current input.old) }
-    ensures took { Bumped I.model input.old result input.new }
-    ensures falls { to_come I.model input.new < to_come I.model input.old }
-{
-    input.bump()
-}
-
 /// Consumes the current token and drops it.
 #[inline(never)]
 pub fn skip<I: Tokens>(input: &mut Buffer<I>)
@@ -142,7 +133,7 @@ pub fn skip<I: Tokens>(input: &mut Buffer<I>)
     ensures took { (t : Token) × Bumped I.model input.old t input.new }
     ensures falls { to_come I.model input.new < to_come I.model input.old }
 {
-    let _ = bump(input);
+    let _ = input.bump();
 }
 
 /// Consumes the slash that is current, with the hint to a lexer that a regular expression begins there. What comes then

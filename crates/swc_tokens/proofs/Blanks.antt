@@ -1,8 +1,7 @@
 -- Blanks and comments one after the other, and between tokens.
 use Rattle.std.proofs.Common.{◌≡◌, ℕ, ◌≤◌, List, [], ◌∷◌, ◌++◌, ◌+◌, length, subst, ap, ◌∙◌, arith}
 use Rattle.swc_input.specs.declared.token.TokenAndSpan.{TokenAndSpan}
-use Rattle.swc_tokens.specs.Blanks.{AreBlanks, OnlyBlanksBetween}
-use Rattle.swc_tokens.specs.Blanks.{none, more}
+use Rattle.swc_tokens.specs.Blanks.{AreBlanks, OnlyBlanksBetween, none, more}
 use Rattle.swc_tokens.specs.Profile.{blanks_len}
 use Rattle.swc_lexical.proofs.Runs.{rest_at, rest_at-drop}
 

@@ -1,17 +1,14 @@
 -- Tokens of a part of a text may be moved to where it is in the whole, and stay in their order.
 use Rattle.std.proofs.Common.{◌≡◌, ℕ, ◌+◌, ◌-◌, Bool, true, false, if◌then◌else◌, IsTrue, slice_range, drop, length-drop, ◌<◌, ◌≤◌, ◌^◌, List, [], ◌∷◌, Ok, Err, IsFalse, length, map, refl, sym, ◌∙◌, inl, arith}
-use Rattle.std.proofs.lemmas.List.Elements.{All-from_recursion, recursion_from_All}
-use Rattle.std.proofs.lemmas.List.{length-take}
-use Rattle.std.proofs.lemmas.Bool.Decides.{nat_tests}
+use Rattle.std.proofs.{lemmas.List.Elements.All-from_recursion, lemmas.List.Elements.recursion_from_All, lemmas.List.length-take, lemmas.Bool.Decides.nat_tests}
 use Rattle.std.specs.List.{All, AllByRecursion}
 use Rattle.swc_context.specs.declared.error.Error.{Error}
-use Rattle.swc_input.specs.declared.token.Token.{Token}
-use Rattle.swc_input.specs.declared.token.Token.TheVariants as token
-use Rattle.swc_input.specs.declared.token.TokenAndSpan.{TokenAndSpan}
+use Rattle.swc_input.specs.{declared.token.Token.Token, declared.token.TokenAndSpan.TokenAndSpan}
 use Rattle.swc_tokens.specs.Moved.{moved_token, moved_within, MayMove, MayMoveError, MayMoveWithin}
 use Rattle.swc_tokens.specs.Order.{InOrder, is_error, is_text}
 use Rattle.swc_tokens.specs.Spelling.{cooked, meant, Spells}
 use Rattle.swc_tokens.specs.Profile.{good_len}
+use Rattle.swc_input.specs.declared.token.Token.TheVariants as token
 
 of_if : (b : Bool) (x e : Error) (value : List ℕ) → Err e ≡ (if b then Err x else Ok value) → (e ≡ x) × IsTrue b
 of_if true x e value is = (cc, refl)

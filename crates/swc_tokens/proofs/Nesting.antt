@@ -1,18 +1,13 @@
 -- How templates nest, a token at a time.
 use Rattle.std.proofs.Common.{◌≡◌, ℕ, ◌<◌, List, [], ◌∷◌, ◌++◌, length, length-append, IsTrue, IsFalse, refl, ap, subst, arith}
-use Rattle.swc_input.specs.declared.token.Token.{Token}
-use Rattle.swc_input.specs.declared.token.Token.TheVariants as token
-use Rattle.swc_input.specs.declared.token.TokenAndSpan.{TokenAndSpan}
-use Rattle.swc_tokens.specs.declared.template.Next.{Next}
-use Rattle.swc_tokens.specs.declared.template.Next.TheVariants as reads
-use Rattle.swc_tokens.specs.declared.template.Open.{Open}
-use Rattle.swc_tokens.specs.declared.template.Open.TheVariants as opened
-use Rattle.swc_tokens.specs.declared.template.Part.{Part}
-use Rattle.swc_tokens.specs.declared.template.Part.TheVariants as part
-use Rattle.swc_tokens.specs.Nesting.{part_of, fits, behind_backquote, Turns, text, begins, ends, opens, closes, opens_brace, closes_brace, brace_outside, close_outside, other}
-use Rattle.swc_tokens.specs.Nesting.{Nests, and_token, AreNested}
+use Rattle.swc_input.specs.{declared.token.Token.Token, declared.token.TokenAndSpan.TokenAndSpan}
+use Rattle.swc_tokens.specs.{declared.template.Next.Next, declared.template.Open.Open, declared.template.Part.Part, Spelling.EndsText, Spelling.Spells}
+use Rattle.swc_tokens.specs.Nesting.{part_of, fits, behind_backquote, Turns, text, begins, ends, opens, closes, opens_brace, closes_brace, brace_outside, close_outside, other, Nests, and_token, AreNested}
 use Rattle.swc_tokens.specs.Order.{is_error, is_free, is_text}
-use Rattle.swc_tokens.specs.Spelling.{EndsText, Spells}
+use Rattle.swc_input.specs.declared.token.Token.TheVariants as token
+use Rattle.swc_tokens.specs.declared.template.Next.TheVariants as reads
+use Rattle.swc_tokens.specs.declared.template.Open.TheVariants as opened
+use Rattle.swc_tokens.specs.declared.template.Part.TheVariants as part
 
 pub no_error : (t : Token) → IsTrue (is_free t) → IsFalse (is_error t)
 unfolding is_free is_error
@@ -111,11 +106,6 @@ Turns_brace_outside [] reads.Token fit none = brace_outside
 Turns_brace_outside (o ∷ os) reads.Token fit none = absurd (none (omega arith))
 Turns_brace_outside brackets reads.Delimiter fit none = absurd (cc)
 Turns_brace_outside brackets reads.Text fit none = absurd (cc)
-
-pub fits_close : (here : Next) → IsTrue (fits here part.CloseBrace) → here ≡ reads.Token
-fits_close reads.Token fit = refl
-fits_close reads.Delimiter fit = cc
-fits_close reads.Text fit = cc
 
 pub Turns_other : (brackets : List Open) (here : Next) → IsTrue (fits here part.Other) → Turns brackets here part.Other brackets reads.Token
 Turns_other brackets reads.Token fit = other

@@ -1,16 +1,12 @@
 -- The tokens read so far: none, and one more.
 use Rattle.std.proofs.Common.{◌≡◌, ℕ, ◌<◌, ◌≤◌, Bool, true, false, IsTrue, IsFalse, IfSome, slice_get, List, [], ◌∷◌, ◌++◌, length, refl, sym, ap, Option, Some, None, IsSome, Bor, ◌-◌, ◌∙◌, arith}
-use Rattle.std.proofs.lemmas.List.Elements.{All-nil, All-push}
-use Rattle.std.proofs.lemmas.Option.{slice_get-get_or}
+use Rattle.std.proofs.{lemmas.List.Elements.All-nil, lemmas.List.Elements.All-push, lemmas.Option.slice_get-get_or}
 use Rattle.std.specs.Option.{option_copied}
-use Rattle.swc_input.specs.declared.token.Token.{Token}
-use Rattle.swc_input.specs.declared.token.TokenAndSpan.{TokenAndSpan}
+use Rattle.swc_input.specs.{declared.token.Token.Token, declared.token.TokenAndSpan.TokenAndSpan}
 use Rattle.swc_tokens.specs.Blanks.{AreBlanks, OnlyBlanksBetween, MarksLineBreaks, has_line_break}
-use Rattle.swc_tokens.specs.declared.template.Next.{Next}
-use Rattle.swc_tokens.specs.declared.template.Next.TheVariants.{Delimiter, Text}
+use Rattle.swc_tokens.specs.{declared.template.Next.Next, declared.template.Next.TheVariants.Delimiter, declared.template.Next.TheVariants.Text, Spelling.Spells}
 use Rattle.swc_tokens.specs.Order.{HasPlace, is_error, is_text, end_of}
 use Rattle.swc_tokens.specs.Reading.{AreRead, IsNext, Takes, took_some, took_text, texts_left, left}
-use Rattle.swc_tokens.specs.Spelling.{Spells}
 use Rattle.swc_tokens.proofs.Blanks.{AreBlanks_none, OnlyBlanksBetween_push, OnlyBlanksBetween_wider}
 use Rattle.swc_tokens.proofs.Nesting.{fits_free, fits_text, no_error, no_error_text}
 use Rattle.swc_tokens.proofs.Marks.{MarksLineBreaks_push}

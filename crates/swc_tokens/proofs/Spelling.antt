@@ -2,15 +2,11 @@
 use Rattle.std.proofs.Common.{◌≡◌, ℕ, suc, ◌+◌, ◌-◌, List, [], ◌∷◌, Bool, false, Some, IsFalse, take, drop, drop-cons, get_or, slice_get, slice_range, add-one, ap, sym, ◌∙◌, arith}
 use Rattle.std.proofs.lemmas.Option.{get_or_from_slice_get, slice_get_within}
 use Rattle.swc_input.specs.declared.token.Token.{Token}
-use Rattle.swc_input.specs.declared.token.Token.TheVariants as token
-use Rattle.swc_tokens.specs.Signs.{has_text, sign_text}
+use Rattle.swc_tokens.specs.{Signs.has_text, Signs.sign_text, Blanks.StandAt, Profile.has, Profile.lexeme}
 use Rattle.swc_tokens.specs.Spelling.{IsLexeme, IsName, IsTextBetween, Spells}
-use Rattle.swc_lexical.specs.PlainNames.{name_len}
-use Rattle.swc_lexical.specs.Templates.{text_len}
-use Rattle.swc_tokens.specs.Blanks.{StandAt}
-use Rattle.swc_tokens.specs.Profile.{has, lexeme}
-use Rattle.swc_lexical.specs.declared.lexeme.Kind.{Kind}
+use Rattle.swc_lexical.specs.{PlainNames.name_len, Templates.text_len, declared.lexeme.Kind.Kind}
 use Rattle.swc_lexical.proofs.Runs.{rest_at, rest_at-drop}
+use Rattle.swc_input.specs.declared.token.Token.TheVariants as token
 
 pub Spells_sign : (text : List ℕ) (low high : ℕ) (t : Token) → IsFalse (has_text t) → sign_text t ≡ slice_range text low high → Spells text low high t
 unfolding Spells has_text

@@ -1,8 +1,6 @@
 -- What the reader refuses, and where.
 use Rattle.std.specs.Prelude.{◌≡◌, ℕ, ◌+◌, ◌≤◌, ◌⊎◌, List, length, min}
-use Rattle.swc_context.specs.declared.span.Span.{Span}
-use Rattle.swc_context.specs.declared.error.Error.{Error}
-use Rattle.swc_context.specs.declared.error.SyntaxError.{Lex, OutOfMemory}
+use Rattle.swc_context.specs.{declared.span.Span.Span, declared.error.Error.Error, declared.error.SyntaxError.Lex, declared.error.SyntaxError.OutOfMemory}
 
 -- from one position to before another
 abbrev pub between : ℕ → ℕ → Span

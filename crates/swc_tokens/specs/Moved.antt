@@ -1,15 +1,10 @@
 -- Tokens of a part of a text: those of the part, moved to where it is in the whole.
 use Rattle.std.specs.Prelude.{◌≡◌, ℕ, ◌+◌, ◌<◌, ◌^◌, ◌⊎◌, List, Err, length, map}
 use Rattle.std.specs.Str.{IsAscii}
-use Rattle.swc_context.specs.declared.span.Span.{Span}
-use Rattle.swc_context.specs.declared.error.Error.{Error}
-use Rattle.swc_context.specs.declared.error.SyntaxError.{Lex, OutOfMemory}
-use Rattle.swc_input.specs.declared.token.Token.{Token}
+use Rattle.swc_context.specs.{declared.span.Span.Span, declared.error.Error.Error, declared.error.SyntaxError.Lex, declared.error.SyntaxError.OutOfMemory}
+use Rattle.swc_input.specs.{declared.token.Token.Token, declared.token.TokenAndSpan.TokenAndSpan}
+use Rattle.swc_tokens.specs.{Faults.IsRefusal, Nesting.AreNested, Reading.AreRead}
 use Rattle.swc_input.specs.declared.token.Token.TheVariants as token
-use Rattle.swc_input.specs.declared.token.TokenAndSpan.{TokenAndSpan}
-use Rattle.swc_tokens.specs.Faults.{IsRefusal}
-use Rattle.swc_tokens.specs.Nesting.{AreNested}
-use Rattle.swc_tokens.specs.Reading.{AreRead}
 
 -- what `read_tokens` ensures of the tokens of a text
 pub record AreTokensOf (text : List ℕ) (tokens : List TokenAndSpan) : Type 0 where

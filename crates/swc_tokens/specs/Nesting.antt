@@ -1,14 +1,11 @@
 -- How templates (ECMA-262, 12.9.6) nest: a text is after each backquote that opens one, and after each `}` that
 -- closes a `${`; after a text comes a `${`, or the backquote that closes the template.
 use Rattle.std.specs.Prelude.{◌≡◌, ◌<◌, List, [], ◌∷◌, ◌++◌, Bool, true, false, length}
-use Rattle.swc_input.specs.declared.token.Token.{Token}
+use Rattle.swc_input.specs.{declared.token.Token.Token, declared.token.TokenAndSpan.TokenAndSpan}
+use Rattle.swc_tokens.specs.{declared.template.Next.Next, declared.template.Open.Open, declared.template.Part.Part}
 use Rattle.swc_input.specs.declared.token.Token.TheVariants as token
-use Rattle.swc_input.specs.declared.token.TokenAndSpan.{TokenAndSpan}
-use Rattle.swc_tokens.specs.declared.template.Next.{Next}
 use Rattle.swc_tokens.specs.declared.template.Next.TheVariants as reads
-use Rattle.swc_tokens.specs.declared.template.Open.{Open}
 use Rattle.swc_tokens.specs.declared.template.Open.TheVariants as opened
-use Rattle.swc_tokens.specs.declared.template.Part.{Part}
 use Rattle.swc_tokens.specs.declared.template.Part.TheVariants as part
 
 -- what a token is to templates

@@ -1,8 +1,7 @@
 -- Tokens in the order of the text.
 use Rattle.std.specs.Prelude.{ℕ, ◌<◌, ◌≤◌, List, [], ◌∷◌, Bool, true, false, IsFalse}
-use Rattle.swc_input.specs.declared.token.Token.{Token}
+use Rattle.swc_input.specs.{declared.token.Token.Token, declared.token.TokenAndSpan.TokenAndSpan}
 use Rattle.swc_input.specs.declared.token.Token.TheVariants as token
-use Rattle.swc_input.specs.declared.token.TokenAndSpan.{TokenAndSpan}
 
 -- whether a token is a text of a template
 unfoldable pub is_text : Token → Bool

@@ -2,13 +2,11 @@
 -- `_`, or with a digit after a leading 0.
 use Rattle.std.specs.Prelude.{ℕ, Bool, true, not, ◌&&◌, ◌||◌, if◌then◌else◌, nat_eq, nat_le, nat_lt, List, Option, Some, None, length, take}
 use Rattle.std.specs.List.{list_any}
+use Rattle.swc_lexical.specs.{Numbers.is_digit, declared.lexeme.Kind.Kind, declared.number.Base.TheVariants.Decimal}
+use Rattle.swc_lexical.specs.Runs.{is_at, test_at, run}
 use Rattle.swc_lexical.specs.Blanks as blanks
 use Rattle.swc_lexical.specs.Lexemes as lexemes
-use Rattle.swc_lexical.specs.Numbers.{is_digit}
-use Rattle.swc_lexical.specs.Runs.{is_at, test_at, run}
-use Rattle.swc_lexical.specs.declared.lexeme.Kind.{Kind}
 use Rattle.swc_lexical.specs.declared.lexeme.Kind.TheVariants as kind
-use Rattle.swc_lexical.specs.declared.number.Base.TheVariants.{Decimal}
 
 -- LF and CR
 abbrev pub is_line_break : ℕ → Bool

@@ -1,14 +1,10 @@
 -- What is known of the tokens that are read so far.
 use Rattle.std.specs.Prelude.{◌≡◌, ◌+◌, ◌-◌, ◌*◌, ◌<◌, ◌≤◌, ℕ, List, IfSome, IsTrue, IsFalse, length, slice_get}
 use Rattle.std.specs.List.{All}
-use Rattle.swc_input.specs.declared.token.Token.{Token}
-use Rattle.swc_input.specs.declared.token.TokenAndSpan.{TokenAndSpan}
-use Rattle.swc_tokens.specs.declared.template.Next.{Next}
-use Rattle.swc_tokens.specs.declared.template.Next.TheVariants.{Text}
+use Rattle.swc_input.specs.{declared.token.Token.Token, declared.token.TokenAndSpan.TokenAndSpan}
+use Rattle.swc_tokens.specs.{declared.template.Next.Next, declared.template.Next.TheVariants.Text, Nesting.fits, Nesting.part_of, Spelling.Spells}
 use Rattle.swc_tokens.specs.Blanks.{AreBlanks, OnlyBlanksBetween, MarksLineBreaks}
-use Rattle.swc_tokens.specs.Nesting.{fits, part_of}
 use Rattle.swc_tokens.specs.Order.{InOrder, is_error, is_text}
-use Rattle.swc_tokens.specs.Spelling.{Spells}
 
 -- a token takes bytes from one position to before another: some, or it is a text that was to come next
 pub data Takes (coming : Next) (low high : ℕ) (t : Token) : Type 0 where

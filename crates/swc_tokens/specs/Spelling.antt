@@ -1,19 +1,12 @@
 -- What a token has to do with the bytes of its place.
 use Rattle.std.specs.Prelude.{◌≡◌, ℕ, ◌+◌, ◌-◌, ◌⊎◌, Bool, true, false, if◌then◌else◌, nat_lt, List, Some, Result, Ok, Err, length, drop, slice_get, slice_range}
-use Rattle.swc_context.specs.declared.error.Error.{Error}
-use Rattle.swc_context.specs.Words.{word_of}
+use Rattle.swc_context.specs.{declared.error.Error.Error, Words.word_of}
 use Rattle.swc_input.specs.declared.token.Token.{Token}
-use Rattle.swc_input.specs.declared.token.Token.TheVariants as token
-use Rattle.swc_lexical.specs.Meanings.{meaning}
-use Rattle.swc_lexical.specs.PlainNames.{name_len}
-use Rattle.swc_lexical.specs.Regexps.{body_len}
-use Rattle.swc_lexical.specs.Templates.{text_len}
-use Rattle.swc_lexical.specs.declared.lexeme.Kind.{Kind}
-use Rattle.swc_lexical.specs.declared.lexeme.Kind.TheVariants as kind
-use Rattle.swc_tokens.specs.Blanks.{StandAt}
-use Rattle.swc_tokens.specs.Faults.{between, lex_fault}
+use Rattle.swc_lexical.specs.{Meanings.meaning, PlainNames.name_len, Regexps.body_len, Templates.text_len, declared.lexeme.Kind.Kind}
+use Rattle.swc_tokens.specs.{Blanks.StandAt, Faults.between, Faults.lex_fault, Signs.sign_text}
 use Rattle.swc_tokens.specs.Profile.{good_len, has, lexeme}
-use Rattle.swc_tokens.specs.Signs.{sign_text}
+use Rattle.swc_input.specs.declared.token.Token.TheVariants as token
+use Rattle.swc_lexical.specs.declared.lexeme.Kind.TheVariants as kind
 
 -- what a text means: itself, unless escapes are in it
 abbrev pub meant : List ℕ → List ℕ

@@ -6,18 +6,11 @@
 //! is one of its text alone.
 #![tactic(auto)]
 
-ghost use Rattle.std.specs.Prelude.{◌≡◌, ◌+◌, ◌<◌, ◌≤◌, ◌∷◌, [], ◌++◌, length, IsFalse, IfOk, OnOk, IfErr, IfSome};
-ghost use Rattle.std.specs.Prelude.{IsNone, slice_get, nat_lt};
-ghost use Rattle.std.specs.List.{All, position};
-ghost use Rattle.swc_tokens.specs.Faults as faults;
-ghost use Rattle.swc_tokens.specs.Faults.{IsRefusal};
-ghost use Rattle.swc_tokens.specs.Blanks.{MarksLineBreaks, OnlyBlanksBetween};
+ghost use Rattle.std.specs.Prelude.{◌≡◌, ◌+◌, ◌<◌, ◌≤◌, ◌∷◌, [], ◌++◌, length, IsFalse, IfOk, OnOk, IfErr, IfSome, IsNone, slice_get, nat_lt};
+ghost use Rattle.std.specs.{List.All, List.position, Str.IsAscii};
+ghost use Rattle.swc_tokens.specs.{Faults.IsRefusal, Blanks.MarksLineBreaks, Blanks.OnlyBlanksBetween, Nesting.AreNested, Order.InOrder, Order.is_error, Reading.AreRead, Spelling.Spells};
 ghost use Rattle.swc_tokens.specs.Moved.{moved_error, AreTokensAt, IsRefusalAt};
-ghost use Rattle.swc_tokens.specs.Nesting.{AreNested};
-ghost use Rattle.swc_tokens.specs.Order.{InOrder, is_error};
-ghost use Rattle.swc_tokens.specs.Reading.{AreRead};
-ghost use Rattle.swc_tokens.specs.Spelling.{Spells};
-ghost use Rattle.std.specs.Str.{IsAscii};
+ghost use Rattle.swc_tokens.specs.Faults as faults;
 
 mod fault;
 mod moving;

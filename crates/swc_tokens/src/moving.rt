@@ -1,8 +1,7 @@
 // Tokens moved from a part of a text to where they are in the whole.
-ghost use Rattle.std.specs.Prelude.{◌≡◌, map};
-ghost use Rattle.std.specs.List.{All};
-ghost use Rattle.swc_tokens.specs.Moved as moved;
+ghost use Rattle.std.specs.{Prelude.◌≡◌, Prelude.map, List.All};
 ghost use Rattle.swc_tokens.specs.Moved.{HasRoom, MayMove, MayMoveError, MayMoveWithin};
+ghost use Rattle.swc_tokens.specs.Moved as moved;
 
 use swc_context::error::{Error, SyntaxError};
 use swc_context::span::{BytePos, Span};

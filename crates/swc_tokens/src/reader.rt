@@ -1,19 +1,14 @@
 // The reader: a text, and how far it is read.
-ghost use Rattle.std.specs.Prelude.{◌≡◌, ◌↔◌, ◌+◌, ◌<◌, ◌≤◌, ◌^◌, length, drop, IsTrue, IsFalse, IsSome, IfOk, IfErr};
-ghost use Rattle.std.specs.Prelude.{IfSome, true, IfNone, OnOk, slice_range};
-ghost use Rattle.std.specs.List.{list_any};
-ghost use Rattle.std.specs.Str.{IsAscii};
-ghost use Rattle.swc_tokens.specs.Faults as faults;
-ghost use Rattle.swc_tokens.specs.Faults.{IsByteFault, IsRefusal};
-ghost use Rattle.swc_tokens.specs.Blanks as blanks;
-ghost use Rattle.swc_tokens.specs.Blanks.{AreBlanks, StandAt};
-ghost use Rattle.swc_tokens.specs.Nesting as nesting;
-ghost use Rattle.swc_tokens.specs.Nesting.{fits, part_of};
+ghost use Rattle.std.specs.Prelude.{◌≡◌, ◌↔◌, ◌+◌, ◌<◌, ◌≤◌, ◌^◌, length, drop, IsTrue, IsFalse, IsSome, IfOk, IfErr, IfSome, true, IfNone, OnOk, slice_range};
+ghost use Rattle.std.specs.{List.list_any, Str.IsAscii};
+ghost use Rattle.swc_tokens.specs.{Faults.IsByteFault, Faults.IsRefusal, Blanks.AreBlanks, Blanks.StandAt, Nesting.fits, Nesting.part_of, Reading.IsNext, Reading.Takes};
 ghost use Rattle.swc_tokens.specs.Order.{is_error, is_free, is_text};
-ghost use Rattle.swc_tokens.specs.Profile as profile;
-ghost use Rattle.swc_tokens.specs.Reading.{IsNext, Takes};
-ghost use Rattle.swc_tokens.specs.Spelling as spelling;
 ghost use Rattle.swc_tokens.specs.Spelling.{EndsText, IsLexeme, IsName, Spells};
+ghost use Rattle.swc_tokens.specs.Faults as faults;
+ghost use Rattle.swc_tokens.specs.Blanks as blanks;
+ghost use Rattle.swc_tokens.specs.Nesting as nesting;
+ghost use Rattle.swc_tokens.specs.Profile as profile;
+ghost use Rattle.swc_tokens.specs.Spelling as spelling;
 ghost use Rattle.swc_lexical.specs.Meanings as meanings;
 ghost use Rattle.swc_lexical.specs.declared.lexeme.Kind.TheVariants as kinds;
 

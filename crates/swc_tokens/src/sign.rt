@@ -1,7 +1,6 @@
 // Signs and operators (ECMA-262, 12.8), and what a slash is.
 ghost use Rattle.std.specs.Prelude.{◌≡◌, IsTrue, IsFalse, IfSome};
-ghost use Rattle.swc_tokens.specs.Order.{is_free};
-ghost use Rattle.swc_tokens.specs.Signs.{has_text, sign_text};
+ghost use Rattle.swc_tokens.specs.{Order.is_free, Signs.has_text, Signs.sign_text};
 
 use swc_context::operator::{AssignOp, BinOpToken};
 use swc_context::word::{Keyword, Word};

@@ -1,9 +1,8 @@
 // Which brackets are open in templates (ECMA-262, 12.9.6).
-ghost use Rattle.std.specs.Prelude.{◌≡◌, ◌↔◌, ◌<◌, [], ◌∷◌, ◌++◌, length, IsTrue};
-ghost use Rattle.std.specs.Prelude.{IfOk, OnOk, IfErr};
+ghost use Rattle.std.specs.Prelude.{◌≡◌, ◌↔◌, ◌<◌, [], ◌∷◌, ◌++◌, length, IsTrue, IfOk, OnOk, IfErr};
+ghost use Rattle.swc_tokens.specs.Nesting.{fits, Turns};
 ghost use Rattle.swc_tokens.specs.Faults as faults;
 ghost use Rattle.swc_tokens.specs.Nesting as nesting;
-ghost use Rattle.swc_tokens.specs.Nesting.{fits, Turns};
 
 use crate::fault::out_of_memory;
 use std::alloc::Global;

@@ -4,9 +4,9 @@ use Rattle.std.specs.{declared.alloc.Global.Global, declared.vec.Vec.Vec}
 use Rattle.swc_context.specs.declared.span.Span.{Span}
 use Rattle.swc_ast.specs.Parts.{or_hole, prop_name_tree, item_tree, item_trees, args_tree, member_prop_tree, super_part_tree, base_tree, callee_tree, quasi_tree, tpl_tree, body_tree, param_tree, function_tree}
 use Rattle.swc_ast.specs.{declared.expr.BlockStmtOrExpr.BlockStmtOrExpr, declared.expr.BlockStmtOrExpr.BlockStmtOrExpr as body, declared.expr.Callee.Callee, declared.expr.Callee.Callee as callee, declared.expr.ExprOrSpread.ExprOrSpread, declared.expr.MemberProp.MemberProp, declared.expr.MemberProp.MemberProp as member_prop, declared.expr.OptChainBase.OptChainBase, declared.expr.OptChainBase.OptChainBase as base, declared.expr.SuperProp.SuperProp, declared.expr.SuperProp.SuperProp as super_part, declared.expr.Tpl.Tpl, declared.function.Function.Function, declared.function.Param.Param, declared.prop.PropName.PropName, declared.prop.PropName.PropName as prop_name, Tree.Tree}
-use Rattle.swc_nodes.specs.NodeTree.{expr_of, pat_of, target_of, prop_of, pat_prop_of, marked_tree}
-use Rattle.swc_nodes.specs.NodeParts.{Part, flat, one_expr, one_pat, target_part, if_some, item_parts, args_parts, key_parts, member_parts, super_parts, callee_parts, base_parts, body_parts, param_parts, prop_parts, pat_prop_parts, slots}
-use Rattle.swc_nodes.specs.{declared.node.ExprId.ExprId, declared.node.PatId.PatId, declared.node.Node.Node, declared.node.Node.Node as n, declared.node.PatPropNode.PatPropNode, declared.node.PatPropNode.PatPropNode as pat_prop, declared.node.PropNode.PropNode, declared.node.PropNode.PropNode as prop, declared.node.TargetNode.TargetNode, declared.node.TargetNode.TargetNode as target}
+use Rattle.swc_nodes.specs.NodeTree.{expr_of, pat_of, target_of, prop_of, pat_prop_of, marked_tree, part_tree, pat_elem_of}
+use Rattle.swc_nodes.specs.NodeParts.{Part, flat, one_expr, one_pat, target_part, if_some, item_parts, args_parts, key_parts, member_parts, super_parts, callee_parts, base_parts, body_parts, param_parts, prop_parts, pat_prop_parts, slots, part_parts, pat_elem_part}
+use Rattle.swc_nodes.specs.{declared.node.ExprId.ExprId, declared.node.PatId.PatId, declared.node.Node.Node, declared.node.Node.Node as n, declared.node.PatPropNode.PatPropNode, declared.node.PatPropNode.PatPropNode as pat_prop, declared.node.PropNode.PropNode, declared.node.PropNode.PropNode as prop, declared.node.TargetNode.TargetNode, declared.node.TargetNode.TargetNode as target, declared.node.PatElem.PatElem, declared.node.PatElem.PatElem as elem, declared.node.PatPart.PatPart, declared.node.PatPart.PatPart as of_pat}
 use Rattle.swc_trees.proofs.Weights.{weight, weight_all, weight_of, weight-item-of, weight-behind}
 
 -- what the trees given for parts weigh together
@@ -113,10 +113,18 @@ module _ {F C K : Type 0} (fun_at : F → Span) (class_at : C → Span) (block_a
   prop-lighter (prop.Getter s k b) = let w = key-lighter k in omega arith
   prop-lighter (prop.Setter s k p b) = let u = weights-append at (key_parts k) (one_pat p) in let w = key-lighter k in omega arith
 
+  part-lighter : (p : PatPart) → weights at (part_parts p) ≤ weight (part_tree at p)
+  part-lighter (of_pat.Pat p) = omega arith
+  part-lighter (of_pat.Expr e) = omega arith
+
+  elem-lighter : (p : PatElem) → weights at (pat_elem_part p) ≤ weight (pat_elem_of at p)
+  elem-lighter (elem.Item p) = part-lighter p
+  elem-lighter (elem.Rest s d p) = let w = part-lighter p in omega arith
+
   pat-prop-lighter : (p : PatPropNode) → weights at (pat_prop_parts p) ≤ weight (pat_prop_of fun_at class_at block_at at p)
-  pat-prop-lighter (pat_prop.KeyValue s k v) = let a = weights-append at (key_parts k) (one_pat v) in let b = key-lighter k in omega arith
+  pat-prop-lighter (pat_prop.KeyValue s k v) = let a = weights-append at (key_parts k) (part_parts v) in let b = key-lighter k in let c = part-lighter v in omega arith
   pat-prop-lighter (pat_prop.Assign s k v) = let w = weights-some at one_expr (expr_of fun_at class_at block_at at) expr-lighter v in omega arith
-  pat-prop-lighter (pat_prop.Rest s d p) = omega arith
+  pat-prop-lighter (pat_prop.Rest s d p) = let w = part-lighter p in omega arith
 
   -- ---- the nodes
 
@@ -163,9 +171,9 @@ module _ {F C K : Type 0} (fun_at : F → Span) (class_at : C → Span) (block_a
   parts-lighter (n.Regex r) = omega arith
   parts-lighter (n.Invalid i) = omega arith
   parts-lighter (n.PatIdent b) = omega arith
-  parts-lighter (n.PatArray s elems) = let w = weights-flat at (if_some one_pat) (or_hole (pat_of fun_at class_at block_at at)) (weights-some at one_pat (pat_of fun_at class_at block_at at) pat-lighter) elems.items in omega arith
+  parts-lighter (n.PatArray s elems) = let w = weights-flat at (if_some pat_elem_part) (or_hole (pat_elem_of at)) (weights-some at pat_elem_part (pat_elem_of at) elem-lighter) elems.items in omega arith
   parts-lighter (n.PatObject s props) = let w = weights-flat at pat_prop_parts (pat_prop_of fun_at class_at block_at at) pat-prop-lighter props.items in omega arith
   parts-lighter (n.PatRest s d p) = omega arith
-  parts-lighter (n.PatAssign s l r) = omega arith
+  parts-lighter (n.PatAssign s l r) = let a = weights-append at (part_parts l) (one_expr r) in let w = part-lighter l in omega arith
   parts-lighter (n.PatExpr e) = omega arith
   parts-lighter (n.PatInvalid i) = omega arith

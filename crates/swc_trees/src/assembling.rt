@@ -10,7 +10,7 @@ ghost use Rattle.swc_trees.specs.Building.{AssemblesExpr, Offers, Assembled};
 ghost use Rattle.swc_trees.specs.Kinds.{is_operation, is_choice, is_call};
 
 use crate::built::{Built, pop_expr, pop_if_some, pop_target};
-use crate::items::{all, boxed_pat};
+use crate::items::{all, boxed_part, boxed_pat};
 use crate::parts::both;
 use crate::pieces::{args_if_some, arrow_body, callee, chain, member, paren, super_prop, template};
 use crate::refusable::boxed;
@@ -262,7 +262,7 @@ pub(crate) fn assemble_pat<F: Spanned + Drop, C: Spanned + Drop, K: Spanned + Dr
         }
         Node::PatAssign { span, left, right } => {
             let right = pop_expr(built, right);
-            let left = boxed_pat(alloc, built, left);
+            let left = boxed_part(alloc, built, left);
             let (left, right) = both(left, Ok(right))?;
             Ok(Pat::Assign { span, left, right })
         }

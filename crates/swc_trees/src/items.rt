@@ -2,8 +2,8 @@
 ghost use Rattle.std.specs.Prelude.{◌≡◌, ◌++◌, true, map, IfOk};
 ghost use Rattle.swc_ast.specs.Parts.{or_hole, item_tree, param_tree, function_tree};
 ghost use Rattle.swc_ast.specs.TreeOf.{boxed_tree, pat_tree, pat_prop_tree, prop_tree, prop_or_spread_tree};
-ghost use Rattle.swc_nodes.specs.NodeTree.{expr_of, pat_of, prop_of, pat_prop_of};
-ghost use Rattle.swc_nodes.specs.NodeParts.{flat, if_some, one_expr, one_pat, item_parts, param_parts, prop_parts, pat_prop_parts};
+ghost use Rattle.swc_nodes.specs.NodeTree.{expr_of, pat_of, prop_of, pat_prop_of, part_tree, pat_elem_of};
+ghost use Rattle.swc_nodes.specs.NodeParts.{flat, if_some, one_expr, one_pat, item_parts, param_parts, prop_parts, pat_prop_parts, part_parts, pat_elem_part};
 ghost use Rattle.swc_trees.specs.{Building.Offers, Building.Assembled, Kinds.is_named};
 
 use crate::built::{Built, pop_expr, pop_if_some, pop_pat};
@@ -15,7 +15,7 @@ use swc_ast::function::{Function, Param};
 use swc_ast::pat::{ObjectPatProp, Pat, RestPat};
 use swc_ast::prop::{AssignProp, Prop, PropOrSpread, SpreadElement};
 use swc_ast::spanned::Spanned;
-use swc_nodes::node::{ExprId, PatId, PatPropNode, PropNode};
+use swc_nodes::node::{ExprId, PatElem, PatId, PatPart, PatPropNode, PropNode};
 
 /// An item of a list, in which trees take the place of numbers.
 pub(crate) trait Item<F: Spanned, C: Spanned, K: Spanned> {
@@ -213,7 +213,7 @@ impl<F: Spanned + Drop, C: Spanned + Drop, K: Spanned + Drop> Item<F, C, K> for 
                 key: name,
                 value,
             } => {
-                let value = boxed_pat(alloc, built, value)?;
+                let value = boxed_part(alloc, built, value)?;
                 let key = key(built, name);
                 Ok(ObjectPatProp::KeyValue { span, key, value })
             }
@@ -226,7 +226,7 @@ impl<F: Spanned + Drop, C: Spanned + Drop, K: Spanned + Drop> Item<F, C, K> for 
                 dot3_token,
                 arg,
             } => {
-                let arg = boxed_pat(alloc, built, arg)?;
+                let arg = boxed_part(alloc, built, arg)?;
                 Ok(ObjectPatProp::Rest(RestPat {
                     span,
                     dot3_token,
@@ -235,6 +235,68 @@ impl<F: Spanned + Drop, C: Spanned + Drop, K: Spanned + Drop> Item<F, C, K> for 
             }
         }
     }
+}
+
+impl<F: Spanned + Drop, C: Spanned + Drop, K: Spanned + Drop> Item<F, C, K> for PatElem {
+    type Whole = Pat<F, C, K>;
+
+    ghost parts = { pat_elem_part };
+
+    ghost of = { pat_elem_of };
+
+    ghost tree = { pat_tree _ _ _ F.place C.place K.place };
+
+    fn assemble(
+        self,
+        alloc: Global,
+        built: &mut Vec<Built<F, C, K>>,
+    ) -> Result<Self::Whole, AllocError> {
+        match self {
+            PatElem::Item(part) => Ok(pop_part(built, part)),
+            PatElem::Rest {
+                span,
+                dot3_token,
+                arg,
+            } => {
+                let arg = boxed_part(alloc, built, arg)?;
+                Ok(Pat::Rest(RestPat {
+                    span,
+                    dot3_token,
+                    arg,
+                }))
+            }
+        }
+    }
+}
+
+/// A part of a pattern.
+fn pop_part<F: Spanned + Drop, C: Spanned + Drop, K: Spanned + Drop>(
+    built: &mut Vec<Built<F, C, K>>,
+    part: PatPart,
+) -> Pat<F, C, K>
+    requires { Offers (part_parts part) built.old.items }
+    ensures { Assembled F.place C.place K.place (part_parts part)
+        (λ at. pat_tree _ _ _ F.place C.place K.place result ≡ part_tree at part)
+        built.old.items built.new.items }
+{
+    match part {
+        PatPart::Pat(id) => pop_pat(built, id),
+        PatPart::Expr(id) => Pat::Expr(pop_expr(built, id)),
+    }
+}
+
+/// A part of a pattern in a box.
+pub(crate) fn boxed_part<F: Spanned + Drop, C: Spanned + Drop, K: Spanned + Drop>(
+    alloc: Global,
+    built: &mut Vec<Built<F, C, K>>,
+    part: PatPart,
+) -> Result<Box<Pat<F, C, K>>, AllocError>
+    requires { Offers (part_parts part) built.old.items }
+    ensures { IfOk result (λ y. Assembled F.place C.place K.place (part_parts part)
+        (λ at. pat_tree _ _ _ F.place C.place K.place y.value ≡ part_tree at part)
+        built.old.items built.new.items) }
+{
+    boxed(alloc, Ok(pop_part(built, part)))
 }
 
 /// A pattern in a box.

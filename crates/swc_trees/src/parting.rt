@@ -29,7 +29,7 @@ use swc_ast::prop::{AssignProp, ComputedPropName, Prop, PropName, PropOrSpread, 
 use swc_ast::spanned::Spanned;
 use swc_context::span::Span;
 use swc_nodes::aside::Aside;
-use swc_nodes::node::{ExprId, PatId, PatPropNode, PropNode};
+use swc_nodes::node::{ExprId, PatId, PatPart, PatPropNode, PropNode};
 
 /// Splits what is in parentheses.
 pub(crate) fn split_paren<F: Spanned + Drop, C: Spanned + Drop, K: Spanned + Drop>(
@@ -496,7 +496,7 @@ fn split_key_pat<F: Spanned + Drop, C: Spanned + Drop, K: Spanned + Drop>(
         (cons (t.pat value.old.value) nil))) built.old.items result built.new.items }
 {
     let key = split_key(alloc, built, key)?;
-    let value = place_pat(built, value)?;
+    let value = PatPart::Pat(place_pat(built, value)?);
     Ok(PatPropNode::KeyValue { span, key, value })
 }
 
@@ -525,7 +525,7 @@ fn split_rest_prop<F: Spanned + Drop, C: Spanned + Drop, K: Spanned + Drop>(
     ensures { SplitsPatProp F.place C.place K.place (λ t. rest_tree t.pat rest_pat.old) built.old.items result
         built.new.items }
 {
-    let arg = place_pat(built, &mut rest_pat.arg)?;
+    let arg = PatPart::Pat(place_pat(built, &mut rest_pat.arg)?);
     let span = rest_pat.span;
     let dot3_token = rest_pat.dot3_token;
     Ok(PatPropNode::Rest {

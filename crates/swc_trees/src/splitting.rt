@@ -34,7 +34,8 @@ use swc_ast::prop::PropOrSpread;
 use swc_ast::spanned::Spanned;
 use swc_context::operator::{AssignOp, BinaryOp, UnaryOp, UpdateOp};
 use swc_context::span::Span;
-use swc_nodes::node::{InvalidNode, Node};
+use swc_nodes::node::{InvalidNode, Node, PatPart};
+use swc_nodes::patterns::pat_elems;
 
 /// The node of a tree, whose parts are moved out.
 pub(crate) fn split<F: Spanned + Drop, C: Spanned + Drop, K: Spanned + Drop>(
@@ -484,7 +485,8 @@ fn split_array_pat<F: Spanned + Drop, C: Spanned + Drop, K: Spanned + Drop>(
     ensures { SplitsNode F.place C.place K.place as_pattern (λ t. node array span (trees (map (or_hole t.pat)
         elems.old.items))) built.old.items result built.new.items }
 {
-    let elems = split_all(alloc, built, elems)?;
+    let pats = split_all(alloc, built, elems)?;
+    let elems = pat_elems(alloc, &pats)?;
     Ok(Node::PatArray { span, elems })
 }
 
@@ -532,7 +534,7 @@ fn split_default<F: Spanned + Drop, C: Spanned + Drop, K: Spanned + Drop>(
     ensures { SplitsNode F.place C.place K.place as_pat (λ t. node default span (cons (t.pat left.old.value) (cons
         (t.boxed right.old) nil))) built.old.items result built.new.items }
 {
-    let left = place_pat(built, left)?;
+    let left = PatPart::Pat(place_pat(built, left)?);
     let right = place_expr(alloc, built, right)?;
     Ok(Node::PatAssign { span, left, right })
 }

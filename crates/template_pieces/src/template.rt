@@ -40,8 +40,8 @@ struct HoleEnd {
 }
 
 /// The template of a text. A hole goes from `{{` to `}}`, and the expression in it ends before a `}` whose `{` isn't in
-/// it, as the lexer tells: so strings, regular expressions, templates and comments may have any braces. An expression is
-/// read in the context.
+/// it, as the lexer tells: so strings, regular expressions, templates and comments may have any braces. An expression
+/// is read in the context.
 ///
 /// A hole that has a fault is left out, and the text goes on after the next `}}`, or is over if there is none: then the
 /// fault tells where the hole opens.

@@ -19,16 +19,14 @@ impl<I: Tokens, B: Bodies<I>> Parser<I, B> {
     pub fn parse_for_head_prefix(&mut self) -> PResult<Box<ExprOf<B>>>
         ensures { PromisedPrefix I.model B.is_faithful B.forms self.old result self.new }
     {
-        self.begin()?;
-        let start = self.productions.nodes.len();
+        let start = self.begin()?;
         let ctx = self.productions.get_ctx();
         let answer = parse_head_expr(
             &mut self.productions,
             self.room,
             ctx.expr_ctx.for_await_loop_init,
         );
-        let answer = self.move_out_checked(start, answer);
-        self.finish(answer)
+        self.move_out_checked(start, answer)
     }
 
     /// What the head of a `for` begins with, as `parse_for_head` reads it: by its number among the nodes, which keeps
@@ -36,11 +34,9 @@ impl<I: Tokens, B: Bodies<I>> Parser<I, B> {
     pub fn parse_for_head_id(&mut self, is_await: bool) -> PResult<ForHeadId>
         ensures { PromisedHead I.model B.is_faithful B.forms head_by_number is_await self.old result self.new }
     {
-        self.begin()?;
-        let start = self.productions.nodes.len();
+        let start = self.begin()?;
         let answer = parse_for_head(&mut self.productions, self.room, is_await);
-        let answer = self.keep_checked(start, answer);
-        self.finish(answer)
+        self.keep_checked(start, answer)
     }
 
     /// What the head of a `for`, or of a `for await`, begins with, where that is no declaration (ECMA-262, 14.7.4 and
@@ -55,10 +51,8 @@ impl<I: Tokens, B: Bodies<I>> Parser<I, B> {
     pub fn parse_for_head(&mut self, is_await: bool) -> PResult<ForHeadOf<B>>
         ensures { PromisedHead I.model B.is_faithful B.forms head_in_boxes is_await self.old result self.new }
     {
-        self.begin()?;
-        let start = self.productions.nodes.len();
+        let start = self.begin()?;
         let answer = parse_for_head(&mut self.productions, self.room, is_await);
-        let answer = self.move_out_checked(start, answer);
-        self.finish(answer)
+        self.move_out_checked(start, answer)
     }
 }

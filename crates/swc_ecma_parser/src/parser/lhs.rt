@@ -16,11 +16,9 @@ impl<I: Tokens, B: Bodies<I>> Parser<I, B> {
     pub fn parse_lhs_expr_id(&mut self) -> PResult<ExprId>
         ensures promised { Promised I.model B.is_faithful B.forms by_number (Lhs true) self.old result self.new }
     {
-        self.begin()?;
-        let start = self.productions.nodes.len();
+        let start = self.begin()?;
         let answer = parse_lhs_expr(&mut self.productions, self.room);
-        let answer = self.keep_checked(start, answer);
-        self.finish(answer)
+        self.keep_checked(start, answer)
     }
 
     /// A left-hand side (LeftHandSideExpression; ECMA-262, 13.3), as the heritage of a class is one (15.7): a primary
@@ -33,10 +31,8 @@ impl<I: Tokens, B: Bodies<I>> Parser<I, B> {
     pub fn parse_lhs_expr(&mut self) -> PResult<Box<ExprOf<B>>>
         ensures promised { Promised I.model B.is_faithful B.forms in_boxes (Lhs true) self.old result self.new }
     {
-        self.begin()?;
-        let start = self.productions.nodes.len();
+        let start = self.begin()?;
         let answer = parse_lhs_expr(&mut self.productions, self.room);
-        let answer = self.move_out_checked(start, answer);
-        self.finish(answer)
+        self.move_out_checked(start, answer)
     }
 }

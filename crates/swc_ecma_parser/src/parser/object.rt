@@ -58,8 +58,7 @@ impl<I: Tokens, B: Bodies<I>> Parser<I, B> {
     pub fn parse_prop_name_id(&mut self) -> PResult<PropName<ExprId>>
         ensures promised { Promised I.model B.is_faithful B.forms key_by_number Key self.old result self.new }
     {
-        self.begin()?;
-        let start = self.productions.nodes.len();
+        let start = self.begin()?;
         let answer = parse_prop_name(&mut self.productions, self.room);
         let answer = self.keep(start, answer);
         self.finish(answer)
@@ -73,11 +72,9 @@ impl<I: Tokens, B: Bodies<I>> Parser<I, B> {
     pub fn parse_prop_name(&mut self) -> PResult<PropName<Box<ExprOf<B>>>>
         ensures promised { Promised I.model B.is_faithful B.forms key_in_boxes Key self.old result self.new }
     {
-        self.begin()?;
-        let start = self.productions.nodes.len();
+        let start = self.begin()?;
         let answer = parse_prop_name(&mut self.productions, self.room);
-        let answer = self.move_out(start, answer);
-        self.finish(answer)
+        self.hand_out(start, answer)
     }
 }
 
@@ -130,7 +127,7 @@ impl<I: Tokens, B: Bodies<I>> ParseObject<Box<ExprOf<B>>> for Parser<I, B> {
         ensures { Makes span props.items trailing_comma self.old result self.new }
     {
         match self.begin() {
-            Ok(()) => {
+            Ok(_) => {
                 let answer = self.make_literal(span, props, trailing_comma);
                 self.finish(answer)
             }
@@ -145,11 +142,9 @@ impl<I: Tokens, B: Bodies<I>> ParseObject<Box<ExprOf<B>>> for Parser<I, B> {
     fn parse_object_prop(&mut self) -> PResult<PropOrSpread<B::Fun, B::Class, B::Block>>
         ensures { Promised I.model B.is_faithful B.forms prop_in_boxes Prop self.old result self.new }
     {
-        self.begin()?;
-        let start = self.productions.nodes.len();
+        let start = self.begin()?;
         let answer = parse_object_prop(&mut self.productions, self.room);
-        let answer = self.move_out(start, answer);
-        self.finish(answer)
+        self.hand_out(start, answer)
     }
 }
 
@@ -252,7 +247,7 @@ impl<I: Tokens, B: Bodies<I>> ParseObject<PatOf<B>> for Parser<I, B> {
         ensures { Patterns I.model span props.items trailing_comma self.old result self.new }
     {
         match self.begin() {
-            Ok(()) => {
+            Ok(_) => {
                 let answer = self.make_pattern(span, props, trailing_comma);
                 self.finish(answer)
             }
@@ -275,10 +270,8 @@ impl<I: Tokens, B: Bodies<I>> ParseObject<PatOf<B>> for Parser<I, B> {
     fn parse_object_prop(&mut self) -> PResult<PatPropOf<B>>
         ensures { PromisedPatProp I.model B.is_faithful B.forms self.old result self.new }
     {
-        self.begin()?;
-        let start = self.productions.nodes.len();
+        let start = self.begin()?;
         let answer = parse_object_pat_prop(&mut self.productions, self.room);
-        let answer = self.move_out(start, answer);
-        self.finish(answer)
+        self.hand_out(start, answer)
     }
 }

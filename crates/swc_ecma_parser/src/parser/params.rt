@@ -16,8 +16,8 @@ use swc_nodes::node::PatId;
 use swc_productions::ring::parse_formal_params;
 
 impl<I: Tokens, B: Bodies<I>> Parser<I, B> {
-    /// Parameters none of which is there twice (UniqueFormalParameters; ECMA-262, 15.1). As `parse_formal_params`: that a
-    /// name is bound twice isn't looked at.
+    /// Parameters none of which is there twice (UniqueFormalParameters; ECMA-262, 15.1). As `parse_formal_params`: that
+    /// a name is bound twice isn't looked at.
     pub fn parse_unique_formal_params(&mut self) -> PResult<Vec<Param<PatOf<B>>>>
         ensures { PromisedParams I.model B.is_faithful B.forms params_in_boxes self.old result self.new }
     {
@@ -35,22 +35,18 @@ impl<I: Tokens, B: Bodies<I>> Parser<I, B> {
     pub fn parse_formal_params(&mut self) -> PResult<Vec<Param<PatOf<B>>>>
         ensures { PromisedParams I.model B.is_faithful B.forms params_in_boxes self.old result self.new }
     {
-        self.begin()?;
-        let start = self.productions.nodes.len();
+        let start = self.begin()?;
         let answer = parse_formal_params(&mut self.productions, self.room);
-        let answer = self.move_out_checked(start, answer);
-        self.finish(answer)
+        self.move_out_checked(start, answer)
     }
 
     /// Formal parameters, as `parse_formal_params` reads them: each with the number of its pattern among the nodes.
     pub fn parse_formal_params_id(&mut self) -> PResult<Vec<Param<PatId>>>
         ensures { PromisedParams I.model B.is_faithful B.forms params_by_number self.old result self.new }
     {
-        self.begin()?;
-        let start = self.productions.nodes.len();
+        let start = self.begin()?;
         let answer = parse_formal_params(&mut self.productions, self.room);
-        let answer = self.keep_checked(start, answer);
-        self.finish(answer)
+        self.keep_checked(start, answer)
     }
 
     /// The parameters of an arrow function, as `parse_arrow_params` reads them: the numbers of their patterns among the
@@ -61,11 +57,9 @@ impl<I: Tokens, B: Bodies<I>> Parser<I, B> {
             → BoundItems I.model (pats_tree (pat_at (nodes_of self.new)))
             (buffer_of self.old) result (buffer_of self.new) }
     {
-        self.begin()?;
-        let start = self.productions.nodes.len();
+        let start = self.begin()?;
         let answer = parse_arrow_params(&mut self.productions, self.room);
-        let answer = self.keep_checked(start, answer);
-        self.finish(answer)
+        self.keep_checked(start, answer)
     }
 
     /// The parameters of an arrow function, from `(` through the `)` that closes them (ArrowFormalParameters; ECMA-262,
@@ -90,10 +84,8 @@ impl<I: Tokens, B: Bodies<I>> Parser<I, B> {
             → BoundItems I.model (pats_tree (pat_tree _ _ _ B.Fun.place B.Class.place B.Block.place))
             (buffer_of self.old) result (buffer_of self.new) }
     {
-        self.begin()?;
-        let start = self.productions.nodes.len();
+        let start = self.begin()?;
         let answer = parse_arrow_params(&mut self.productions, self.room);
-        let answer = self.move_out_checked(start, answer);
-        self.finish(answer)
+        self.move_out_checked(start, answer)
     }
 }

@@ -24,11 +24,9 @@ impl<I: Tokens, B: Bodies<I>> Parser<I, B> {
         ensures binds { has_failed self.old ≡ false
             → Bound I.model (pat_at (nodes_of self.new)) (buffer_of self.old) result (buffer_of self.new) }
     {
-        self.begin()?;
-        let start = self.productions.nodes.len();
+        let start = self.begin()?;
         let answer = parse_pat(&mut self.productions, self.room);
-        let answer = self.keep_checked(start, answer);
-        self.finish(answer)
+        self.keep_checked(start, answer)
     }
 
     /// A binding pattern (ECMA-262, 14.3.3): an identifier that is bound (13.1), or an array or object pattern.
@@ -51,11 +49,9 @@ impl<I: Tokens, B: Bodies<I>> Parser<I, B> {
             → Bound I.model (pat_tree _ _ _ B.Fun.place B.Class.place B.Block.place)
             (buffer_of self.old) result (buffer_of self.new) }
     {
-        self.begin()?;
-        let start = self.productions.nodes.len();
+        let start = self.begin()?;
         let answer = parse_pat(&mut self.productions, self.room);
-        let answer = self.move_out_checked(start, answer);
-        self.finish(answer)
+        self.move_out_checked(start, answer)
     }
 
     /// A binding pattern (ECMA-262, 14.3.3), as `parse_pat` reads it.
@@ -75,11 +71,9 @@ impl<I: Tokens, B: Bodies<I>> Parser<I, B> {
         ensures binds { has_failed self.old ≡ false
             → Bound I.model (pat_at (nodes_of self.new)) (buffer_of self.old) result (buffer_of self.new) }
     {
-        self.begin()?;
-        let start = self.productions.nodes.len();
+        let start = self.begin()?;
         let answer = parse_binding_element(&mut self.productions, self.room);
-        let answer = self.keep_checked(start, answer);
-        self.finish(answer)
+        self.keep_checked(start, answer)
     }
 
     /// A binding pattern, and `=` and its initialiser after it or none (BindingElement; ECMA-262, 14.3.3): an
@@ -93,10 +87,8 @@ impl<I: Tokens, B: Bodies<I>> Parser<I, B> {
             → Bound I.model (pat_tree _ _ _ B.Fun.place B.Class.place B.Block.place)
             (buffer_of self.old) result (buffer_of self.new) }
     {
-        self.begin()?;
-        let start = self.productions.nodes.len();
+        let start = self.begin()?;
         let answer = parse_binding_element(&mut self.productions, self.room);
-        let answer = self.move_out_checked(start, answer);
-        self.finish(answer)
+        self.move_out_checked(start, answer)
     }
 }

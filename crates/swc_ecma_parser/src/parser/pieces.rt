@@ -35,11 +35,9 @@ impl<I: Tokens, B: Bodies<I>> Parser<I, B> {
         ensures promised { Promised I.model B.is_faithful B.forms args_in_boxes (Arguments is_dynamic_import)
             self.old result self.new }
     {
-        self.begin()?;
-        let start = self.productions.nodes.len();
+        let start = self.begin()?;
         let answer = parse_arguments(&mut self.productions, self.room, is_dynamic_import);
-        let answer = self.move_out_checked(start, answer);
-        self.finish(answer)
+        self.move_out_checked(start, answer)
     }
 
     /// A list in parentheses, from `(` through the `)` that closes it, with the place of a comma after the last item:
@@ -52,8 +50,7 @@ impl<I: Tokens, B: Bodies<I>> Parser<I, B> {
         ensures promised { Promised I.model B.is_faithful B.forms list_in_boxes (Arguments false)
             self.old result self.new }
     {
-        self.begin()?;
-        let start = self.productions.nodes.len();
+        let start = self.begin()?;
         let answer = parse_arguments(&mut self.productions, self.room, false);
         let comma = last_comma(&answer);
         let answer = self.move_out(start, answer);
@@ -73,11 +70,9 @@ impl<I: Tokens, B: Bodies<I>> Parser<I, B> {
         ensures promised { Promised I.model B.is_faithful B.forms tpl_in_boxes (Template is_tagged)
             self.old result self.new }
     {
-        self.begin()?;
-        let start = self.productions.nodes.len();
+        let start = self.begin()?;
         let answer = parse_template(&mut self.productions, self.room, is_tagged);
-        let answer = self.move_out(start, answer);
-        self.finish(answer)
+        self.hand_out(start, answer)
     }
 }
 

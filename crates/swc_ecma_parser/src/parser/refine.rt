@@ -54,8 +54,7 @@ impl<I: Tokens, B: Bodies<I>> Parser<I, B> {
         ensures { RefinesExpr I.model pat_type expr self.old result self.new }
     {
         match self.begin() {
-            Ok(()) => {
-                let start = self.productions.nodes.len();
+            Ok(start) => {
                 let answer = self.recast_expr(pat_type, expr);
                 let answer = self.lift_out(start, answer);
                 self.finish(answer)
@@ -83,8 +82,7 @@ impl<I: Tokens, B: Bodies<I>> Parser<I, B> {
         ensures { RefinesItems I.model items.items trailing_comma self.old result self.new }
     {
         match self.begin() {
-            Ok(()) => {
-                let start = self.productions.nodes.len();
+            Ok(start) => {
                 let answer = self.recast_items(items, trailing_comma);
                 let answer = self.lift_out(start, answer);
                 self.finish(answer)

@@ -2,18 +2,18 @@
 ghost use Rattle.std.specs.Prelude.{◌≡◌};
 ghost use Rattle.swc_nodes.specs.GrowingNodes.{tree_at, From, Grows};
 ghost use Rattle.swc_nodes.specs.NodeParts.{expr_part};
-ghost use Rattle.swc_verifier.specs.{CoverNames.cover_names, Faults.cover_faults};
+ghost use Rattle.swc_ecma_parser.specs.{CoverNames.cover_names, Faults.cover_faults};
 ghost use Rattle.swc_ecma_parser.specs.Calls.{buffer_of, nodes_of, commas_of, has_failed, tree_by, with_buffer};
 ghost use Rattle.swc_ecma_parser.specs.Verification.{LooksThrough, TriesFaults, VerifiesExpr};
 
 use crate::parser::Parser;
+use crate::verifier::{find_cover_names, record_cover_names};
 use swc_bodies::bodies::{Bodies, ExprOf};
 use swc_context::error::PResult;
 use swc_input::tokens::Tokens;
 use swc_nodes::node::ExprId;
 use swc_trees::letting_go::let_go;
 use swc_trees::putting::put_expr;
-use swc_verifier::verifier::{find_cover_names, record_cover_names};
 
 impl<I: Tokens, B: Bodies<I>> Parser<I, B> {
     /// Checks that a finished expression has no property `name = value` left over in an object literal (ECMA-262,
@@ -34,8 +34,7 @@ impl<I: Tokens, B: Bodies<I>> Parser<I, B> {
         ensures { VerifiesExpr I.model expr self.old result self.new }
     {
         match self.begin() {
-            Ok(()) => {
-                let start = self.productions.nodes.len();
+            Ok(start) => {
                 let answer = self.look_through(expr);
                 let answer = self.lift_out(start, answer);
                 self.finish(answer)

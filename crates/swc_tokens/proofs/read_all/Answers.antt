@@ -1,7 +1,6 @@
 use Rattle.std.proofs.Common.{◌<◌, ◌∙◌, length, refl, sym, ap}
-use Rattle.swc_tokens.specs.Order.{end_of}
+use Rattle.swc_tokens.specs.{Order.end_of, Nesting.nothing}
 use Rattle.swc_tokens.proofs.Marks.{end_of-push}
-use Rattle.swc_tokens.specs.Nesting.{nothing}
 use Rattle.swc_tokens.proofs.Nesting.{AreNested_end, delimiter_behind, delimiter_there, Nests_push}
 use Rattle.swc_tokens.proofs.Reading.{AreRead_nil, AreRead_push, AreRead_end, last-there, last-given, left_less}
 use Rattle.swc_tokens.proofs.read_all.Goals as goal

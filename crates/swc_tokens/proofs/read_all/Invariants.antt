@@ -1,9 +1,5 @@
 use Rattle.std.proofs.Common.{◌≡◌}
-use Rattle.swc_tokens.specs.declared.template.Next.TheVariants.{Delimiter}
-use Rattle.swc_tokens.specs.Nesting.{Nests}
-use Rattle.swc_tokens.specs.Spelling.{EndsText}
-use Rattle.swc_tokens.specs.Order.{end_of}
-use Rattle.swc_tokens.specs.Reading.{AreRead, left}
+use Rattle.swc_tokens.specs.{declared.template.Next.TheVariants.Delimiter, Nesting.Nests, Spelling.EndsText, Order.end_of, Reading.AreRead, Reading.left}
 use Rattle.swc_tokens.proofs.read_all.Given as goal
 
 -- the text stays, and the tokens are in what is read of it, which ends with the last; they nest, and where a delimiter

@@ -1,6 +1,5 @@
 use Rattle.std.specs.Prelude.{[], ◌∷◌, ◌++◌}
-use Rattle.swc_input.specs.Plain.{plain}
-use Rattle.swc_input.specs.Laws.{Read-then, Read-still}
+use Rattle.swc_input.specs.{Plain.plain, Laws.Read-then, Laws.Read-still}
 use Rattle.rows.proofs.hooks.read_on.Goals as goal
 
 pub loop-input-preserved : goal.loop-input-preserved

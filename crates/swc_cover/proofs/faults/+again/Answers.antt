@@ -1,5 +1,6 @@
 use Rattle.std.proofs.Common.{◌++◌, ◌+◌, ◌*◌, ◌<◌, ap, sym, ◌∙◌, rules, arith}
 use Rattle.swc_cover.proofs.Recording.{pat-elems-below, pat-props-below, pats-ended, pat-props-ended, again-is}
+use Rattle.swc_cover.specs.Below.{part_size}
 use Rattle.swc_cover.proofs.{Appended.if_ok-as, Fitting.assign-left-below, Fitting.rest-held-below}
 use Rattle.swc_nodes.specs.declared.node.Node.TheVariants as n
 use Rattle.swc_cover.proofs.faults.+again.Goals as goal
@@ -50,17 +51,17 @@ record_again-again_props-requires g t c κs within =
     c.in-PatObject.is in
     search rules
 
-pub record_again-record_again-requires : goal.record_again-record_again-requires
-record_again-record_again-requires g t c κs within =
+pub record_again-again_part-requires : goal.record_again-again_part-requires
+record_again-again_part-requires g t c κs within =
     let b = assign-left-below c.in-PatAssign.span c.in-PatAssign.left c.in-PatAssign.right c.get.ensures
     c.requires.within c.in-PatAssign.is in
     let k = b.less in
-    let less : c.in-PatAssign.left.0 * 4 + 2 < c.args.id.0 * 4 + 2 = omega arith in
+    let less : part_size c.in-PatAssign.left < c.args.id.0 * 4 + 2 = omega arith in
     let from = b.from in
     search rules
 
-pub record_again-record_again-requires-in-PatRest : goal.record_again-record_again-requires-in-PatRest
-record_again-record_again-requires-in-PatRest g t c κs within =
+pub record_again-record_again-requires : goal.record_again-record_again-requires
+record_again-record_again-requires g t c κs within =
     let b = rest-held-below c.in-PatRest.span c.in-PatRest.dot3_token c.in-PatRest.arg c.get.ensures c.requires.within
     c.in-PatRest.is in
     let k = b.less in
@@ -84,14 +85,14 @@ record_again-returns-in-PatObject g t c =
 
 pub record_again-returns-in-PatAssign : goal.record_again-returns-in-PatAssign
 record_again-returns-in-PatAssign g t c =
-    if_ok-as _ _ c.record_again.result
+    if_ok-as _ _ c.again_part.result
     (λ u h. h ∙ ap (λ v. c.args.faults.now.items ++ v) (sym (again-is
     (n.PatAssign c.in-PatAssign.span c.in-PatAssign.left c.in-PatAssign.right) c.get.ensures c.requires.within
-    c.in-PatAssign.is))) c.record_again.ensures
+    c.in-PatAssign.is))) c.again_part.ensures
 
 pub record_again-returns-in-PatRest : goal.record_again-returns-in-PatRest
 record_again-returns-in-PatRest g t c =
-    if_ok-as _ _ c.record_again-in-PatRest.result
+    if_ok-as _ _ c.record_again.result
     (λ u h. h ∙ ap (λ v. c.args.faults.now.items ++ v) (sym (again-is
     (n.PatRest c.in-PatRest.span c.in-PatRest.dot3_token c.in-PatRest.arg) c.get.ensures c.requires.within
-    c.in-PatRest.is))) c.record_again-in-PatRest.ensures
+    c.in-PatRest.is))) c.record_again.ensures

@@ -1,5 +1,6 @@
 use Rattle.std.proofs.Common.{◌++◌, ◌+◌, ◌*◌, ◌<◌, ap, sym, ◌∙◌, rules, arith}
 use Rattle.swc_cover.proofs.Named.{named-pats-ended, named-props-ended, named-is}
+use Rattle.swc_cover.specs.Below.{part_size}
 use Rattle.swc_cover.proofs.{Appended.if_ok-as, Fitting.assign-left-below, Fitting.rest-held-below, Recording.pat-elems-below, Recording.pat-props-below}
 use Rattle.swc_nodes.specs.declared.node.Node.TheVariants as n
 use Rattle.swc_cover.proofs.heads.+names.Goals as goal
@@ -50,17 +51,17 @@ add_names-add_props_names-requires g t c κs within =
     c.in-PatObject.is in
     search rules
 
-pub add_names-add_names-requires : goal.add_names-add_names-requires
-add_names-add_names-requires g t c κs within =
+pub add_names-add_part_names-requires : goal.add_names-add_part_names-requires
+add_names-add_part_names-requires g t c κs within =
     let b = assign-left-below c.in-PatAssign.span c.in-PatAssign.left c.in-PatAssign.right c.get.ensures
     c.requires.within c.in-PatAssign.is in
     let k = b.less in
-    let less : c.in-PatAssign.left.0 * 4 + 2 < c.args.id.0 * 4 + 2 = omega arith in
+    let less : part_size c.in-PatAssign.left < c.args.id.0 * 4 + 2 = omega arith in
     let from = b.from in
     search rules
 
-pub add_names-add_names-requires-in-PatRest : goal.add_names-add_names-requires-in-PatRest
-add_names-add_names-requires-in-PatRest g t c κs within =
+pub add_names-add_names-requires : goal.add_names-add_names-requires
+add_names-add_names-requires g t c κs within =
     let b = rest-held-below c.in-PatRest.span c.in-PatRest.dot3_token c.in-PatRest.arg c.get.ensures c.requires.within
     c.in-PatRest.is in
     let k = b.less in
@@ -84,14 +85,14 @@ add_names-returns-in-PatObject g t c =
 
 pub add_names-returns-in-PatAssign : goal.add_names-returns-in-PatAssign
 add_names-returns-in-PatAssign g t c =
-    if_ok-as _ _ c.add_names.result
+    if_ok-as _ _ c.add_part_names.result
     (λ u h. h ∙ ap (λ v. c.args.spans.now.items ++ v) (sym (named-is
     (n.PatAssign c.in-PatAssign.span c.in-PatAssign.left c.in-PatAssign.right) c.get.ensures c.requires.within
-    c.in-PatAssign.is))) c.add_names.ensures
+    c.in-PatAssign.is))) c.add_part_names.ensures
 
 pub add_names-returns-in-PatRest : goal.add_names-returns-in-PatRest
 add_names-returns-in-PatRest g t c =
-    if_ok-as _ _ c.add_names-in-PatRest.result
+    if_ok-as _ _ c.add_names.result
     (λ u h. h ∙ ap (λ v. c.args.spans.now.items ++ v) (sym (named-is
     (n.PatRest c.in-PatRest.span c.in-PatRest.dot3_token c.in-PatRest.arg) c.get.ensures c.requires.within
-    c.in-PatRest.is))) c.add_names-in-PatRest.ensures
+    c.in-PatRest.is))) c.add_names.ensures

@@ -1,6 +1,6 @@
 use Rattle.std.proofs.Common.{◌≡◌, ◌+◌, ◌*◌, ◌++◌, drop}
 use Rattle.swc_cover.proofs.Fitting.{pats_of, pat_props_of}
-use Rattle.swc_cover.specs.{Below.pat_elem_size, Below.pat_prop_size, Heads.all_reserved, Heads.props_reserved}
+use Rattle.swc_cover.specs.{Below.part_size, Below.pat_elem_size, Below.pat_prop_size, Heads.all_reserved, Heads.props_reserved}
 use Rattle.swc_cover.proofs.heads.+names.Given as goal
 
 abbrev pub decreases-add_names : goal.decreases-add_names
@@ -14,6 +14,9 @@ decreases-add_props_names g l = l.id.0 * 4 + 1
 
 abbrev pub decreases-add_elem_names : goal.decreases-add_elem_names
 decreases-add_elem_names g l = pat_elem_size l.elem
+
+abbrev pub decreases-add_part_names : goal.decreases-add_part_names
+decreases-add_part_names g l = part_size l.part
 
 abbrev pub decreases-add_prop_names : goal.decreases-add_prop_names
 decreases-add_prop_names g l = pat_prop_size l.prop.now

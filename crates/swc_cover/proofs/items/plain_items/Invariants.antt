@@ -4,5 +4,5 @@ use Rattle.swc_nodes.specs.NodeParts.{flat}
 use Rattle.swc_cover.proofs.items.plain_items.Given as goal
 
 abbrev pub invariant-loop-item : goal.invariant-loop-item
-invariant-loop-item l = l.pats.items ++ flat (listed l.ids) (drop l.item-index l.item-items) ≡ flat (listed l.ids)
+invariant-loop-item l = l.pats.items ++ flat listed (drop l.item-index l.item-items) ≡ flat listed
     l.item-items

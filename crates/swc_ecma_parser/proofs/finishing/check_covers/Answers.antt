@@ -2,8 +2,7 @@ use Rattle.std.proofs.Common.{not, ◌||◌, sym, ap, ◌∙◌}
 use Rattle.swc_input.specs.Buffer.{last_position}
 use Rattle.swc_steps.proofs.Steps.{forgoes_here}
 use Rattle.swc_nodes.specs.GrowingNodes.{tree_at}
-use Rattle.swc_verifier.specs.CoverNames.{parts_covers_left}
-use Rattle.swc_ecma_parser.specs.Finishing.{no_places}
+use Rattle.swc_ecma_parser.specs.{CoverNames.parts_covers_left, Finishing.no_places}
 use Rattle.swc_ecma_parser.proofs.CoversLeft.{covers-checked, unchecked}
 use Rattle.swc_ecma_parser.proofs.finishing.check_covers.Goals as goal
 

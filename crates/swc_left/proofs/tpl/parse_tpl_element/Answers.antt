@@ -20,7 +20,7 @@ returns-then-not-is_template-clause-parses g c = λ sure.
 
 pub returns-in_err-cooked-clause-parses : goal.returns-in_err-cooked-clause-parses
 returns-in_err-cooked-clause-parses g c =
-    let took = c.bump-token.ensures.took in
+    let took = c.bump-token.ensures in
     let text = c.template_of-raw.result in
     let bad = c.in_err-cooked.ensures.refused in
     let p = err_from_is_err_and c.from_residual-in_err-cooked.result c.from_residual-in_err-cooked.ensures.1 in
@@ -32,7 +32,7 @@ returns-in_err-cooked-clause-parses g c =
 
 pub returns-in_err-look-2-clause-parses : goal.returns-in_err-look-2-clause-parses
 returns-in_err-look-2-clause-parses g c =
-    let took = c.bump-token.ensures.took in
+    let took = c.bump-token.ensures in
     let p = err_from_is_err_and c.from_residual-in_err-look-2.result c.from_residual-in_err-look-2.ensures.1 in
     λ sure. rw (p.1, p.2)
     (s.unheard_memory (s.forgoes_later (s.leads_then (s.here_leads c.in_ok-look.ensures.looks)
@@ -40,7 +40,7 @@ returns-in_err-look-2-clause-parses g c =
 
 pub returns-clause-parses : goal.returns-clause-parses
 returns-clause-parses g c = λ sure.
-    let took = c.bump-token.ensures.took in
+    let took = c.bump-token.ensures in
     let text = c.template_of-raw.result in
     let tail = c.is_sign-tail.result in
     s.heard_answer (ap (λ v. quasi_with v tail c.in_ok-cooked.cooked text.0)

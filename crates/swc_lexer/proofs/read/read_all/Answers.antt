@@ -1,7 +1,6 @@
 use Rattle.std.proofs.Common.{◌++◌, ◌∷◌, [], ap, ◌∙◌}
 use Rattle.std.proofs.lemmas.List.Elements.{All-push}
-use Rattle.swc_lexer.specs.Readings.{reading_of, tokens_from}
-use Rattle.swc_lexer.specs.Reads.{IsClean}
+use Rattle.swc_lexer.specs.{Readings.reading_of, Readings.tokens_from, Reads.IsClean}
 use Rattle.swc_lexer.proofs.Sums.{ReadTo_more, ReadTo_over, none_of, sum_at}
 use Rattle.swc_lexer.proofs.read.read_all.Goals as goal
 

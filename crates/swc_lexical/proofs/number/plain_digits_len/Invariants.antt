@@ -1,6 +1,5 @@
 use Rattle.std.proofs.Common.{◌-◌, length}
-use Rattle.swc_lexical.specs.Numbers.{plain_digit_len}
-use Rattle.swc_lexical.specs.Runs.{RunsTo}
+use Rattle.swc_lexical.specs.{Numbers.plain_digit_len, Runs.RunsTo}
 use Rattle.swc_lexical.proofs.number.plain_digits_len.Given as goal
 
 abbrev pub invariant-loop-at : goal.invariant-loop-at

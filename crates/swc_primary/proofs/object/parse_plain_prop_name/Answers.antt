@@ -36,7 +36,7 @@ returns-then-not-is_key_lit-clause-parses g c = λ sure.
 
 pub returns-clause-parses : goal.returns-clause-parses
 returns-clause-parses g c = λ sure.
-    let took = c.bump-token.ensures.took in
+    let took = c.bump-token.ensures in
     let k = c.key_lit_of.result in
     s.heard_after (s.on_seen c.in_ok-require_cur.ensures.fits (λ x ts same h. refl))
     (s.heard_took g.met.I.Tokens.laws took (λ x ts. key.lit_key_takes k x (plain took.was) ts

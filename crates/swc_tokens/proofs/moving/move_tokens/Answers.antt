@@ -1,5 +1,4 @@
-use Rattle.std.proofs.Common.{rules}
-use Rattle.std.proofs.lemmas.List.Edits.{map_over_more}
+use Rattle.std.proofs.{Common.rules, lemmas.List.Edits.map_over_more}
 use Rattle.swc_tokens.specs.Moved.{moved_token}
 use Rattle.swc_tokens.proofs.moving.move_tokens.Goals as goal
 

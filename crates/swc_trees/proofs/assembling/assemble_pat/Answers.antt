@@ -5,7 +5,7 @@ use Rattle.swc_trees.proofs.Assembled.{offers-is, offers-first, offers-second, m
 use Rattle.swc_trees.proofs.Agreed.{two}
 use Rattle.swc_ast.specs.Tree.{array, object, dots, rest, default, pat_expr, span_of, node, nil, cons, trees}
 use Rattle.swc_ast.specs.{Parts.leaf, TreeOf.boxed_tree}
-use Rattle.swc_nodes.specs.NodeParts.{one_expr, one_pat}
+use Rattle.swc_nodes.specs.NodeParts.{one_expr, part_parts}
 use Rattle.swc_trees.proofs.assembling.assemble_pat.Goals as goal
 
 pub returns-in-PatIdent : goal.returns-in-PatIdent
@@ -34,12 +34,12 @@ returns-in-PatExpr g c =
 
 pub pop_expr-right-requires : goal.pop_expr-right-requires
 pop_expr-right-requires g c =
-    offers-second (one_pat c.in-PatAssign.left) (one_expr c.in-PatAssign.right) (offers-is c.in-PatAssign.is c.requires.offers)
+    offers-second (part_parts c.in-PatAssign.left) (one_expr c.in-PatAssign.right) (offers-is c.in-PatAssign.is c.requires.offers)
 
-pub boxed_pat-left-requires : goal.boxed_pat-left-requires
-boxed_pat-left-requires g c =
-    offers-first (one_pat c.in-PatAssign.left) (one_expr c.in-PatAssign.right) (offers-is c.in-PatAssign.is c.requires.offers) c.pop_expr-right.ensures
+pub boxed_part-left-requires : goal.boxed_part-left-requires
+boxed_part-left-requires g c =
+    offers-first (part_parts c.in-PatAssign.left) (one_expr c.in-PatAssign.right) (offers-is c.in-PatAssign.is c.requires.offers) c.pop_expr-right.ensures
 
 pub returns-in_ok-left-in-PatAssign : goal.returns-in_ok-left-in-PatAssign
 returns-in_ok-left-in-PatAssign g c =
-    made-is _ c.in-PatAssign.is (made-two (one_pat c.in-PatAssign.left) (one_expr c.in-PatAssign.right) c.pop_expr-right.ensures (ok-of _ _ c.in_ok-left-in-PatAssign.left c.in_ok-left-in-PatAssign.ensures.0 c.boxed_pat-left.ensures) (λ at e f. default_tree _ _ _ g.F.Spanned.place g.C.Spanned.place g.K.Spanned.place c.in-PatAssign.span c.in_ok-left-in-PatAssign.left c.in_ok-left-in-PatAssign.right ∙ ap (node default c.in-PatAssign.span) (two e (sym (ap (boxed_tree _ _ _ g.F.Spanned.place g.C.Spanned.place g.K.Spanned.place) (ok-is _ _ _ refl c.in_ok-left-in-PatAssign.ensures.1)) ∙ f))))
+    made-is _ c.in-PatAssign.is (made-two (part_parts c.in-PatAssign.left) (one_expr c.in-PatAssign.right) c.pop_expr-right.ensures (ok-of _ _ c.in_ok-left-in-PatAssign.left c.in_ok-left-in-PatAssign.ensures.0 c.boxed_part-left.ensures) (λ at e f. default_tree _ _ _ g.F.Spanned.place g.C.Spanned.place g.K.Spanned.place c.in-PatAssign.span c.in_ok-left-in-PatAssign.left c.in_ok-left-in-PatAssign.right ∙ ap (node default c.in-PatAssign.span) (two e (sym (ap (boxed_tree _ _ _ g.F.Spanned.place g.C.Spanned.place g.K.Spanned.place) (ok-is _ _ _ refl c.in_ok-left-in-PatAssign.ensures.1)) ∙ f))))

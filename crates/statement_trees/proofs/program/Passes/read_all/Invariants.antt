@@ -1,8 +1,7 @@
 use Rattle.std.proofs.Common.{◌≡◌, ◌++◌, ◌≤◌, ◌<◌, ◌-◌, []}
 use Rattle.std.specs.List.{All, Contains}
 use Rattle.swc_context.specs.declared.span.Span.{Span}
-use Rattle.statement_trees.specs.Contexts.{kept_bodies}
-use Rattle.statement_trees.specs.Passes.{places, InOrder}
+use Rattle.statement_trees.specs.{Contexts.kept_bodies, Passes.places, Passes.InOrder}
 use Rattle.statement_trees.proofs.program.Passes.read_all.Given as goal
 
 -- each body begins after those before it

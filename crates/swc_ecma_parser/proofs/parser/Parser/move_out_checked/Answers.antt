@@ -1,29 +1,20 @@
-use Rattle.std.proofs.Common.{sym, subst}
-use Rattle.swc_nodes.specs.GrowingNodes.{tree_at, Apart}
-use Rattle.swc_steps.specs.Parsing.{scope}
-use Rattle.swc_ecma_parser.specs.Calls.{buffer_of, nodes_of, with_buffer, MovesOut}
-use Rattle.swc_ecma_parser.specs.Finishing.{parts_done, ChecksAnswer}
+use Rattle.swc_nodes.specs.GrowingNodes.{Apart}
+use Rattle.swc_ecma_parser.specs.Calls.{nodes_of}
 use Rattle.swc_ecma_parser.proofs.{Finished.checked-holds, Moving.apart-kept}
 use Rattle.swc_ecma_parser.proofs.parser.Parser.move_out_checked.Goals as goal
 
 pub check_answer-answer-requires : goal.check_answer-answer-requires
 check_answer-answer-requires g c = apart-kept g.T.Take.parts (nodes_of c.args.self.now) c.args.start c.args.answer c.requires
 
-pub move_out-requires : goal.move_out-requires
-move_out-requires g c =
+pub hand_out-requires : goal.hand_out-requires
+hand_out-requires g c =
     checked-holds g.I.Tokens.model _ _ _ (λ x. Apart c.args.start (nodes_of c.args.self.now) (g.T.Take.parts x)) c.args.answer
     c.check_answer-answer.result c.check_answer-answer.ensures c.requires
 
-pub returns-clause-moves : goal.returns-clause-moves
-returns-clause-moves g c =
-    let checked = c.check_answer-answer.result in
-    let before = c.args.self.now in
-    record {
-      checked = checked;
-      checks = subst (λ b. ChecksAnswer g.I.Tokens.model
-          (λ x. parts_done (scope g.I.Tokens.model (buffer_of before)) (tree_at (nodes_of before)) (g.T.Take.parts x))
-          (buffer_of before) c.args.answer checked b) (sym c.move_out.ensures.buffer) c.check_answer-answer.ensures;
-      moved = subst (λ b. MovesOut g.T.Take.by g.T.Take.tree (with_buffer b before) checked c.move_out.result)
-          (sym c.move_out.ensures.buffer) c.move_out.ensures.moved;
-      commas = c.move_out.ensures.commas;
-    }
+pub returns : goal.returns
+returns g c = record {
+  at = c.check_answer-answer.new.input;
+  checked = c.check_answer-answer.result;
+  checks = c.check_answer-answer.ensures;
+  out = c.hand_out.ensures;
+}

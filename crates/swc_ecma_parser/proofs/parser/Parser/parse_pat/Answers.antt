@@ -1,45 +1,28 @@
-use Rattle.std.proofs.Common.{refl, sym, ◌∙◌}
-use Rattle.std.proofs.lemmas.Result.{err_from_is_err_and}
-use Rattle.swc_ast.specs.{TreeOf.pat_tree, Trees.unmarked}
-use Rattle.swc_grammar.specs.{Symbols.Pat, Clean.sym as at, Clean.run}
-use Rattle.swc_nodes.specs.{GrowingNodes.bare_at, NodeParts.one_pat}
-use Rattle.swc_patterns.specs.Answers.{pat_at}
-use Rattle.swc_ecma_parser.specs.Calls.{buffer_of, nodes_of, commas_of}
-use Rattle.swc_ecma_parser.proofs.Finished.{checked, pat-boxes-checked, meets-boxes-checked, recalled-checked}
-use Rattle.swc_ecma_parser.proofs.{Calling.promised, Calling.promised-again, Moving.moved-parses, Moving.cut-back, Patterns.bound-pat, Top.pat-stops}
+use Rattle.std.proofs.{Common.refl, lemmas.Result.err_from_is_err_and}
+use Rattle.swc_ast.specs.TreeOf.{pat_tree}
+use Rattle.swc_nodes.specs.GrowingNodes.{tree_at}
+use Rattle.swc_ecma_parser.specs.Calls.{buffer_of}
+use Rattle.swc_ecma_parser.proofs.{Calling.promised-again, Left.pat-left, Patterns.bound-pat, Top.pat-stops, Wholes.promised-boxed}
 use Rattle.swc_ecma_parser.proofs.parser.Parser.parse_pat.Goals as goal
 
-pub returns-in_err-begin-clause-promised : goal.returns-in_err-begin-clause-promised
-returns-in_err-begin-clause-promised g c =
+pub returns-in_err-start-clause-promised : goal.returns-in_err-start-clause-promised
+returns-in_err-start-clause-promised g c =
     let p = err_from_is_err_and c.from_residual.result c.from_residual.ensures.1 in
-    rw (p.1, p.2) (promised-again c.in_err-begin.ensures.again refl)
+    rw (p.1, p.2) (promised-again c.in_err-start.ensures.again refl)
 
-pub returns-in_err-begin-clause-binds : goal.returns-in_err-begin-clause-binds
-returns-in_err-begin-clause-binds g c = λ runs. bound-pat g.I.Tokens.model g.B.BodyForms.forms
+pub returns-in_err-start-clause-binds : goal.returns-in_err-start-clause-binds
+returns-in_err-start-clause-binds g c = λ runs. bound-pat g.I.Tokens.model g.B.BodyForms.forms
     (pat_tree _ _ _ g.B.Fun.Spanned.place g.B.Class.Spanned.place g.B.Block.Spanned.place)
     (buffer_of c.args.self.now) c.from_residual.result (buffer_of c.args.self.now)
-    ((returns-in_err-begin-clause-promised g c).sound runs)
+    ((returns-in_err-start-clause-promised g c).sound runs)
 
 pub returns-clause-promised : goal.returns-clause-promised
 returns-clause-promised g c =
-    let boxed = pat_tree _ _ _ g.B.Fun.Spanned.place g.B.Class.Spanned.place g.B.Block.Spanned.place in
-    let done = c.finish.ensures in
-    let moved = c.move_out_checked-answer.ensures in
-    let read = c.parse_pat-answer.ensures in
-    let ns = c.parse_pat-answer.new.p.nodes in
-    let answer = moved.moves.checked in
-    let reads = pat-boxes-checked g.I.Tokens.model g.B.Bodies.is_faithful (run g.B.BodyForms.forms (at Pat)) ns _ _ _ c.parse_pat-answer.result answer read.reads moved.moves.checks in
-    promised (buffer_of c.move_out_checked-answer.new.self) (nodes_of c.move_out_checked-answer.new.self) (commas_of c.move_out_checked-answer.new.self) c.move_out_checked-answer.result c.finish.result c.in_ok-begin.ensures.runs moved.runs
-    done.answer done.buffer done.nodes done.commas done.fails
-    (meets-boxes-checked g.I.Tokens.model g.B.Bodies.is_faithful g.B.BodyForms.forms g.met.B.Bodies.lawful boxed pat-stops _ c.move_out_checked-answer.result _
-    (moved-parses g.I.Tokens.model g.B.Bodies.is_faithful (checked unmarked (run g.B.BodyForms.forms (at Pat))) ns pat_at (λ p. bare_at ns p.0) boxed _ _ answer c.move_out_checked-answer.result reads
-    (λ p. refl) moved.moves.moved))
-    (recalled-checked g.I.Tokens.model g.B.Bodies.is_faithful g.B.BodyForms.forms g.met.B.Bodies.lawful Pat unmarked ns (pat_at ns) (λ p. bare_at ns p.0) boxed one_pat
-    _ _ answer c.move_out_checked-answer.result _ _ reads (λ p. refl) (λ p. refl) moved.moves.moved moved.moves.commas)
-    (cut-back (nodes_of c.move_out_checked-answer.new.self) read.grows (rw (sym c.len-start.ensures) moved.nodes))
+    promised-boxed g.met.B.Bodies.lawful pat-stops c.in_ok-start.ensures.runs c.in_ok-start.ensures.start c.parse_pat-answer.ensures
+    c.move_out_checked.ensures (λ p. refl) (λ p. refl) (pat-left (tree_at c.parse_pat-answer.new.p.nodes))
 
 pub returns-clause-binds : goal.returns-clause-binds
 returns-clause-binds g c = λ runs. bound-pat g.I.Tokens.model g.B.BodyForms.forms
     (pat_tree _ _ _ g.B.Fun.Spanned.place g.B.Class.Spanned.place g.B.Block.Spanned.place)
-    (buffer_of c.args.self.now) c.finish.result (buffer_of c.finish.new.self)
+    (buffer_of c.args.self.now) c.move_out_checked.result (buffer_of c.move_out_checked.new.self)
     ((returns-clause-promised g c).sound runs)

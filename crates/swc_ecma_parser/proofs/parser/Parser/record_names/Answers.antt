@@ -1,8 +1,7 @@
 use Rattle.std.proofs.Common.{ap, ◌∙◌}
 use Rattle.swc_input.specs.Buffer.{last_position}
 use Rattle.swc_steps.proofs.Steps.{forgoes_here}
-use Rattle.swc_verifier.specs.Faults.{cover_faults}
-use Rattle.swc_ecma_parser.specs.Calls.{buffer_of}
+use Rattle.swc_ecma_parser.specs.{Faults.cover_faults, Calls.buffer_of}
 use Rattle.swc_ecma_parser.proofs.Verified.{faults-tried}
 use Rattle.swc_ecma_parser.proofs.parser.Parser.record_names.Goals as goal
 

@@ -9,7 +9,7 @@ use Rattle.swc_ecma_parser.proofs.Refined.{cut-kept, meets-refinement, of-answer
 use Rattle.swc_ecma_parser.proofs.parser.Parser.reparse_expr_as_pat.Goals as goal
 
 pub lift_out-answer-requires : goal.lift_out-answer-requires
-lift_out-answer-requires g c = rw (c.len-start.ensures)
+lift_out-answer-requires g c = rw (c.in-Ok.ensures.start)
     (of-answer _ _ _ c.recast_expr-answer.result c.recast_expr-answer.ensures.recasts (λ x w. w.apart))
 
 pub returns-in-Err : goal.returns-in-Err
@@ -33,4 +33,4 @@ returns-in-Ok g c =
     (records-moved _ _ _ _ c.recast_expr-answer.result c.lift_out-answer.result made.judges moved.moved)
     (moved.commas ∙ made.commas)
     (cut-kept (nodes_of c.lift_out-answer.new.self) (whichever _ _ _ c.recast_expr-answer.result made.recasts
-    (λ x w. w.kept) (λ e w. w.kept)) (rw (sym c.len-start.ensures) moved.nodes))
+    (λ x w. w.kept) (λ e w. w.kept)) (rw (sym c.in-Ok.ensures.start) moved.nodes))

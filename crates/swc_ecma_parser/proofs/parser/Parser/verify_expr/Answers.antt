@@ -24,4 +24,4 @@ returns-in-Ok g c =
     (nodes_of q) c.look_through-answer.result c.lift_out-answer.result
     (bare-boxed g.B.Fun.Spanned.place g.B.Class.Spanned.place g.B.Block.Spanned.place c.args.expr) made.looks.1 moved.moved))
     (moved.commas ∙ made.commas)
-    (cut-back (nodes_of c.lift_out-answer.new.self) made.grows (rw (sym c.len-start.ensures) moved.nodes))
+    (cut-back (nodes_of c.lift_out-answer.new.self) made.grows (rw (sym c.in-Ok.ensures.start) moved.nodes))

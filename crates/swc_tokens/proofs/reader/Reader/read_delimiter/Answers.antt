@@ -1,7 +1,6 @@
 use Rattle.std.proofs.Common.{◌≡◌, ℕ, Some, List, slice_get, inl, inr, arith}
 use Rattle.std.proofs.lemmas.Option.{slice_get_within}
-use Rattle.swc_tokens.specs.Blanks.{StandAt}
-use Rattle.swc_tokens.specs.Spelling.{EndsText}
+use Rattle.swc_tokens.specs.{Blanks.StandAt, Spelling.EndsText}
 use Rattle.swc_tokens.proofs.Spelling.{Spells_backquote, Spells_substitution}
 use Rattle.swc_tokens.proofs.reader.Reader.read_delimiter.Goals as goal
 

@@ -4,20 +4,20 @@ use Rattle.swc_trees.proofs.Assembled.{offers-first, offers-second, made-one, ma
 use Rattle.swc_trees.proofs.{Leaves.binding_prop_tree, Leaves.rest_prop_tree, Agreed.two}
 use Rattle.swc_ast.specs.Tree.{dots, key_value, binding_prop, rest, node, nil, cons}
 use Rattle.swc_ast.specs.Parts.{leaf, binding_tree}
-use Rattle.swc_nodes.specs.NodeParts.{one_pat, key_parts}
+use Rattle.swc_nodes.specs.NodeParts.{key_parts, part_parts}
 use Rattle.swc_trees.proofs.items.PatPropNodeItem.assemble.Goals as goal
 
-pub boxed_pat-requires : goal.boxed_pat-requires
-boxed_pat-requires g c =
-    offers-second (key_parts c.in-KeyValue.name) (one_pat c.in-KeyValue.value) (rw c.in-KeyValue.is at c.requires)
+pub boxed_part-requires : goal.boxed_part-requires
+boxed_part-requires g c =
+    offers-second (key_parts c.in-KeyValue.name) (part_parts c.in-KeyValue.value) (rw c.in-KeyValue.is at c.requires)
 
 pub key-key-requires : goal.key-key-requires
 key-key-requires g c =
-    offers-first (key_parts c.in-KeyValue.name) (one_pat c.in-KeyValue.value) (rw c.in-KeyValue.is at c.requires) c.in_ok-value-in-KeyValue.ensures
+    offers-first (key_parts c.in-KeyValue.name) (part_parts c.in-KeyValue.value) (rw c.in-KeyValue.is at c.requires) c.in_ok-value-in-KeyValue.ensures
 
 pub returns-in_ok-value-in-KeyValue : goal.returns-in_ok-value-in-KeyValue
 returns-in_ok-value-in-KeyValue g c =
-    rw c.in-KeyValue.is (made-two (key_parts c.in-KeyValue.name) (one_pat c.in-KeyValue.value) c.in_ok-value-in-KeyValue.ensures c.key-key.ensures (λ at e f. pat_key_value_tree _ _ _ g.F.Spanned.place g.C.Spanned.place g.K.Spanned.place c.in-KeyValue.span c.key-key.result c.in_ok-value-in-KeyValue.value ∙ ap (node key_value c.in-KeyValue.span) (two e f)))
+    rw c.in-KeyValue.is (made-two (key_parts c.in-KeyValue.name) (part_parts c.in-KeyValue.value) c.in_ok-value-in-KeyValue.ensures c.key-key.ensures (λ at e f. pat_key_value_tree _ _ _ g.F.Spanned.place g.C.Spanned.place g.K.Spanned.place c.in-KeyValue.span c.key-key.result c.in_ok-value-in-KeyValue.value ∙ ap (node key_value c.in-KeyValue.span) (two e f)))
 
 pub returns-in-Assign : goal.returns-in-Assign
 returns-in-Assign g c =

@@ -1,5 +1,4 @@
-use Rattle.std.proofs.Common.{refl, sym, ◌∙◌}
-use Rattle.std.proofs.lemmas.Result.{err_from_is_err_and}
+use Rattle.std.proofs.{Common.refl, Common.sym, lemmas.Result.err_from_is_err_and}
 use Rattle.swc_ast.specs.{TreeOf.pat_prop_tree, Trees.unmarked}
 use Rattle.swc_grammar.specs.Reads.{Reads}
 use Rattle.swc_nodes.specs.{GrowingNodes.tree_at, GrowingNodes.bare_at, NodeParts.pat_prop_parts, NodeTree.pat_prop_of, declared.node.PatPropNode.PatPropNode}
@@ -11,9 +10,9 @@ use Rattle.swc_ecma_parser.proofs.Moving.{moved-parses, cut-back, recalled-by}
 use Rattle.swc_ecma_parser.proofs.Patterns.{either-sound, meets-pat-prop, rest-answered, pat-prop-again, promised-pat-prop}
 use Rattle.swc_ecma_parser.proofs.parser.object.ParserParseObjectPatOf.parse_object_prop.Goals as goal
 
-pub returns-in_err-begin : goal.returns-in_err-begin
-returns-in_err-begin g c =
-    let p = err_from_is_err_and c.from_residual.result c.from_residual.ensures.1 in rw (p.1, p.2) (pat-prop-again c.in_err-begin.ensures.again refl)
+pub returns-in_err-start : goal.returns-in_err-start
+returns-in_err-start g c =
+    let p = err_from_is_err_and c.from_residual.result c.from_residual.ensures.1 in rw (p.1, p.2) (pat-prop-again c.in_err-start.ensures.again refl)
 
 pub returns : goal.returns
 returns g c =
@@ -25,17 +24,16 @@ returns g c =
     let boxed = pat_prop_tree _ _ _ g.B.Fun.Spanned.place g.B.Class.Spanned.place g.B.Block.Spanned.place in
     let by_bare = pat_prop_of g.B.Fun.Spanned.place g.B.Class.Spanned.place g.B.Block.Spanned.place (bare_at ns) in
     let bares = λ (x : PatPropNode). unmarked-pat-prop g.B.Fun.Spanned.place g.B.Class.Spanned.place g.B.Block.Spanned.place (tree_at ns) x in
-    let done = c.finish.ensures in
-    let moved = c.move_out-answer.ensures in
+    let moved = c.hand_out.ensures in
     let read = c.parse_object_pat_prop-answer.ensures in
     let answer = c.parse_object_pat_prop-answer.result in
-    let parsed = moved-parses model sure (pat_prop_item forms) ns pat_prop_at by_bare boxed _ _ answer c.move_out-answer.result read.reads bares moved.moved in
-    promised-pat-prop c.parse_object_pat_prop-answer.new.p.input c.move_out-answer.result done.answer (done.buffer ∙ moved.buffer)
-    (promised c.parse_object_pat_prop-answer.new.p.input (nodes_of c.move_out-answer.new.self) (commas_of c.move_out-answer.new.self) c.move_out-answer.result c.finish.result c.in_ok-begin.ensures.runs moved.runs
-    done.answer (done.buffer ∙ moved.buffer) done.nodes done.commas done.fails
-    (meets-pat-prop forms laws model sure boxed _ c.move_out-answer.result _ parsed)
+    let parsed = moved-parses model sure (pat_prop_item forms) ns pat_prop_at by_bare boxed _ _ answer c.hand_out.result read.reads bares moved.moved in
+    promised-pat-prop c.parse_object_pat_prop-answer.new.p.input c.hand_out.result refl moved.buffer
+    (promised c.parse_object_pat_prop-answer.new.p.input (nodes_of c.hand_out.new.self) (commas_of c.hand_out.new.self) c.hand_out.result c.hand_out.result c.in_ok-start.ensures.runs refl
+    refl moved.buffer refl refl moved.fails
+    (meets-pat-prop forms laws model sure boxed _ c.hand_out.result _ parsed)
     (recalled-by model sure (PropOrRest (Reads forms)) (pat_prop_item forms) (either-sound forms laws) unmarked ns (pat_prop_at ns) by_bare boxed pat_prop_parts
-    _ _ answer c.move_out-answer.result _ _ read.reads bares
+    _ _ answer c.hand_out.result _ _ read.reads bares
     (λ x. pat-prop-commas g.B.Fun.Spanned.place g.B.Class.Spanned.place g.B.Block.Spanned.place (tree_at ns) x) moved.moved moved.commas)
-    (cut-back (nodes_of c.move_out-answer.new.self) read.grows (rw (sym c.len-start.ensures) moved.nodes)))
-    (rest-answered forms laws model sure boxed _ c.move_out-answer.result _ parsed)
+    (cut-back (nodes_of c.hand_out.new.self) read.grows (rw (sym c.in_ok-start.ensures.start) moved.nodes)))
+    (rest-answered forms laws model sure boxed _ c.hand_out.result _ parsed)

@@ -1,0 +1,103 @@
+// What is noted at imports and exports (ECMA-262, 16.2).
+use crate::layout::ProgramMarks;
+use expr_layout::marks::Gap;
+use statement_trees::tree::{
+    AllExports, DefaultExport, ImportAttribute, ImportDeclaration, ImportKind, ImportSpecifier,
+    NamedExports, StatementKind,
+};
+use swc_ecma_parser::ast::ident::ModuleExportName;
+use swc_ecma_parser::ast::lit::Str;
+use swc_ecma_parser::context::span::{BytePos, Span};
+
+impl ProgramMarks<'_> {
+    /// Notes an item of a module: a blank is after its first word.
+    pub(crate) fn mark_item(&mut self, place: Span, kind: &StatementKind) {
+        let second = self.marks.at(place.lo).saturating_add(1);
+        match kind {
+            StatementKind::Import(import) => self.mark_import(place, import),
+            StatementKind::ExportAll(exports) => self.mark_all(place, exports),
+            StatementKind::ExportNamed(exports) => self.mark_named(place, exports),
+            StatementKind::ExportDefault(exported) => self.mark_default(*exported),
+            StatementKind::ExportDeclaration(_) => {}
+            _ => return,
+        }
+        self.marks.set(second, Gap::Blank);
+    }
+
+    fn mark_import(&mut self, place: Span, import: &ImportDeclaration) {
+        for specifier in &import.specifiers {
+            self.mark_specifier(specifier);
+        }
+        self.mark_source(place, &import.source, &import.attributes);
+    }
+
+    fn mark_specifier(&mut self, specifier: &ImportSpecifier) {
+        match &specifier.kind {
+            ImportKind::Namespace | ImportKind::Named(Some(_)) => {
+                self.set_words(specifier.local.span.lo)
+            }
+            ImportKind::Default | ImportKind::Named(None) => {}
+        }
+    }
+
+    /// Notes a blank before a name and the word before it.
+    fn set_words(&mut self, name: BytePos) {
+        self.marks.set_operator(name, Gap::Blank, Gap::Blank);
+    }
+
+    fn mark_all(&mut self, place: Span, exports: &AllExports) {
+        self.mark_exported(&exports.exported);
+        self.mark_source(place, &exports.source, &exports.attributes);
+    }
+
+    fn mark_named(&mut self, place: Span, exports: &NamedExports) {
+        for specifier in &exports.specifiers {
+            self.mark_exported(&specifier.exported);
+        }
+        if let Some(source) = &exports.source {
+            self.mark_source(place, source, &exports.attributes);
+        }
+    }
+
+    /// Notes the blanks of the `as` before a name.
+    fn mark_exported(&mut self, name: &Option<ModuleExportName>) {
+        if let Some(name) = name {
+            self.set_words(start_of_name(name));
+        }
+    }
+
+    fn mark_default(&mut self, exported: DefaultExport) {
+        match exported {
+            DefaultExport::Expr(expr) => self.set_expr(expr, Gap::Blank),
+            DefaultExport::Function(place) | DefaultExport::Class(place) => {
+                self.marks.set_at(place.lo, Gap::Blank)
+            }
+        }
+    }
+
+    /// Notes the blanks of `from` and a source, and those of the attributes after it.
+    fn mark_source(&mut self, place: Span, source: &Str, attributes: &[ImportAttribute]) {
+        let first = self.marks.at(place.lo);
+        let number = self.marks.at(source.span.lo);
+        self.marks.set(number, Gap::Blank);
+        if first.saturating_add(1) < number {
+            self.marks.set(number.saturating_sub(1), Gap::Blank);
+        }
+        let with = number.saturating_add(1);
+        if with < self.marks.at(place.hi) {
+            self.marks.set(with, Gap::Blank);
+            self.marks.set(with.saturating_add(1), Gap::Blank);
+        }
+        for attribute in attributes {
+            self.marks.set_at(attribute.value.span.lo, Gap::Blank);
+        }
+    }
+}
+
+/// Where a name that a module exports begins.
+fn start_of_name(name: &ModuleExportName) -> BytePos {
+    match name {
+        ModuleExportName::Ident(name) => name.span.lo,
+        ModuleExportName::Str(string) => string.span.lo,
+    }
+}

@@ -1,4 +1,0 @@
-pub mod Left
-pub mod Names
-pub mod Recordings
-pub mod Shrinking

@@ -1,3 +1,0 @@
-pub mod CoverNames
-pub mod Dues
-pub mod Faults
