@@ -5,8 +5,8 @@
 #![tactic(auto)]
 
 mod bodies;
+mod declarations;
 mod ends;
-mod heads;
 pub mod layout;
 mod modules;
 mod statements;

@@ -34,7 +34,6 @@ impl Goal {
 ///
 /// Statements and expressions are in vectors, and name their parts by numbers. Functions, classes and blocks that are
 /// bodies of functions are named by their places, as in the nodes of expressions.
-#[derive(Drop)]
 pub struct Program {
     /// From the beginning of the text to its end.
     pub span: Span,
@@ -51,6 +50,23 @@ pub struct Program {
     pub(crate) blocks: Vec<Block>,
     /// The places of all of these, in the order in which they begin.
     pub bodies: Vec<Span>,
+}
+
+// Not derived: so dropping a program is a call, and is proved here alone.
+impl Drop for Program {
+    fn drop(self) {
+        let Program {
+            span: _,
+            goal: _,
+            body: _,
+            nodes: _,
+            statements: _,
+            functions: _,
+            classes: _,
+            blocks: _,
+            bodies: _,
+        } = self;
+    }
 }
 
 impl Program {

@@ -4,9 +4,9 @@
 
 mod checking;
 mod faults;
-pub mod heads;
 pub mod items;
 pub mod noting;
+pub mod param_names;
 pub mod pat_type;
 pub mod patterns;
 pub mod refining;

@@ -12,9 +12,9 @@ ghost use Rattle.swc_steps.specs.Parsing.{Checks, seen};
 ghost use Rattle.swc_nodes.specs.NodeParts.{expr_part, flat, item_parts};
 ghost use Rattle.swc_nodes.specs.GrowingNodes.{tree_at, Apart, From};
 
-use crate::heads::check_heads;
 use crate::items::refine_items;
 use crate::noting::{check_items, check_pat};
+use crate::param_names::check_param_names;
 use crate::pat_type::PatType;
 use crate::patterns::refine_pat;
 use swc_ast::expr::ExprOrSpread;
@@ -78,7 +78,7 @@ pub fn parse_paren_items_as_params<I: Tokens, B: Bodies<I>>(
     check_items::<I, B>(&mut p.input, &p.nodes, items, trailing_comma)?;
     match refine_items(&mut p.nodes, p.alloc, items) {
         Ok(pats) => {
-            check_heads::<I, B>(&mut p.input, &p.nodes, &pats)?;
+            check_param_names::<I, B>(&mut p.input, &p.nodes, &pats)?;
             Ok(pats)
         }
         Err(_) => Err(p.input.out_of_memory()),

@@ -16,10 +16,10 @@ pub use swc_print as printing;
 pub use swc_tokens as tokens;
 pub use swc_trees as trees;
 
+mod arrow_params;
 pub mod both_ways;
 mod finishing;
 mod for_heads;
-mod heads;
 pub mod parser;
 pub mod places;
 pub mod prelude;

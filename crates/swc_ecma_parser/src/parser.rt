@@ -31,6 +31,7 @@ use swc_productions::ring::{parse_assignment_expr, parse_bin_expr, parse_expr, p
 use swc_steps::productions::Productions;
 use swc_steps::tokens::is_out_of_memory;
 
+mod args;
 mod for_heads;
 mod hooked;
 mod lhs;
@@ -38,7 +39,6 @@ mod names;
 pub mod object;
 mod params;
 mod pat;
-mod pieces;
 pub mod refine;
 mod verifier;
 

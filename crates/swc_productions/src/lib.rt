@@ -1,6 +1,6 @@
 //! The productions: what calls itself back, over what comes before and after these calls in crates below.
 #![tactic(auto)]
 
-pub mod pieces;
+pub mod args;
 pub mod ring;
 mod room;

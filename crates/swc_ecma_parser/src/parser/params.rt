@@ -6,7 +6,7 @@ ghost use Rattle.swc_patterns.specs.Answers.{pat_at};
 ghost use Rattle.swc_ecma_parser.specs.Calls.{buffer_of, nodes_of, has_failed, pats_tree};
 ghost use Rattle.swc_ecma_parser.specs.Promise.{BoundItems, Promised, PromisedParams, heads_in_boxes, heads_by_number, params_in_boxes, params_by_number};
 
-use crate::heads::parse_arrow_params;
+use crate::arrow_params::parse_arrow_params;
 use crate::parser::{Parser, PatOf};
 use swc_ast::function::Param;
 use swc_bodies::bodies::Bodies;

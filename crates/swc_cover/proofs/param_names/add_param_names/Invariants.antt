@@ -1,7 +1,7 @@
 use Rattle.std.proofs.Common.{◌≡◌, ◌++◌, drop}
 use Rattle.swc_cover.proofs.Named.{heads_of}
 use Rattle.swc_cover.specs.Heads.{all_reserved}
-use Rattle.swc_cover.proofs.heads.add_heads.Given as goal
+use Rattle.swc_cover.proofs.param_names.add_param_names.Given as goal
 
 abbrev pub invariant-loop-i : goal.invariant-loop-i
 invariant-loop-i g l =

@@ -10,7 +10,7 @@ use swc_context::error::PResult;
 use swc_context::span::Span;
 use swc_input::tokens::Tokens;
 use swc_nodes::node::ExprId;
-use swc_productions::pieces::{parse_arguments, parse_template};
+use swc_productions::args::{parse_arguments, parse_template};
 use swc_steps::tokens::Listed;
 
 /// A list in parentheses, over a hook's values, and the place of the comma after its last item.

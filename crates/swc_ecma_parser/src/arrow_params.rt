@@ -8,7 +8,7 @@ use swc_context::error::PResult;
 use swc_cover::refining::parse_paren_items_as_params;
 use swc_input::tokens::Tokens;
 use swc_nodes::node::PatId;
-use swc_productions::pieces::parse_arguments;
+use swc_productions::args::parse_arguments;
 use swc_steps::productions::Productions;
 
 /// The parameters of an arrow function (ECMA-262, 13.2.9 and 15.3), with their parentheses: a list that is read as

@@ -10,7 +10,7 @@ use Rattle.swc_left.specs.Templates.{template_tail}
 use Rattle.swc_left.proofs.Templates as tpl
 use Rattle.swc_steps.proofs.Making as m
 use Rattle.swc_steps.proofs.Steps as s
-use Rattle.swc_productions.proofs.pieces.parse_template.Goals as goal
+use Rattle.swc_productions.proofs.args.parse_template.Goals as goal
 
 pub returns-in_err-start : goal.returns-in_err-start
 returns-in_err-start g c =

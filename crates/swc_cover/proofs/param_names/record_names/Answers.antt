@@ -5,7 +5,7 @@ use Rattle.swc_cover.proofs.FaultsNoted.{none-strict}
 use Rattle.swc_cover.proofs.FaultsNoted as errors
 use Rattle.swc_steps.proofs.{Emitted.unrecorded, Steps.forgoes_later, Steps.strict_checked}
 use Rattle.swc_cover.specs.Noting.{name_error, NotesStrict}
-use Rattle.swc_cover.proofs.heads.record_names.Goals as goal
+use Rattle.swc_cover.proofs.param_names.record_names.Goals as goal
 
 pub loop-span-init : goal.loop-span-init
 loop-span-init g c = (names-none g.met.I.Tokens.laws _ _, omega arith, none-strict _)

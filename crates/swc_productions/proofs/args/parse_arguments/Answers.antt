@@ -7,7 +7,7 @@ use Rattle.swc_left.proofs.Counted.{counted_is}
 use Rattle.swc_productions.proofs.ByThemselves as piece
 use Rattle.swc_steps.proofs.Making as m
 use Rattle.swc_steps.proofs.Steps as s
-use Rattle.swc_productions.proofs.pieces.parse_arguments.Goals as goal
+use Rattle.swc_productions.proofs.args.parse_arguments.Goals as goal
 
 pub returns-in_err-open : goal.returns-in_err-open
 returns-in_err-open g c =

@@ -25,7 +25,7 @@ use swc_nodes::nodes::{Nodes, NodesOf};
 
 /// Records each name `eval` and `arguments` that parameters bind in strict code, in a module; elsewhere these faults
 /// wait.
-pub fn check_heads<I: Tokens, B: Bodies<I>>(
+pub fn check_param_names<I: Tokens, B: Bodies<I>>(
     input: &mut Buffer<I>,
     nodes: &NodesOf<B>,
     pats: &Vec<PatId>,
@@ -43,7 +43,7 @@ pub fn check_heads<I: Tokens, B: Bodies<I>>(
         return Ok(());
     }
     let mut spans = Vec::new(nodes.allocator());
-    match add_heads(&mut spans, nodes, pats) {
+    match add_param_names(&mut spans, nodes, pats) {
         Ok(()) => record_names(input, &spans),
         Err(_) => Err(input.out_of_memory()),
     }
@@ -63,7 +63,7 @@ fn record_names<I: Tokens>(input: &mut Buffer<I>, spans: &Vec<Span>) -> PResult<
 }
 
 /// Adds where parameters bind such names.
-fn add_heads<F: Spanned + Drop, C: Spanned + Drop, K: Spanned + Drop>(
+fn add_param_names<F: Spanned + Drop, C: Spanned + Drop, K: Spanned + Drop>(
     spans: &mut Vec<Span>,
     nodes: &Nodes<F, C, K>,
     pats: &Vec<PatId>,

@@ -4,7 +4,7 @@ use Rattle.swc_cover.proofs.Bound.{names-lax}
 use Rattle.swc_cover.proofs.FaultsNoted.{all-bound, none-bound, none-strict, strict-as}
 use Rattle.swc_cover.specs.{Heads.all_reserved, Heads.names_ok, Refining.pats_at}
 use Rattle.swc_steps.proofs.Steps.{check_passes, forgoes_here}
-use Rattle.swc_cover.proofs.heads.check_heads.Goals as goal
+use Rattle.swc_cover.proofs.param_names.check_param_names.Goals as goal
 
 pub returns-then-not-get_ctx-clause-checks : goal.returns-then-not-get_ctx-clause-checks
 returns-then-not-get_ctx-clause-checks g c =

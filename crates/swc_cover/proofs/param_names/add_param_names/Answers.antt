@@ -1,6 +1,6 @@
 use Rattle.std.proofs.Common.{◌∙◌, arith}
 use Rattle.swc_cover.proofs.Named.{head-from, named-heads-more, named-heads-ended}
-use Rattle.swc_cover.proofs.heads.add_heads.Goals as goal
+use Rattle.swc_cover.proofs.param_names.add_param_names.Goals as goal
 
 pub add_names-requires : goal.add_names-requires
 add_names-requires g c =

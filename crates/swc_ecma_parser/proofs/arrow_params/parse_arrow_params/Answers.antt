@@ -2,7 +2,7 @@ use Rattle.std.proofs.lemmas.Result.{err_from_is_err_and}
 use Rattle.swc_nodes.specs.NodeParts.{args_parts}
 use Rattle.swc_steps.proofs.Building.{apart-down}
 use Rattle.swc_ecma_parser.proofs.ArrowParams.{heads-made, heads-unread}
-use Rattle.swc_ecma_parser.proofs.heads.parse_arrow_params.Goals as goal
+use Rattle.swc_ecma_parser.proofs.arrow_params.parse_arrow_params.Goals as goal
 
 pub returns-in_err-list : goal.returns-in_err-list
 returns-in_err-list g c =

@@ -3,7 +3,7 @@ use Rattle.swc_cover.proofs.Named.{named-pats-ended, named-props-ended, named-is
 use Rattle.swc_cover.specs.Below.{part_size}
 use Rattle.swc_cover.proofs.{Appended.if_ok-as, Fitting.assign-left-below, Fitting.rest-held-below, Recording.pat-elems-below, Recording.pat-props-below}
 use Rattle.swc_nodes.specs.declared.node.Node.TheVariants as n
-use Rattle.swc_cover.proofs.heads.+names.Goals as goal
+use Rattle.swc_cover.proofs.param_names.+names.Goals as goal
 
 pub add_elems_names-add_elem_names-requires : goal.add_elems_names-add_elem_names-requires
 add_elems_names-add_elem_names-requires g t c κs within =
