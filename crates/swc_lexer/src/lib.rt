@@ -1,6 +1,8 @@
 //! The tokens of the parser, made of the lexemes of a text.
 #![tactic(auto)]
 
+mod after;
+mod after_word;
 pub mod comments;
 pub mod input;
 pub mod legacy;

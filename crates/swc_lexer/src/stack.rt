@@ -3,10 +3,10 @@ ghost use Rattle.std.specs.Prelude.{◌≡◌, ◌+◌, ◌<◌, ◌≤◌, leng
 ghost use Rattle.swc_lexer.specs.Places as places;
 ghost use Rattle.swc_lexer.specs.Stacks as stacks;
 
+use crate::after::{after, enters};
 use crate::mark::Mark;
 use crate::place::{
-    Before, Break, Frame, Kind, Open, Place, after, at_break, enters, goal_at, is_brace, keeps,
-    lasts,
+    Before, Break, Frame, Kind, Open, Place, at_break, goal_at, is_brace, keeps, lasts,
 };
 use std::alloc::{AllocError, Global};
 use swc_lexical::scan::Goal;
