@@ -1,7 +1,7 @@
 // What the clients make of texts.
-use crate::row::{Row, show_unread};
-use crate::shown::begin_part;
 use expr_layout::layout::layout;
+use parser_rows::row::{Row, show_unread};
+use parser_rows::shown::{begin_part, show_refused};
 use program_layout::layout::layout as layout_program;
 use program_names::names::{Use, names};
 use reporting::expr::{parse_part, read_expr, read_part};
@@ -65,15 +65,6 @@ pub(crate) fn show_program(alloc: Global, out: &mut String, text: &str) -> Resul
             show_refused(out, &refusal)?;
             out.push_str("\n")
         }
-    }
-}
-
-/// Writes why a text isn't read.
-pub(crate) fn show_refused(out: &mut String, refusal: &Refusal) -> Result<(), AllocError> {
-    match refusal {
-        Refusal::Fault(fault) => write!(out, "{}", fault.brief()),
-        Refusal::TooDeep(span) => write!(out, "nested too deeply {span}"),
-        Refusal::Unclosed { fault, opener } => { write!(out, "{} (open {opener})", fault.brief()) }
     }
 }
 

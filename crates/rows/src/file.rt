@@ -1,7 +1,8 @@
 // Files of rows, written as they are read, with what is answered in place of what they say.
-use crate::clients::show_program;
-use crate::kinds::show_answers;
-use crate::row::{Row, UNREAD};
+use crate::clients::{show_client, show_program};
+use crate::long::show_long;
+use parser_rows::kinds::show_answers;
+use parser_rows::row::{Row, UNREAD, unescaped};
 use std::alloc::{AllocError, Global};
 use std::io;
 use std::io::{ErrorKind, Write};
@@ -209,9 +210,17 @@ fn answer(rt: &HostRuntime, out: &mut String, row: Row<'_>) -> io::Result<()> {
     Ok(out.push_str(found.as_str())?)
 }
 
+/// What the row answers: of a client, of a long text, or of the parser.
 fn answers(alloc: Global, row: Row<'_>) -> Result<String, AllocError> {
     let mut out = String::new(alloc);
-    show_answers(alloc, &mut out, row)?;
+    match row.calls.split_once(": ") {
+        Some(("client", calls)) => {
+            let text = unescaped(alloc, row.text)?;
+            show_client(alloc, &mut out, Row { calls, ..row }, text.as_str())?;
+        }
+        Some(("long", calls)) => show_long(alloc, &mut out, Row { calls, ..row })?,
+        _ => show_answers(alloc, &mut out, row)?,
+    }
     Ok(out)
 }
 

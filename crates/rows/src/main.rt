@@ -3,50 +3,18 @@
 //! The arguments are names of files. Each is read, and its rows are answered; then the lines that aren't as the file
 //! has them are written, and how many there are. With no argument a file is read from standard input, and written with
 //! its answers, each row before it is answered: so after a crash its row is the last line. With the argument `calls`
-//! one row is read from standard input for a run in which a request for memory is refused (refusing.rt).
+//! one row is read from standard input for a run in which a request for memory is refused (`parser_rows::refusing`).
 //!
 //! The status is 1 where a row isn't as its file has it, and 3 where something can't be read. A row that can't be read
 //! is written on standard error.
 #![tactic(auto)]
 
-mod again;
-mod both_ways;
-mod buffers;
-mod calls;
 mod clients;
-mod contexts;
-mod faults;
 mod file;
-mod flags;
-mod hooked;
-mod hooks;
-mod hostile;
-mod kept;
-mod kinds;
-mod lexed;
-mod lexer;
 mod long;
-mod noting;
-mod numbered;
-mod objects;
-mod parsing;
-mod reaching;
-mod refining;
-mod refusing;
-mod row;
-mod runs;
-mod settings;
-mod shown;
-mod slashes;
-mod source;
-mod texts;
-mod tokens;
-mod trees;
-mod waiting;
-mod words;
 
 use crate::file::{compare, write_answered};
-use crate::refusing::lines_of;
+use parser_rows::refusing::lines_of;
 use std::io::{ErrorKind, Read, Write};
 use std::process::ExitCode;
 use std::{env, fs, io, str};
