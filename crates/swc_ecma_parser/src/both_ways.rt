@@ -14,8 +14,7 @@ use swc_context::error::PResult;
 use swc_input::listed::TokensInput;
 use swc_input::token::TokenAndSpan;
 
-/// What a call read of a list of tokens, and the parser that made the call: it has the faults that were recorded, and
-/// reads on after what was read.
+/// The result of a call, and the parser after it, which has the recorded faults.
 #[derive(Drop)]
 pub struct ReadBy<T, B: Bodies<TokensInput>> {
     /// The answer of the call.
@@ -39,16 +38,15 @@ pub struct BothWays<B: Bodies<TokensInput>> {
 /// (`Parser::limit_nesting`; `usize::MAX` is no bound), which tell whether it was met (`Parser::is_too_deep`). Is
 /// refused only when out of memory; what the calls refuse is in the answer.
 ///
-/// The law of the cover grammar (`cover`): in a script, or in a module whose code is strict, and where early errors are
-/// on and not ignored, a list that is read as an arrow's parameters with no fault recorded is read as formal parameters
-/// with none, and both are the same patterns, places apart; then the second parser is before the `)`, and what is
-/// left after that is what the first one left; or memory ran out. The hook has to be faithful, no identifier of
-/// the list may spell a keyword (in a generator `yield` as such a token is a reference, but isn't bound), and in a
-/// static block no pattern may bind `await`.
+/// The law of the cover grammar (`cover`). In a script or a strict module, where early errors are on and not ignored:
+/// if the first call reads parameters with no fault recorded, the second reads the same patterns, apart from spans,
+/// with none, or memory runs out. The second parser is then before the `)`, and the rest is what the first left. The
+/// hook must be faithful, no identifier token may spell a keyword (in a generator `yield` as such a token is a
+/// reference, but isn't bound), and in a static block no pattern may bind `await`.
 ///
-/// And its converse (`converse`): formal parameters after a `(` that are read up to a `)` with no fault recorded, and
-/// bind no word that some mode reserves, nor `await`, `yield`, `eval` or `arguments`, are read as an arrow's
-/// parameters with none, and are the same patterns, places apart; or memory ran out.
+/// The converse (`converse`). If formal parameters after a `(` are read up to a `)` with no fault recorded, and bind no
+/// word that some mode reserves, nor `await`, `yield`, `eval` or `arguments`, the first call reads the same patterns,
+/// apart from spans, with none, or memory runs out.
 pub fn read_both_ways<B: Bodies<TokensInput>>(
     alloc: Global,
     tokens: Vec<TokenAndSpan>,
@@ -68,14 +66,14 @@ pub fn read_both_ways<B: Bodies<TokensInput>>(
     ensures converse { IfOk result (λ w. ConverseLaw B.is_faithful ctx syntax (plain_list tokens.items)
         w.arrow.read w.arrow.parser w.formal.read w.formal.parser) }
 {
-    let behind = behind_first(alloc, &tokens)?;
+    let behind = after_first(alloc, &tokens)?;
     let arrow = read_arrow_params(alloc, tokens, ctx, syntax, target, bodies, levels);
     let formal = read_formal_params(alloc, behind, ctx, syntax, target, again, levels);
     Ok(BothWays { arrow, formal })
 }
 
 /// The tokens after the first one, each an equal one of its own.
-fn behind_first(alloc: Global, tokens: &[TokenAndSpan]) -> Result<Vec<TokenAndSpan>, AllocError>
+fn after_first(alloc: Global, tokens: &[TokenAndSpan]) -> Result<Vec<TokenAndSpan>, AllocError>
     ensures { IfOk result (λ v. plain_list v.items ≡ rest (plain_list tokens.now)) }
 {
     match tokens.split_first() {

@@ -54,25 +54,25 @@ pub type PatOf<B> = Pat<<B as BodyForms>::Fun, <B as BodyForms>::Class, <B as Bo
 
 /// A parser over a source of tokens, with a hook for functions, classes and blocks.
 ///
-/// Each call that answers a `PResult` reads on from where the last one stopped, also after a
-/// refusal, and keeps the context of the source. A fault that leaves a tree is recorded, and handed
-/// out by `take_errors`. Out of memory is refused as `OutOfMemory`, at the end of the token
-/// consumed last; from then on each of these calls refuses, as `ParserFailed` at the token consumed
-/// last.
+/// Each call that returns a `PResult` reads on from where the last one stopped, also after a refusal, and keeps the
+/// context of the source. A fault beside a returned tree is recorded; `take_errors` returns it. Out of memory is
+/// refused as `OutOfMemory`, at the end of the token before. From then on each of these calls is refused as
+/// `ParserFailed`, at the token before.
 ///
-/// Where early errors are on and not ignored, the calls on expressions and patterns answer by the written
-/// grammar: a tree answered with no fault recorded is one that it derives from the tokens consumed
-/// (`sound`), and over a listed source a tree that it derives up to the end or a hard stop is
-/// answered, unless memory runs out (`complete`); no other is derived from all tokens
-/// (`one_tree`); operators group by their precedence (`grouped`), and no `Invalid` stands in for
-/// what was refused (`valid`); patterns bind names alone (`binds`).
+/// Where early errors are on and not ignored, the calls on expressions and patterns follow the written grammar:
 ///
-/// Where the syntax is pedantic (`Syntax::pedantic`), all of these calls but those on pieces of a whole look through
-/// what they are about to answer, arrow functions too. Each property `name = value` of an object literal that is left
-/// in it (ECMA-262, 13.2.5.1) is recorded as `AssignProperty`, at the property, in the order of the source; so a tree
-/// that is answered with no fault recorded has none. The calls on pieces, whose answers may yet become patterns or
-/// parts of them, are `parse_args_or_pats`, `parse_tpl`, `parse_prop_name` and `parse_object_prop`. And `#` and a name
-/// are in such a tree on the left of `in` alone (13.10.1), or name a link (`privates`).
+/// - a tree returned with no fault recorded is derived from the tokens consumed (`sound`);
+/// - over a listed source, with a faithful hook, a tree that is derived up to the end or a hard stop is returned,
+///   unless memory runs out (`complete`);
+/// - no other tree is derived from these tokens (`one_tree`);
+/// - operators group by precedence (`grouped`), no node is `Invalid` (`valid`), and patterns bind only names (`binds`).
+///
+/// Where the syntax is pedantic (`Syntax::pedantic`), the result of a call is searched, arrow functions included, for
+/// properties `name = value` of object literals that are left (ECMA-262, 13.2.5.1). Each is recorded as
+/// `AssignProperty`, at the property, in the order of the source. So a tree returned with no fault recorded has none.
+/// Not searched are results that may yet become patterns or parts of them: those of `parse_args_or_pats`, `parse_tpl`,
+/// `parse_prop_name` and `parse_object_prop`. In such a tree `#` and a name are only on the left of `in` (13.10.1), or
+/// name a link (`privates`).
 pub struct Parser<I: Tokens, B: Bodies<I>> {
     productions: Productions<I, B>,
     commas: TrailingCommas,
@@ -107,8 +107,9 @@ impl<I: Tokens, B: Bodies<I>> Parser<I, B> {
         Parser::over(alloc, Buffer::new(input), bodies)
     }
 
-    /// A parser over a buffer, which may hold tokens already, as one that a hook is lent or that another parser left.
-    /// What it reads are these, and then what the buffer's source gives. Takes no memory, and keeps the context.
+    /// A parser over a buffer, which may already hold tokens: the buffer that a hook was called with, or that another
+    /// parser left. The parser reads these tokens first, and then those of the source. Takes no memory, and keeps the
+    /// context.
     pub fn over(alloc: Global, input: Buffer<I>, bodies: B) -> Parser<I, B>
         ensures buffer { buffer_of result ≡ input }
         ensures hook { hook_of result ≡ bodies }
@@ -134,26 +135,26 @@ impl<I: Tokens, B: Bodies<I>> Parser<I, B> {
         }
     }
 
-    /// Bounds how deeply what later calls read may be nested. What is deeper is refused as `OutOfMemory`, at the end of
-    /// the token consumed last, and the parser has failed; `is_too_deep` tells this from a refused request for memory.
-    /// A new parser has the bound `usize::MAX`, which is none: no list of tokens is as long.
+    /// Bounds how deeply later calls may nest. What is deeper is refused as `OutOfMemory`, at the end of the token
+    /// before, and the parser has failed; `is_too_deep` tells this from a refused request for memory. A new parser has
+    /// the bound `usize::MAX`, which is none.
     ///
     /// A level is an assignment expression, an operand after a prefix operator or `await`, what `new` constructs, or an
     /// array or object pattern. So parentheses, brackets, arguments, templates and bodies of arrow functions each take
-    /// one, and chains of operators or links none. What a hook reads is its own: a parser in it needs a bound of its
-    /// own.
+    /// one, and chains of operators or links none. What a hook reads isn't counted: a parser in a hook needs its own
+    /// bound.
     ///
-    /// At most 20 calls of productions are nested for each level, and 20 more: that is the measure by which they are
-    /// proved to return. How much stack they take is only measured (docs/SPEED.md).
+    /// At most 20 calls of productions are nested for each level, and 20 more. This is proved. How much stack they take
+    /// is only measured (docs/SPEED.md).
     pub fn limit_nesting(&mut self, levels: usize)
         ensures { self.new ≡ with_bound levels self.old }
     {
         self.room = levels;
     }
 
-    /// Whether the parser has failed because a call read what is nested deeper than `limit_nesting` allows. Then that
-    /// call was refused as `OutOfMemory` though no request for memory was refused, and later calls are refused as
-    /// `ParserFailed`: so it stays true. It is never true without a bound.
+    /// Whether the parser has failed because something is nested deeper than `limit_nesting` allows. Then a call was
+    /// refused as `OutOfMemory` though no request for memory was refused, and later calls are refused as
+    /// `ParserFailed`; so it stays true. It is never true without a bound.
     pub fn is_too_deep(&self) -> bool
         ensures told { bound_of self.now ≢ usize.MAX → result ≡ met_bound self.now }
         ensures never { bound_of self.now ≡ usize.MAX → result ≡ false }
@@ -161,7 +162,7 @@ impl<I: Tokens, B: Bodies<I>> Parser<I, B> {
         self.room != usize::MAX && self.productions.too_deep
     }
 
-    /// The source. What is written to it through the answer, and that alone, changes the parser.
+    /// The source. The parser changes only by what is done through the returned reference.
     pub fn input(&mut self) -> &mut I
         ensures* lent { sem 𝓛 (follows (the_row I.row B.row B.Fun.row B.Class.row B.Block.row B.Fun.Spanned
             B.Class.Spanned B.Block.Spanned) I.row self.entry.ghost_name result.ghost_name
@@ -171,8 +172,8 @@ impl<I: Tokens, B: Bodies<I>> Parser<I, B> {
         self.productions.source()
     }
 
-    /// The buffer: what the next token is, and consuming it. What is done to it through the answer, and that alone,
-    /// changes the parser; the next call reads on from there.
+    /// The buffer: what the next token is, and consuming it. The parser changes only by what is done through the
+    /// returned reference, and the next call reads on from there.
     pub fn buffer(&mut self) -> &mut Buffer<I>
         ensures* lent { sem 𝓛 (follows (the_row I.row B.row B.Fun.row B.Class.row B.Block.row B.Fun.Spanned
             B.Class.Spanned B.Block.Spanned) (buffer_row I.row) self.entry.ghost_name result.ghost_name
@@ -182,7 +183,7 @@ impl<I: Tokens, B: Bodies<I>> Parser<I, B> {
         self.productions.buffer()
     }
 
-    /// The hook. What is done to it through the answer, and that alone, changes the parser.
+    /// The hook. The parser changes only by what is done through the returned reference.
     pub fn bodies(&mut self) -> &mut B
         ensures* lent { sem 𝓛 (follows (the_row I.row B.row B.Fun.row B.Class.row B.Block.row B.Fun.Spanned
             B.Class.Spanned B.Block.Spanned) B.row self.entry.ghost_name result.ghost_name
@@ -192,8 +193,8 @@ impl<I: Tokens, B: Bodies<I>> Parser<I, B> {
         self.productions.hook()
     }
 
-    /// The buffer, the nodes and the hook, where the parser is to read no more. Another parser over the buffer reads on
-    /// from the token that is current.
+    /// Takes the parser apart: the buffer, the nodes and the hook. Another parser over the buffer reads on from the
+    /// current token.
     pub fn into_parts(self) -> (Buffer<I>, NodesOf<B>, B)
         ensures buffer { result.0 ≡ buffer_of self }
         ensures nodes { result.1 ≡ nodes_of self }
@@ -208,7 +209,7 @@ impl<I: Tokens, B: Bodies<I>> Parser<I, B> {
         productions.into_parts()
     }
 
-    /// Hands out the faults that were recorded, and none that wait for the context to become a module.
+    /// Returns the recorded faults, and empties their list. Faults that wait for the context to become a module stay.
     pub fn take_errors(&mut self) -> Vec<Error>
         ensures taken { result.items ≡ (state_of I.model (buffer_of self.old)).errors }
         ensures emptied { state_of I.model (buffer_of self.new)
@@ -228,22 +229,22 @@ impl<I: Tokens, B: Bodies<I>> Parser<I, B> {
         self.finish(answer)
     }
 
-    /// Whether `import` and a `.` were read, as in `import.meta`, outside the bodies of arrow functions, by any call so
-    /// far, also by one that was refused. It isn't promised that it is so by what was read.
+    /// Whether any call so far, refused or not, has read `import` and a `.`, as in `import.meta`, outside the bodies of
+    /// arrow functions. No clause relates this to the tokens read.
     pub fn found_module_item(&self) -> bool
         ensures { result ≡ found_import self.now }
     {
         self.productions.found_module_item
     }
 
-    /// The nodes of what `parse_expr_id` read.
+    /// The nodes of what the calls whose names end in `_id` read.
     pub fn nodes(&self) -> &NodesOf<B>
         ensures { result.now ≡ nodes_of self.now }
     {
         &self.productions.nodes
     }
 
-    /// The nodes of what `parse_expr_id` read, where nothing is to be read any more.
+    /// The same nodes, by value.
     pub fn into_nodes(self) -> NodesOf<B>
         ensures { result ≡ nodes_of self }
     {
@@ -256,7 +257,7 @@ impl<I: Tokens, B: Bodies<I>> Parser<I, B> {
         productions.into_nodes()
     }
 
-    /// Lets go of all nodes: the numbers that there were stand for nothing from now on.
+    /// Drops all nodes. Earlier numbers become invalid.
     pub fn clear_nodes(&mut self)
         ensures none { count (nodes_of self.new) ≡ 0 }
         ensures rest { self.new ≡ with_nodes (nodes_of self.new) self.old }
@@ -264,11 +265,11 @@ impl<I: Tokens, B: Bodies<I>> Parser<I, B> {
         self.productions.nodes.cut(0);
     }
 
-    /// The place of a comma after the last element of an array literal, or the last property of an object literal,
-    /// that begins at `start`, a position in bytes: of the one in the last answer that has one there, or that was made
-    /// by `make_object` since. Those in bodies of arrow functions aren't remembered.
+    /// The span of the comma after the last element of the array literal, or the last property of the object literal,
+    /// that begins at `start`, in bytes: of the last such literal that was returned, or made by `make_object`. Those in
+    /// bodies of arrow functions aren't remembered.
     ///
-    /// A tree in boxes has no place for it. Among nodes it is in the literal's own.
+    /// Boxed trees have no field for it. Among nodes it is in the literal's own.
     pub fn trailing_comma(&self, start: BytePos) -> Option<Span>
         ensures { result ≡ comma_at (commas_of self.now) start.0 }
     {
@@ -306,12 +307,12 @@ impl<I: Tokens, B: Bodies<I>> Parser<I, B> {
     /// and 15.9); or `yield` (15.5), in a generator. After a conditional, a binary operator, a prefix operator, `++`
     /// and `--` no assignment is read, and after an arrow function nothing is.
     ///
-    /// The end is refused as `Eof`, where the token consumed last ends. What is left of `=`, is no literal that
-    /// becomes a pattern and can't be written to is recorded as `TS2406`, left of another operator as
-    /// `NotSimpleAssign`; and what isn't an identifier, a member, a property of `super`, in parentheses, an optional
-    /// chain or such a pattern is refused as `InvalidAssignTarget`, all at its place. A literal left of `=` has the
-    /// faults that `reparse_expr_as_pat` records of an `AssignPat`. What follows the middle of a conditional and is no
-    /// `:` is refused as `Expected`, at the current token. `yield` in parameters outside a function is refused as
+    /// The end is refused as `Eof`, where the token consumed last ends. An operand left of `=` that is no literal and
+    /// no valid target is recorded as `TS2406`; left of another operator as `NotSimpleAssign`. What isn't an
+    /// identifier, a member, a property of `super`, an expression in parentheses, an optional chain or such a literal
+    /// is refused as `InvalidAssignTarget`. All three are at the operand. A literal left of `=` has the faults that
+    /// `reparse_expr_as_pat` records of an `AssignPat`. What follows the middle of a conditional and is no `:` is
+    /// refused as `Expected`, at the current token. `yield` in parameters outside a function is refused as
     /// `YieldParamInGen`, at the word; a refusal of its operand is labelled (`WithLabel`) with the place of the word
     /// and of the `*` after it.
     ///
@@ -344,8 +345,8 @@ impl<I: Tokens, B: Bodies<I>> Parser<I, B> {
         self.keep_checked(start, answer)
     }
 
-    /// Operands and the binary operators between them, of any precedence (ECMA-262, 13.6 to 13.13). They don't begin an
-    /// assignment expression: no arrow function is read, and `async` before no function on its line is an identifier.
+    /// Operands and the binary operators between them, of any precedence (ECMA-262, 13.6 to 13.13). No arrow function
+    /// is read, and `async` without `function` on its line is an identifier.
     ///
     /// Records `NullishCoalescingWithLogicalOp` at a node of `||` or `&&` that is an operand of `??`, or has a `??` on
     /// its left. A prefix operator left of `**` is refused as `UnaryInExp`, at the `**`, which was consumed. Where a
@@ -367,8 +368,8 @@ impl<I: Tokens, B: Bodies<I>> Parser<I, B> {
     /// `this`, a literal, a regular expression, a template, an array or object literal, an identifier, `#` and a name
     /// (where the syntax is pedantic, recorded or refused as by `parse_bin_expr`), expressions in parentheses, or a
     /// function or a class, which the hook reads. Outside async code `await` is an identifier where no operand can
-    /// follow: before `)`, `]`, `}`, `,`, `;`, a line break and the end. A unary expression doesn't begin an assignment
-    /// expression: no arrow function is read, and `async` before no function on its line is an identifier.
+    /// follow: before `)`, `]`, `}`, `,`, `;`, a line break and the end. No arrow function is read, and `async` without
+    /// `function` on its line is an identifier.
     ///
     /// A refused operand of `delete`, `void`, `typeof`, `+`, `-`, `~` or `!` is recorded, and a node of `Invalid`
     /// is in its place, at one position, that before the operand; after `++`, `--` and `await` it is refused.

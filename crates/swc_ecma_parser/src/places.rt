@@ -10,9 +10,9 @@ use swc_nodes::lookup::NodeNumber;
 use swc_nodes::node::Node;
 use swc_nodes::nodes::Nodes;
 
-/// The place of the operator of what has the number, in the text that was parsed: of a binary, a prefix or an
-/// assignment operator, or of `++` or `--` (ECMA-262, 13.4 to 13.15). Nodes don't keep it; it is looked for in the
-/// text, after the left operand, and blanks and comments.
+/// The span of a node's operator in the text that was parsed: of a binary, prefix or assignment operator, `++` or `--`
+/// (ECMA-262, 13.4 to 13.15). Nodes don't store it. It is searched for in the text after the left operand, blanks and
+/// comments.
 ///
 /// `None` where the number is of no such node, or the operator isn't there in the text, as in a text that isn't the one
 /// parsed. At the place that is answered the text has the operator (`written`).

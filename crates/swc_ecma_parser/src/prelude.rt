@@ -1,4 +1,4 @@
-//! What most programs over the parser name, for one import: `use swc_ecma_parser::prelude::*;`.
+//! What most programs that use the parser need, in one import: `use swc_ecma_parser::prelude::*;`.
 
 pub use crate::parser::Parser;
 pub use crate::places::operator_span;

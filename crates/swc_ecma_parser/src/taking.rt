@@ -22,7 +22,7 @@ use swc_trees::taking::{
     take_prop, take_tpl,
 };
 
-/// What holds numbers of nodes, and is moved out of them into boxes.
+/// A value with numbers of nodes, which can be moved into boxes.
 pub(crate) trait Take<F: Spanned + Drop, C: Spanned + Drop, K: Spanned + Drop> {
     ghost use Rattle.std.specs.Prelude.{ℕ, List};
     ghost use Rattle.swc_ast.specs.Tree.{Tree};
@@ -53,7 +53,7 @@ pub(crate) trait Take<F: Spanned + Drop, C: Spanned + Drop, K: Spanned + Drop> {
         ensures moved { IfOk result (λ y. tree y ≡ by (bare_at nodes.old) self) };
 }
 
-/// What a call answers once it is whole, so that no cover name may be left in it where the syntax is pedantic.
+/// The result of a call in which no cover name may be left where the syntax is pedantic.
 pub(crate) trait Covers<F: Spanned + Drop, C: Spanned + Drop, K: Spanned + Drop>: Take<F, C, K> {
     /// The places of the cover names that are left in it, in the order of the source.
     fn covers_left(&self, nodes: &Nodes<F, C, K>) -> Result<Vec<Span>, AllocError>

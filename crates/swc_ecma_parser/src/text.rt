@@ -21,17 +21,17 @@ use swc_nodes::nodes::Nodes;
 /// Reads a text in UTF-8 as one expression (ECMA-262, 13.16), in the context and by the syntax, with a parser of its
 /// own, which `levels` bounds (`Parser::limit_nesting`; `usize::MAX` is no bound).
 ///
-/// The tokens are read as the parser asks for them (`TextInput`). What is no token is refused with its kind and place
-/// (`UnterminatedStrLit` and the like), where the parser comes to it; numbers and escapes of old scripts, as `010`, are
-/// recorded in strict code and modules; other refusals are those of `Parser::parse_expr`, and `OutOfMemory`, at 0..0
-/// where the text couldn't be copied. All places are in bytes of the text.
+/// Tokens are read as the parser asks for them (`TextInput`). An invalid token is refused with its kind and span
+/// (`UnterminatedStrLit`, ..) when the parser reaches it. Legacy octal numbers and escapes, as `010`, are recorded in
+/// strict code and modules. Other refusals are those of `Parser::parse_expr`; and `OutOfMemory` at 0..0, if the text
+/// couldn't be copied. Spans are in bytes of the text.
 ///
-/// Where early errors are on and not ignored, and the text has no number or escape of old scripts (`headline`): a tree
-/// answered with no token left after it and no fault recorded is one that the written grammar derives from the text's
-/// tokens, and the only one (`sound`, `one_tree`); and with a faithful hook each tree that it derives from them is
-/// answered so, unless memory runs out or it is nested too deeply (`complete`). The text's tokens are those of the
-/// written lexical grammar. Where the syntax is pedantic, that is so of trees in which no property `name = value` of an
-/// object literal is left (ECMA-262, 13.2.5.1).
+/// The promise (`headline`) holds where early errors are on and not ignored, and the text has no legacy octal number or
+/// escape. A tree returned with no token left and no fault recorded is the only one that the written grammar derives
+/// from the text's tokens (`sound`, `one_tree`). With a faithful hook each tree that it derives from them is returned
+/// so, unless memory runs out or it is nested too deeply (`complete`). The text's tokens are those of the written
+/// lexical grammar. Where the syntax is pedantic, this holds for trees in which no property `name = value` of an object
+/// literal is left (ECMA-262, 13.2.5.1).
 pub fn parse_text_expr<B: Bodies<TextInput>>(
     alloc: Global,
     text: &str,
@@ -59,8 +59,7 @@ pub fn parse_text_expr<B: Bodies<TextInput>>(
 
 /// Reads a text in UTF-8 as one binding pattern (ECMA-262, 14.3.3), as `parse_text_expr` reads an expression.
 ///
-/// Refuses as `Parser::parse_pat` does, and otherwise as that call does. What it answers is judged (`headline`) as by
-/// it.
+/// Refused as `Parser::parse_pat`. `headline` is that of `parse_text_expr`.
 pub fn parse_text_pat<B: Bodies<TextInput>>(
     alloc: Global,
     text: &str,

@@ -19,7 +19,7 @@ use swc_input::tokens::Tokens;
 use swc_nodes::node::{ExprId, PatId};
 use swc_nodes::nodes::NodesOf;
 
-/// What was made of all that a source gives.
+/// The result of reading a whole source.
 #[derive(Drop)]
 pub struct Whole<N, B: BodyForms> {
     /// The number of the expression or pattern, and whether tokens are left after it; or the refusal.

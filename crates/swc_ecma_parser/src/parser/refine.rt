@@ -38,14 +38,14 @@ impl<I: Tokens, B: Bodies<I>> Parser<I, B> {
     /// `InvalidPat`. `Invalid` stays, and has no fault recorded.
     ///
     /// Holes after the last element of an array are dropped. A spread becomes a rest. One that isn't the last is
-    /// recorded as `NonLastRestParam`, and is dropped from an array; the comma after a last one is recorded as
+    /// recorded as `NonLastRestParam`, and in an array it is dropped; the comma after a last one is recorded as
     /// `CommaAfterRestElement`, at the comma, and an initialiser in it as `TS1048`. In a pattern that binds the rest of
     /// an object over anything but an identifier is recorded as `DotsWithoutIdentifier`, and holds `Invalid`. Where a
-    /// pattern is on the left of an assignment already, it is looked at again as one that binds: what is written to
-    /// in it is recorded as `InvalidPat`, and rests of objects as above.
+    /// pattern is on the left of an assignment already, it is looked at again as one that binds: what is written to in
+    /// it is recorded as `InvalidPat`, and rests of objects as above.
     ///
-    /// The call takes stack by how deeply the expression is nested. One that this parser read is no deeper than its
-    /// bound (`limit_nesting`); one that a caller built is as deep as he built it.
+    /// The call takes stack by how deeply the expression is nested. An expression that this parser read is no deeper
+    /// than its bound (`limit_nesting`). One that a caller built may be.
     pub fn reparse_expr_as_pat(
         &mut self,
         pat_type: PatType,
