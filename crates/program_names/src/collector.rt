@@ -3,6 +3,7 @@ use crate::names::{Name, Use};
 use crate::scope::{Binding, Home, Role, Scope, ScopeId, ScopeKind};
 use statement_trees::tree::Program;
 use std::alloc::{AllocError, Global};
+use std::collections::BTreeSet;
 use swc_ecma_parser::ast::ident::Ident;
 use swc_ecma_parser::context::span::Span;
 
@@ -13,6 +14,8 @@ pub(crate) struct Collector<'a> {
     pub(crate) program: &'a Program,
     /// What is done with each expression and each pattern.
     pub(crate) roles: Vec<Role>,
+    /// Where asynchronous arrow functions begin.
+    pub(crate) async_arrows: BTreeSet<u32>,
     pub(crate) scopes: Vec<Scope>,
     pub(crate) bindings: Vec<Binding<'a>>,
     pub(crate) names: Vec<Name<'a>>,
@@ -31,6 +34,7 @@ impl<'a> Collector<'a> {
         Ok(Collector {
             program,
             roles,
+            async_arrows: BTreeSet::new(alloc),
             scopes,
             bindings: Vec::new(alloc),
             names: Vec::new(alloc),

@@ -50,6 +50,7 @@ pub fn names<'a>(alloc: Global, program: &'a Program) -> Result<Vec<Name<'a>>, A
     let Collector {
         program: _,
         roles: _,
+        async_arrows: _,
         scopes,
         bindings,
         mut names,

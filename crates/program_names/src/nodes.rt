@@ -33,6 +33,8 @@ impl<'a> Collector<'a> {
     /// Adds the names of a node.
     fn add_names_of(&mut self, node: &'a AnyNode, role: Role) -> Result<(), AllocError> {
         match node {
+            // `async` before a list in parentheses was read as a name: its node stays, though no part is there.
+            Node::Ident(name) if self.async_arrows.contains(&name.span.lo.0) => Ok(()),
             Node::Ident(name) => self.add_name(name, role),
             Node::PatIdent(name) => self.add_name(&name.id, role),
             Node::Object { props, .. } => self.add_shorthands(props),
@@ -72,8 +74,11 @@ impl<'a> Collector<'a> {
                 span,
                 params,
                 body,
-                ..
+                is_async,
             } => {
+                if *is_async && self.async_arrows.insert(span.lo.0).is_err() {
+                    return Err(AllocError);
+                }
                 let block = match &**body {
                     BlockStmtOrExpr::BlockStmt(block) => Some(*block),
                     BlockStmtOrExpr::Expr(_) => None,
