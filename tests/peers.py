@@ -8,7 +8,8 @@ doesn't; by V8 and SpiderMonkey, which compile it, functions too; and by esbuild
 turns counts. Memory is what show_expr takes at its peak, less what it takes for a short text, in bytes for a byte of the text. Twice is its time
 for the text to that for one of half the size. Instructions are those of a text of 100 kB, in millions, as callgrind counts them.
 
-A parser that isn't installed is left out. They are Debian's node-acorn, nodejs, esbuild, libmozjs-102-dev with g++, and valgrind.
+A parser that isn't installed is left out, and so is esbuild where it takes more than a minute. They are Debian's node-acorn, nodejs, esbuild,
+libmozjs-102-dev with g++, and valgrind.
 """
 import math
 import os
@@ -91,7 +92,7 @@ def measure(program, sm, mode, path, room):
     wrapped = os.path.join(room, 'wrapped.js')
     subprocess.run([*node[:-1], os.path.join(HERE, 'peers.js'), 'wrap', mode, path, wrapped])
     best, memory = dict.fromkeys(['own', *PEERS]), None
-    for _ in range(TURNS):
+    for turn in range(TURNS):
         own = run([program, 'expr', mode], path)
         best['own'] = least(best['own'], own and own[0])
         memory = least(memory, own and own[1])
@@ -99,8 +100,8 @@ def measure(program, sm, mode, path, room):
             best[peer] = least(best[peer], told([*node, peer, mode, path]))
         if sm:
             best['sm'] = least(best['sm'], told([sm, wrapped]))
-        if shutil.which('esbuild'):
-            found = run(['esbuild', '--log-level=error', '--loader=js'], wrapped)
+        if shutil.which('esbuild') and (turn == 0 or best['esbuild']):
+            found = run(['timeout', '60', 'esbuild', '--log-level=error', '--loader=js'], wrapped)
             best['esbuild'] = least(best['esbuild'], found and found[0])
     return best, memory
 
