@@ -31,9 +31,13 @@ def main():
         log = file.read()
     rows = rows_of(log)
     line = '    %-18s%12s%12s%8s'
-    print((line % ('crate', 'functions', 'seconds', 'edits')).rstrip())
-    for name, (count, whole, edits) in [*rows.items(), ('all', map(sum, zip(*rows.values())))]:
+    if rows:
+        rows['all'] = tuple(map(sum, zip(*rows.values())))
+        print((line % ('crate', 'functions', 'seconds', 'edits')).rstrip())
+    for name, (count, whole, edits) in rows.items():
         print((line % (name, count or '', whole, edits or '')).rstrip())
+    if not rows:
+        print('no crate was proved: what earlier runs on this machine have proved is kept')
     took = re.search(r'^the gate took (\d+) seconds.*: (.*)$', log, re.M)
     if took:
         print('\nThe whole run: %d processor seconds, %d minutes on the clock.' % (minutes(took[2]), int(took[1]) // 60))
