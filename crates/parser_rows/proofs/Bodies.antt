@@ -26,12 +26,14 @@ module _ {S : Type 0} (model : Model S) where
   TookOne b c = (t : TokenAndSpan) × Read model b (plain t ∷ []) c × (to_come model c < to_come model b)
 
   -- the tokens xs were read before one was consumed, and ys after it, and the call refuses
-  pub refuses : {V : Type 0} (laws : Laws model) (reads : Reading V) (b c d f : Buffer S) (xs ys : List TokenAndSpan) (e : Error) →
+  pub refuses : {V : Type 0} (laws : Laws model) (reads : Reading V) (b c d f : Buffer S) (xs ys : List TokenAndSpan)
+      (e : Error) →
       Read model b xs c → TookOne c d → Read model d ys f → e.kind ≢ kind.ParserFailed → Hooked model reads b (Err e) f
   refuses laws reads b c d f xs ys e before took after own = record {
     taken = xs ++ (plain took.0 ∷ ys);
     some = let l = length-append xs (plain took.0 ∷ ys) in omega arith;
-    read = Read-then laws b c f xs (plain took.0 ∷ ys) before (Read-then laws c d f (plain took.0 ∷ []) ys took.1 after);
+    read = Read-then laws b c f xs (plain took.0 ∷ ys) before
+        (Read-then laws c d f (plain took.0 ∷ []) ys took.1 after);
     less = let l = took.2 in let m = before.lower in let n = after.lower in omega arith;
     clean = λ loud quiet. tt;
     refused = own;
@@ -64,10 +66,12 @@ module _ {S : Type 0} (model : Model S) where
     refused = tt;
   }
 
-  -- A fault was recorded, from b to c, and then a body was read, to d, and more tokens, to e. Whatever they were that is lawful: where
+  -- A fault was recorded, from b to c, and then a body was read, to d, and more tokens, to e. Whatever they were that
+  -- is lawful: where
   -- faults are recorded, one was.
   pub noisy : {V : Type 0} (laws : Laws model) (reads : Reading V) (b c d e : Buffer S) (r : Result V Error) →
-      ReadSome model b c → (Loud model b → (state_of model c).errors ≢ (state_of model b).errors) → Hooked model reads c r d → ReadSome model d e →
+      ReadSome model b c → (Loud model b → (state_of model c).errors ≢ (state_of model b).errors)
+      → Hooked model reads c r d → ReadSome model d e →
       Hooked model reads b r e
   noisy laws reads b c d e r before recorded h behind = record {
     taken = before.0 ++ (h.taken ++ behind.0);
@@ -76,17 +80,23 @@ module _ {S : Type 0} (model : Model S) where
         let l = length-append before.0 (h.taken ++ behind.0) in
         let m = length-append h.taken behind.0 in
         omega arith;
-    read = Read-then laws b c e before.0 (h.taken ++ behind.0) before.1 (Read-then laws c d e h.taken behind.0 h.read behind.1);
+    read = Read-then laws b c e before.0 (h.taken ++ behind.0) before.1
+        (Read-then laws c d e h.taken behind.0 h.read behind.1);
     less = let l = h.less in let m = before.1.lower in let n = behind.1.lower in omega arith;
     clean = λ loud quiet.
-        let later = Keeps-then (state_of model c).errors (state_of model d).errors (state_of model e).errors h.read.errors behind.1.errors in
-        absurd (recorded loud (unchanged (state_of model b).errors (state_of model c).errors (state_of model e).errors before.1.errors later quiet));
+        let later = Keeps-then (state_of model c).errors (state_of model d).errors
+        (state_of model e).errors h.read.errors behind.1.errors in
+        absurd (recorded loud (unchanged (state_of model b).errors (state_of model c).errors
+        (state_of model e).errors before.1.errors later quiet));
     refused = h.refused;
   }
 
-  -- what a reading gives before all that may come at c, it gives before all that may come at d, where nothing was consumed in between
-  later : {V : Type 0} (laws : Laws model) (reads : List TokenAndSpan → List TokenAndSpan → V → Type 0) (c d : Buffer S) (taken : List TokenAndSpan) (r : Result V Error) → Read model c [] d →
-      IfOk r (λ v. (rest : List TokenAndSpan) → Future model c rest → reads taken rest v) → IfOk r (λ v. (rest : List TokenAndSpan) → Future model d rest → reads taken rest v)
+  -- what a reading gives before all that may come at c, it gives before all that may come at d, where nothing was
+  -- consumed in between
+  later : {V : Type 0} (laws : Laws model) (reads : List TokenAndSpan → List TokenAndSpan → V → Type 0) (c d : Buffer S)
+      (taken : List TokenAndSpan) (r : Result V Error) → Read model c [] d →
+      IfOk r (λ v. (rest : List TokenAndSpan) → Future model c rest → reads taken rest v)
+      → IfOk r (λ v. (rest : List TokenAndSpan) → Future model d rest → reads taken rest v)
   later laws reads c d taken (Ok v) look h = λ rest f. h rest (Future-before laws c d [] rest look.took f)
   later laws reads c d taken (Err e) look h = tt
 
@@ -99,13 +109,16 @@ module _ {S : Type 0} (model : Model S) where
     read = Read-still laws b c d h.taken h.read look;
     less = let l = h.less in let m = look.lower in omega arith;
     clean = λ loud quiet.
-        let same = unchanged (state_of model b).errors (state_of model c).errors (state_of model d).errors h.read.errors look.errors quiet in
-        later laws (λ ts rest v. reads (state_of model b).context (ts ++ rest) ≡ Rattle.std.specs.Prelude.Some (v, rest)) c d h.taken r look (h.clean loud same);
+        let same = unchanged (state_of model b).errors (state_of model c).errors
+        (state_of model d).errors h.read.errors look.errors quiet in
+        later laws (λ ts rest v. reads (state_of model b).context (ts ++ rest) ≡ Rattle.std.specs.Prelude.Some
+        (v, rest)) c d h.taken r look (h.clean loud same);
     refused = h.refused;
   }
 
   -- the source was given a hint that changes nothing, and then looked at
-  pub hinted : (laws : Laws model) (b d : Buffer S) (s : S) → model.gives (source b) [] s → model.state s ≡ model.state (source b) → Read model (with_source s b) [] d →
+  pub hinted : (laws : Laws model) (b d : Buffer S) (s : S) → model.gives (source b) [] s
+      → model.state s ≡ model.state (source b) → Read model (with_source s b) [] d →
       Read model b [] d
   hinted laws b d s gave same look =
       let here : Read model b [] (with_source s b) = record {

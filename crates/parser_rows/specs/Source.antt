@@ -50,16 +50,15 @@ pub record Answered (s : TestInput) (r : Option TokenAndSpan) (t : TestInput) : 
   pub given : NextGiven s r t
   pub ended : s.ended ≡ true → t.ended ≡ true
   pub failed : s.failed ≡ true → t.failed ≡ true
-  pub runs : MatchOption r (t.failed ≡ false → t.ended ≡ true) (λ x. (s.ended ≡ false) × (s.failed ≡ false) × (t.failed ≡ false))
+  pub runs : MatchOption r (t.failed ≡ false → t.ended ≡ true)
+      (λ x. (s.ended ≡ false) × (s.failed ≡ false) × (t.failed ≡ false))
 
 lawful : (s : TestInput) → IsLawful (test_state s)
-lawful s = record {
-  none_waits = (listed_lawful s.list).none_waits;
-  over = λ m h e. cc;
-}
+lawful s = record { none_waits = (listed_lawful s.list).none_waits; over = λ m h e. cc }
 
 -- nothing was given, and the source is as same as it was
-pub stays : (s t : TestInput) → t.list.syntax ≡ s.list.syntax → t.list.target ≡ s.list.target → StillOpen s t → Gave (test_state s) [] (test_state t)
+pub stays : (s t : TestInput) → t.list.syntax ≡ s.list.syntax → t.list.target ≡ s.list.target → StillOpen s t
+    → Gave (test_state s) [] (test_state t)
 stays s t syntax target same = record {
   syntax = syntax;
   target = target;
@@ -94,7 +93,8 @@ test_laws = record {
 }
 
 -- a call of the list alone, which gave nothing
-pub list_called : (s : TestInput) (l : TokensInput) → ListedGives s.list [] l → Gave (test_state s) [] (test_state (record s { list = l }))
+pub list_called : (s : TestInput) (l : TokensInput) → ListedGives s.list [] l
+    → Gave (test_state s) [] (test_state (record s { list = l }))
 list_called s l g = stays s (record s { list = l }) g.syntax g.target (record { ended = refl; failed = refl })
 
 -- a lexer's stack of contexts is no part of the state
@@ -102,7 +102,11 @@ abbrev pub with_contexts : TestInput → TokenContexts → TestInput
 with_contexts s contexts = record s { list = record s.list { contexts = contexts } }
 
 pub test_unmoved : (s : TestInput) (contexts : TokenContexts) → Unmoved test_model s (with_contexts s contexts)
-test_unmoved s contexts = record { gave = stays s (with_contexts s contexts) refl refl (record { ended = refl; failed = refl }); state = refl }
+test_unmoved s contexts = record {
+  gave = stays s (with_contexts s contexts) refl refl
+      (record { ended = refl; failed = refl });
+  state = refl;
+}
 
 keeping : (s t : TestInput) → SameList s.list t.list → Keeping (test_state s) (test_state t)
 keeping s t same = record {

@@ -13,7 +13,8 @@ module _ (b d c : Buffer ProgramInput) (p : PassesOver b d) where
   took xs t = record {
     given = t.given;
     gave = program_laws.joins (source b) (source d) (source c) [] t.given
-        (stays (source b) (source d) (ap (λ n. n.syntax) p.still.notes) (ap (λ n. n.target) p.still.notes) p.still.ended p.still.failed) t.gave;
+        (stays (source b) (source d) (ap (λ n. n.syntax) p.still.notes)
+        (ap (λ n. n.target) p.still.notes) p.still.ended p.still.failed) t.gave;
     balance = ap (λ e. held e ++ t.given) (sym p.rest) ∙ t.balance;
   }
 
@@ -21,12 +22,15 @@ module _ (b d c : Buffer ProgramInput) (p : PassesOver b d) where
   read xs r = record {
     took = took xs r.took;
     context = r.context ∙ ap (λ n. n.context) p.still.notes;
-    errors = subst (λ es. Keeps es (program_model.state (source c)).errors) (ap (λ n. n.errors.items) p.still.notes) r.errors;
-    waiting = subst (λ es. Keeps es (program_model.state (source c)).waiting) (ap (λ n. n.module_errors.items) p.still.notes) r.waiting;
+    errors = subst (λ es. Keeps es (program_model.state (source c)).errors)
+        (ap (λ n. n.errors.items) p.still.notes) r.errors;
+    waiting = subst (λ es. Keeps es (program_model.state (source c)).waiting)
+        (ap (λ n. n.module_errors.items) p.still.notes) r.waiting;
     lower = let same = ap (λ e. length (held e)) p.rest in omega (arith, r.lower, p.lower, same);
   }
 
-  pub passed_over : {V : Type 0} (reads : Reading V) (r : Result V Error) → Hooked program_model reads d r c → Hooked program_model reads b r c
+  pub passed_over : {V : Type 0} (reads : Reading V) (r : Result V Error) → Hooked program_model reads d r c
+      → Hooked program_model reads b r c
   passed_over reads r h = record {
     taken = h.taken;
     some = h.some;
@@ -34,7 +38,8 @@ module _ (b d c : Buffer ProgramInput) (p : PassesOver b d) where
     less = let same = ap (λ e. length (held e)) p.rest in omega (arith, h.less, p.lower, same);
     clean = λ loud same.
         let is_loud : Loud program_model d = ap (λ n. is_silent (listed_state n)) p.still.notes ∙ loud in
-        subst (λ n. IfOk r (λ v. (rest : List TokenAndSpan) → Future program_model c rest → reads n.context (h.taken ++ rest) ≡ Some (v, rest)))
+        subst (λ n. IfOk r (λ v. (rest : List TokenAndSpan) → Future program_model c rest
+        → reads n.context (h.taken ++ rest) ≡ Some (v, rest)))
         p.still.notes (h.clean is_loud (same ∙ sym (ap (λ n. n.errors.items) p.still.notes)));
     refused = h.refused;
   }

@@ -13,10 +13,21 @@ tokens_left s = length s.list.tokens.items - s.at
 
 -- its list isn't promised
 abbrev pub program_state : ProgramInput → Source
-program_state s = record (listed_state s.notes) { failed = s.failed; ended = s.ended; known = None; bound = tokens_left s }
+program_state s = record (listed_state s.notes) {
+  failed = s.failed;
+  ended = s.ended;
+  known = None;
+  bound =
+      tokens_left s;
+}
 
 abbrev pub program_model : Model ProgramInput
-program_model = record { state = program_state; gives = λ s xs t. Gave (program_state s) xs (program_state t); told = λ s h t. ⊤ }
+program_model = record {
+  state = program_state;
+  gives = λ s xs t. Gave (program_state s) xs (program_state t);
+  told =
+      λ s h t. ⊤;
+}
 
 -- whether the source has ended or failed, and what is noted, is what it was
 pub record StillOpen (s t : ProgramInput) : Type 0 where
@@ -30,16 +41,15 @@ pub record Answered (s : ProgramInput) (r : Option TokenAndSpan) (t : ProgramInp
   pub fewer : MatchOption r (tokens_left t ≤ tokens_left s) (λ x. tokens_left t < tokens_left s)
   pub ended : s.ended ≡ true → t.ended ≡ true
   pub failed : s.failed ≡ true → t.failed ≡ true
-  pub runs : MatchOption r (t.failed ≡ false → t.ended ≡ true) (λ x. (s.ended ≡ false) × (s.failed ≡ false) × (t.failed ≡ false))
+  pub runs : MatchOption r (t.failed ≡ false → t.ended ≡ true)
+      (λ x. (s.ended ≡ false) × (s.failed ≡ false) × (t.failed ≡ false))
 
 lawful : (s : ProgramInput) → IsLawful (program_state s)
-lawful s = record {
-  none_waits = (listed_lawful s.notes).none_waits;
-  over = λ m h e. cc;
-}
+lawful s = record { none_waits = (listed_lawful s.notes).none_waits; over = λ m h e. cc }
 
 -- nothing was given
-pub stays : (s t : ProgramInput) → t.notes.syntax ≡ s.notes.syntax → t.notes.target ≡ s.notes.target → t.ended ≡ s.ended → t.failed ≡ s.failed
+pub stays : (s t : ProgramInput) → t.notes.syntax ≡ s.notes.syntax → t.notes.target ≡ s.notes.target → t.ended ≡ s.ended
+    → t.failed ≡ s.failed
     → Gave (program_state s) [] (program_state t)
 stays s t syntax target ended failed = record {
   syntax = syntax;
@@ -75,7 +85,8 @@ program_laws = record {
 }
 
 -- a call of what is kept beside the list
-pub notes_called : (s : ProgramInput) (l : TokensInput) → ListedGives s.notes [] l → Gave (program_state s) [] (program_state (record s { notes = l }))
+pub notes_called : (s : ProgramInput) (l : TokensInput) → ListedGives s.notes [] l
+    → Gave (program_state s) [] (program_state (record s { notes = l }))
 notes_called s l g = stays s (record s { notes = l }) g.syntax g.target refl refl
 
 -- a lexer's stack of contexts is no part of the state
@@ -93,7 +104,8 @@ keeping s t same = record {
   quiet = λ m h. cc;
 }
 
-pub program_asked : (s : ProgramInput) (r : Option TokenAndSpan) (t : ProgramInput) → Answered s r t → Asked program_model s r t
+pub program_asked : (s : ProgramInput) (r : Option TokenAndSpan) (t : ProgramInput) → Answered s r t
+    → Asked program_model s r t
 program_asked s (Some x) t n = record {
   gave = record {
     syntax = ap (λ m. m.syntax) n.notes;

@@ -9,7 +9,8 @@ use Rattle.swc_nodes.specs.declared.nodes.Nodes.{Nodes}
 use Rattle.swc_ecma_parser.specs.WholeList.{plain_list, IsHeeded, Headline}
 use Rattle.show.specs.{Answers.Judged, Answers.Shows, declared.answer.Shown.Shown}
 
-module _ {N : Type 0} {fg cg kg : Ghosts Body} (s : Symbol) (tree : Nodes Body Body Body fg cg kg → N → Tree Body Body Body)
+module _ {N : Type 0} {fg cg kg : Ghosts Body} (s : Symbol)
+    (tree : Nodes Body Body Body fg cg kg → N → Tree Body Body Body)
     (c : Context) (x : Syntax) (ts : List TokenAndSpan) (nodes : Nodes Body Body Body fg cg kg)
     (recorded : List Error) where
   pub judged_of : (read : Result (N × Bool) Error) (shown : Result Shown Error)
@@ -19,10 +20,7 @@ module _ {N : Type 0} {fg cg kg : Ghosts Body} (s : Symbol) (tree : Nodes Body B
     sound = λ whole none. record { tree = tree nodes r.0; reads = h.sound (sym same ∙ whole) none };
     complete = λ d. let found = h.complete refl d.tree d.reads in (same ∙ found.1, found.2);
   }
-  judged_of (Ok r) (Err e) h wanting = record {
-    sound = tt;
-    complete = λ d. wanting;
-  }
+  judged_of (Ok r) (Err e) h wanting = record { sound = tt; complete = λ d. wanting }
   judged_of (Err e) shown h same =
       subst (λ v. Judged s c x ts v recorded) (sym same) (record {
         sound = tt;

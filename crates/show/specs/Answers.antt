@@ -62,4 +62,5 @@ pub data Answers (s : Symbol) (c : Context) (x : Syntax) (text : List ℕ)
 
 -- what was read is shown: whether tokens are left after it, or the refusal; there may be no memory for its text
 abbrev pub Shows : {N : Type 0} → Result (N × Bool) Error → Result Shown Error → Type 0
-Shows read shown = MatchResult read (λ r. MatchResult shown (λ v. v.unread ≡ r.1) (λ e. e.kind ≡ OutOfMemory)) (λ e. shown ≡ Err e)
+Shows read shown = MatchResult read (λ r. MatchResult shown (λ v. v.unread ≡ r.1) (λ e. e.kind ≡ OutOfMemory))
+    (λ e. shown ≡ Err e)

@@ -27,8 +27,10 @@ module _ {S : Type 0} (model : Model S) where
   read_keeps r = (r.context, r.lower)
 
   -- a token that may have been consumed, with what else is said of it
-  pub eaten_keeps : {A B : TokenAndSpan → Type 0} {D : Type 0} {xs : TokenAndSpan → List TokenAndSpan} {b c : Buffer S} (r : Bool)
-      → (r ≡ true → (x : TokenAndSpan) × A x × Read model b (xs x) c × B x) → (r ≡ false → Looked model b c × D) → Keeps model b c
+  pub eaten_keeps : {A B : TokenAndSpan → Type 0} {D : Type 0} {xs : TokenAndSpan → List TokenAndSpan} {b c : Buffer S}
+      (r : Bool)
+      → (r ≡ true → (x : TokenAndSpan) × A x × Read model b (xs x) c × B x) → (r ≡ false → Looked model b c × D)
+      → Keeps model b c
   eaten_keeps true eaten stays = read_keeps (eaten refl).2
   eaten_keeps false eaten stays = looked_keeps (stays refl).0
 
@@ -36,12 +38,14 @@ module _ {S : Type 0} (model : Model S) where
   consumes_keeps b c (Ok t) h = read_keeps h.leads.read
   consumes_keeps b c (Err e) h = read_keeps h.spends.read
 
-  consumes_falls : {T : Type 0} (b c : Buffer S) (r : Result T Error) → Consumes model b r c → OnOk r (to_come model c < to_come model b)
+  consumes_falls : {T : Type 0} (b c : Buffer S) (r : Result T Error) → Consumes model b r c
+      → OnOk r (to_come model c < to_come model b)
   consumes_falls b c (Ok t) h = h.onward.less
   consumes_falls b c (Err e) h = tt
 
   -- a private name has its `#` at least
-  private_falls : (b c : Buffer S) (r : Result PrivateName Error) → SpellsPrivate model b r c → OnOk r (to_come model c < to_come model b)
+  private_falls : (b c : Buffer S) (r : Result PrivateName Error) → SpellsPrivate model b r c
+      → OnOk r (to_come model c < to_come model b)
   private_falls b c (Ok t) h =
       let here = h.sign.looked.look.read.lower in
       let hash = h.sign.took.less in
@@ -54,7 +58,8 @@ module _ {S : Type 0} (model : Model S) where
   acts_keeps b c (Ok t) h = read_keeps h.read
   acts_keeps b c (Err e) h = read_keeps h.spends.read
 
-module _ {S H F C K : Type 0} {fg : Ghosts F} {cg : Ghosts C} {kg : Ghosts K} (model : Model S) (p q : Parser S H F C K fg cg kg) where
+module _ {S H F C K : Type 0} {fg : Ghosts F} {cg : Ghosts C} {kg : Ghosts K} (model : Model S)
+    (p q : Parser S H F C K fg cg kg) where
   same_keeps : q ≡ p → Keeps model (buffer_of p) (buffer_of q)
   same_keeps e =
       let same = ap (λ x. to_come model (buffer_of x)) e in
@@ -72,28 +77,34 @@ module _ {S H F C K : Type 0} {fg : Ghosts F} {cg : Ghosts C} {kg : Ghosts K} (m
   refused A (Err e) h = tt
 
   either_falls : {T : Type 0} {e : Error} (A : Type 0) (r : Result T Error) (failed : Bool) → has_failed p ≡ failed
-      → (has_failed p ≡ true → r ≡ Err e)
-      → (has_failed p ≡ false → OnOk r A) → OnOk r A
+      → (has_failed p ≡ true → r ≡ Err e) → (has_failed p ≡ false → OnOk r A) → OnOk r A
   either_falls A r true h again reads = refused A r (again h)
   either_falls A r false h again reads = reads h
 
-module _ {S H F C K : Type 0} {fg : Ghosts F} {cg : Ghosts C} {kg : Ghosts K} (model : Model S) {p q : Parser S H F C K fg cg kg} where
-  pub promised_keeps : {T : Type 0} {sure : Bool} {hook : Hook F C K} {answer : Answer T F C K fg cg kg} {s : Symbol} {r : Result T Error}
+module _ {S H F C K : Type 0} {fg : Ghosts F} {cg : Ghosts C} {kg : Ghosts K} (model : Model S)
+    {p q : Parser S H F C K fg cg kg} where
+  pub promised_keeps : {T : Type 0} {sure : Bool} {hook : Hook F C K} {answer : Answer T F C K fg cg kg} {s : Symbol}
+      {r : Result T Error}
       → Promised model sure hook answer s p r q → Keeps model (buffer_of p) (buffer_of q)
-  promised_keeps {r = r} h = either model p q (has_failed p) refl (λ f. (h.again f).0) (λ f. consumes_keeps model _ _ r (h.reads f))
+  promised_keeps {r = r} h = either model p q (has_failed p) refl (λ f. (h.again f).0)
+      (λ f. consumes_keeps model _ _ r (h.reads f))
 
-  pub promised_falls : {T : Type 0} {sure : Bool} {hook : Hook F C K} {answer : Answer T F C K fg cg kg} {s : Symbol} {r : Result T Error}
+  pub promised_falls : {T : Type 0} {sure : Bool} {hook : Hook F C K} {answer : Answer T F C K fg cg kg} {s : Symbol}
+      {r : Result T Error}
       → Promised model sure hook answer s p r q → OnOk r (to_come model (buffer_of q) < to_come model (buffer_of p))
   promised_falls {r = r} h = either_falls model p q _ r (has_failed p) refl (λ f. (h.again f).1)
       (λ f. consumes_falls model _ _ r (h.reads f))
 
-  pub head_keeps : {T : Type 0} {sure : Bool} {hook : Hook F C K} {answer : HeadAnswer T F C K fg cg kg} {is_await : Bool} {r : Result T Error}
+  pub head_keeps : {T : Type 0} {sure : Bool} {hook : Hook F C K} {answer : HeadAnswer T F C K fg cg kg}
+      {is_await : Bool} {r : Result T Error}
       → PromisedHead model sure hook answer is_await p r q → Keeps model (buffer_of p) (buffer_of q)
-  head_keeps {r = r} h = either model p q (has_failed p) refl (λ f. (h.again f).0) (λ f. consumes_keeps model _ _ r (h.promise f).reads)
+  head_keeps {r = r} h = either model p q (has_failed p) refl (λ f. (h.again f).0)
+      (λ f. consumes_keeps model _ _ r (h.promise f).reads)
 
   pub body_keeps : {V : Type 0} {sure : Bool} {reads : Reading V} {r : Result V Error}
       → Called (HookReads model sure reads) p r q → Keeps model (buffer_of p) (buffer_of q)
-  body_keeps {r = r} h = either model p q (has_failed p) refl (λ f. (h.again f).0) (λ f. consumes_keeps model _ _ r (h.effect f).consumes)
+  body_keeps {r = r} h = either model p q (has_failed p) refl (λ f. (h.again f).0)
+      (λ f. consumes_keeps model _ _ r (h.effect f).consumes)
 
   pub body_falls : {V : Type 0} {sure : Bool} {reads : Reading V} {r : Result V Error}
       → Called (HookReads model sure reads) p r q → OnOk r (to_come model (buffer_of q) < to_come model (buffer_of p))
@@ -104,23 +115,30 @@ module _ {S H F C K : Type 0} {fg : Ghosts F} {cg : Ghosts C} {kg : Ghosts K} (m
       → Called (ReadsAName model Names) p r q → Keeps model (buffer_of p) (buffer_of q)
   name_keeps h = either model p q (has_failed p) refl (λ f. (h.again f).0) (λ f. read_keeps model (h.effect f).read.1)
 
-  pub spelled_keeps : {T : Type 0} {Names : Buffer S → Result T Error → Buffer S → Type 0} {derives : Derivation Spelling} {kind : NameKind}
+  pub spelled_keeps : {T : Type 0} {Names : Buffer S → Result T Error → Buffer S → Type 0}
+      {derives : Derivation Spelling} {kind : NameKind}
       {view : T → Spelling} {r : Result T Error} → Called (PromisedName model Names derives kind view) p r q
       → Keeps model (buffer_of p) (buffer_of q)
-  spelled_keeps h = either model p q (has_failed p) refl (λ f. (h.again f).0) (λ f. read_keeps model (h.effect f).read.1)
+  spelled_keeps h = either model p q (has_failed p) refl (λ f. (h.again f).0)
+      (λ f. read_keeps model (h.effect f).read.1)
 
-  pub hash_falls : {derives : Derivation Spelling} {kind : NameKind} {view : PrivateName → Spelling} {r : Result PrivateName Error}
+  pub hash_falls : {derives : Derivation Spelling} {kind : NameKind} {view : PrivateName → Spelling}
+      {r : Result PrivateName Error}
       → Called (PromisedName model (SpellsPrivate model) derives kind view) p r q
       → OnOk r (to_come model (buffer_of q) < to_come model (buffer_of p))
   hash_falls {r = r} h = either_falls model p q _ r (has_failed p) refl (λ f. (h.again f).1)
       (λ f. private_falls model _ _ r (h.effect f).names)
 
-  pub literal_keeps : {hook : Hook F C K} {r : Result Lit Error} → Called (PromisedLit model hook) p r q → Keeps model (buffer_of p) (buffer_of q)
-  literal_keeps {r = r} h = either model p q (has_failed p) refl (λ f. (h.again f).0) (λ f. consumes_keeps model _ _ r (h.effect f).reads)
+  pub literal_keeps : {hook : Hook F C K} {r : Result Lit Error} → Called (PromisedLit model hook) p r q
+      → Keeps model (buffer_of p) (buffer_of q)
+  literal_keeps {r = r} h = either model p q (has_failed p) refl (λ f. (h.again f).0)
+      (λ f. consumes_keeps model _ _ r (h.effect f).reads)
 
-  pub params_keep : {T : Type 0} {sure : Bool} {hook : Hook F C K} {answer : ParamsAnswer T F C K fg cg kg} {r : Result T Error}
+  pub params_keep : {T : Type 0} {sure : Bool} {hook : Hook F C K} {answer : ParamsAnswer T F C K fg cg kg}
+      {r : Result T Error}
       → PromisedParams model sure hook answer p r q → Keeps model (buffer_of p) (buffer_of q)
-  params_keep {r = r} h = either model p q (has_failed p) refl (λ f. (h.again f).0) (λ f. acts_keeps model _ _ r (h.acts f))
+  params_keep {r = r} h = either model p q (has_failed p) refl (λ f. (h.again f).0)
+      (λ f. acts_keeps model _ _ r (h.acts f))
 
 -- what is left to do, where as much is due, and no more tokens are to come, or fewer
 module _ (b c : Buffer ProgramInput) (n : ℕ) where
@@ -137,6 +155,7 @@ module _ {T : Type 0} (b c : Buffer ProgramInput) (n : ℕ) (r : Result T Error)
   pub takes_ok : OnOk r (to_come program_model c < to_come program_model b) → OnOk r (effort c n + 5 ≤ effort b n)
   takes_ok h = ok r h
     where
-      ok : (r : Result T Error) → OnOk r (to_come program_model c < to_come program_model b) → OnOk r (effort c n + 5 ≤ effort b n)
+      ok : (r : Result T Error) → OnOk r (to_come program_model c < to_come program_model b)
+          → OnOk r (effort c n + 5 ≤ effort b n)
       ok (Ok t) h = takes_effort b c n h
       ok (Err e) h = tt

@@ -185,8 +185,7 @@ module _ {F C K : Type 0} {fun_at : F → Span} {class_at : C → Span} {block_a
 
   paren_operand : (ts vs ws us : List TokenAndSpan) (s : Span) (es e : Tree F C K)
       → expected is_lparen x ts ≡ Some (s, vs) → args_inside hook false x vs ≡ Some (es, ws)
-      → paren_closed (paren_of x s es) ws ≡ Some (e, us)
-      → Operand hook x ts us e
+      → paren_closed (paren_of x s es) ws ≡ Some (e, us) → Operand hook x ts us e
   paren_operand ts vs ws us s es e h k l =
       let t = expected_took is_lparen x ts s vs h in
       subst (λ v. Operand hook x v us e) (sym t.list)

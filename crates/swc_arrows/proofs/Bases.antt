@@ -44,8 +44,7 @@ module _ {F C K : Type 0} where
   paren_starts false h x ts = refl
 
   async_starts : (b : Bool) → b ≡ true → (x : Scope) (ts : List TokenAndSpan)
-      → at_token is_async_token (first ts) ≡ true
-      → list_opening {F = F} {C = C} {K = K} b x ts ≡ async_opening x ts
+      → at_token is_async_token (first ts) ≡ true → list_opening {F = F} {C = C} {K = K} b x ts ≡ async_opening x ts
   unfolding list_opening
   async_starts true h x ts k = rw k refl
   async_starts false h x ts k = absurd cc

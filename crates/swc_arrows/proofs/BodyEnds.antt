@@ -13,8 +13,7 @@ module _ {F C K : Type 0} {fg : Ghosts F} {cg : Ghosts C} {kg : Ghosts K} (hook 
     (lawful : LawfulHook fg.place cg.place kg.place hook) where
   pub body_ended : {ns : Nodes F C K fg cg kg} {k : ℕ} (b : BlockStmtOrExpr ExprId K) (a : Bool) (x : Scope)
       (ts us : List TokenAndSpan) → Apart k ns (body_parts b) → run hook (at (ArrowBody a)) x ts
-      ≡ Some (body_at ns b, us)
-      → body_end ns b ≡ (span_of (body_at ns b)).hi
+      ≡ Some (body_at ns b, us) → body_end ns b ≡ (span_of (body_at ns b)).hi
   body_ended (body.BlockStmt v) a x ts us p h = refl
   body_ended (body.Expr e) a x ts us p h = ended hook lawful e (ArrowBody a) x ts us (body-from
       (body.Expr e) e refl p) h

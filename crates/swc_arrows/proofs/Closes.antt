@@ -22,8 +22,7 @@ module _ {F C K : Type 0} where
   item_valid (Some d) t h = (both_true {b = true} h).0
 
   held_valid : (by : ExprId → Tree F C K) (xs : List (ExprOrSpread ExprId))
-      → are_valid (trees (map (item_tree by) xs)) ≡ true
-      → are_valid (trees (map by (map (λ x. x.expr) xs))) ≡ true
+      → are_valid (trees (map (item_tree by) xs)) ≡ true → are_valid (trees (map by (map (λ x. x.expr) xs))) ≡ true
   held_valid by [] h = refl
   held_valid by (x ∷ xs) h =
       let b = both_true {a = is_valid (item_tree by x)} h in

@@ -20,8 +20,7 @@ module _ {S : Type 0} {model : Model S} {sure : Bool} where
   -- ---- a fault, and what follows
 
   unfoldable pub doomed_after : {A : Type 0} {f g : Reader A} {b c d : Buffer S} → On model sure f g b c
-      → Doomed model sure g c d
-      → Doomed model sure f b d
+      → Doomed model sure g c d → Doomed model sure f b d
   unfolding leads_then
   doomed_after {f = f} {b = b} {c = c} p h = record {
     leads = leads_then p.leads h.leads;
@@ -38,8 +37,7 @@ module _ {S : Type 0} {model : Model S} {sure : Bool} where
   }
 
   unfoldable pub doomed_later : {A : Type 0} {f : Reader A} {b c d : Buffer S} → Doomed model sure f b c
-      → Leads model c d
-      → Doomed model sure f b d
+      → Leads model c d → Doomed model sure f b d
   doomed_later h p = record {
     leads = leads_then h.leads p;
     notes = λ l. let m = more_recorded p in let n = h.notes l in omega arith;
@@ -90,16 +88,14 @@ module _ {S : Type 0} {model : Model S} {sure : Bool} where
   fails_heard h = record { on = doomed_on h.doomed; onward = h.onward }
 
   pub opens_fails : {A : Type 0} {f g : Reader A} {b c d : Buffer S} → Opens model sure f g b c
-      → Doomed model sure g c d
-      → Fails model sure f b d
+      → Doomed model sure g c d → Fails model sure f b d
   unfolding doomed_after leads_then
   opens_fails h p = record { doomed = doomed_after h.on p; onward = onward_then h.onward p.leads }
 
   -- ---- from a place on, one token after
 
   pub opens_later : {A : Type 0} {f g h : Reader A} {b c d : Buffer S} → Opens model sure f g b c
-      → On model sure g h c d
-      → Opens model sure f h b d
+      → On model sure g h c d → Opens model sure f h b d
   unfolding on_then leads_then
   opens_later p o = record { on = on_then p.on o; onward = onward_then p.onward o.leads }
 
@@ -108,8 +104,7 @@ module _ {S : Type 0} {model : Model S} {sure : Bool} where
   opens_heard h = record { on = h.on; onward = h.onward }
 
   pub opens_after : {A : Type 0} {f g h : Reader A} {b c d : Buffer S} → On model sure f g b c
-      → Opens model sure g h c d
-      → Opens model sure f h b d
+      → Opens model sure g h c d → Opens model sure f h b d
   unfolding on_then leads_then spent
   opens_after p o = record { on = on_then p o.on; onward = onward_later (spent p.leads) o.onward }
 

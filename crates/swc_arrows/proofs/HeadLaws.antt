@@ -221,8 +221,7 @@ module _ {F C K : Type 0} (hook : Hook F C K) (x : Scope) where
       by_arrow : (b : Bool) → is_arrow u.token ≡ b → (w : Bool) → (x.syntax.pedantic && u.had_line_break) ≡ w
           → exec hook (run hook) None (plan (parameter s n)) (u ∷ us) ≡ arrowed s n (u ∷ us)
       by_arrow true e true w = rw (e, w) refl
-      by_arrow true e false w =
-          rw (e, w, expected_is is_arrow x u us e) (calls (run hook (at (ArrowBody true)) x us) _)
+      by_arrow true e false w = rw (e, w, expected_is is_arrow x u us e) (calls (run hook (at (ArrowBody true)) x us) _)
       by_arrow false e true w = rw (e, w, expected_not is_arrow x (u ∷ us) e) refl
       by_arrow false e false w = rw (e, w, expected_not is_arrow x (u ∷ us) e) refl
 
@@ -303,8 +302,7 @@ module _ {F C K : Type 0} (hook : Hook F C K) (x : Scope) (n : x.head ≡ false)
 
   base_goes : (ts : List TokenAndSpan) → at_token is_new (first ts) ≡ false → at_token is_super (first ts) ≡ false
       → at_token is_import (first ts) ≡ false → run hook (at (Base true)) x ts ≡ run hook (at Primary) x ts
-  base_goes ts h k l =
-      knot hook (at (Base true)) x ts ∙ rw (h, k, l) (last hook (Some 9) (at Primary) x ts refl)
+  base_goes ts h k l = knot hook (at (Base true)) x ts ∙ rw (h, k, l) (last hook (Some 9) (at Primary) x ts refl)
 
   async_word : (w : List ℕ) (b : Bool) (s : Span) (us : List TokenAndSpan) → is_text w (codes "async") ≡ true
       → begins_async (tk (token.Word (written.Ident w)) b s ∷ us) ≡ false
@@ -340,8 +338,7 @@ bindable_no x (u ∷ us) h =
 module _ {F C K : Type 0} (hook : Hook F C K) (x : Scope) where
   -- a parameter
   by_param : (o : Option Spelling) (us : List TokenAndSpan) → is_bindable_here x (first us) ≡ true
-      → is_of_alone x.context us ≡ false
-      → exec hook (run hook) None (plan (given o ▸ named_by hook x)) us
+      → is_of_alone x.context us ≡ false → exec hook (run hook) None (plan (given o ▸ named_by hook x)) us
       ≡ (one o us >>= (λ p. async_behind hook p.0 x p.1))
   unfolding async_behind
   by_param None us h e = refl
@@ -360,16 +357,14 @@ module _ {F C K : Type 0} (hook : Hook F C K) (x : Scope) where
 
   by_fault : (o : Option Spelling) (us : List TokenAndSpan) → is_bindable_here x (first us) ≡ true
       → is_of_alone x.context us ≡ true → at_token is_arrow (second us) ≡ false
-      → x.context.expr_ctx.for_await_loop_init ≡ false
-      → exec hook (run hook) None (plan (given o ▸ named_by hook x)) us
+      → x.context.expr_ctx.for_await_loop_init ≡ false → exec hook (run hook) None (plan (given o ▸ named_by hook x)) us
       ≡ (one o us >>= (λ p. async_behind hook p.0 x p.1))
   unfolding async_behind
   by_fault None us h e a w = refl
   by_fault (Some s) us h e a w = param_by hook x s us h ∙ no_arrow s us a ∙ rw (e, w) refl
 
   -- in the head of a `for await`
-  grouped : (o : Out (Tree F C K))
-      → (o >>= (λ l. run hook (updates l.0) x l.1 >>= (λ u. run hook (climb u.0 0) x u.1))
+  grouped : (o : Out (Tree F C K)) → (o >>= (λ l. run hook (updates l.0) x l.1 >>= (λ u. run hook (climb u.0 0) x u.1))
       >>= (λ p. run hook (assigns p.0) x p.1))
       ≡ (o >>= (λ l. run hook (updates l.0) x l.1 >>= (λ u. run hook (climb u.0 0) x u.1
       >>= (λ p. run hook (assigns p.0) x p.1))))
@@ -403,8 +398,7 @@ module _ {F C K : Type 0} (hook : Hook F C K) (x : Scope) where
       is_not false h = refl
 
   before_if : (us : List TokenAndSpan) (w : Bool) → x.context.expr_ctx.for_await_loop_init ≡ w
-      → is_of_alone x.context us ≡ true
-      → (before_of_here x (first us) && not (at_token is_arrow (second us))) ≡ w
+      → is_of_alone x.context us ≡ true → (before_of_here x (first us) && not (at_token is_arrow (second us))) ≡ w
   before_if [] w e h = absurd (no_end x.context.expr_ctx.for_loop_init h)
     where
       no_end : (b : Bool) → (b && false) ≡ true → ⊥

@@ -77,8 +77,7 @@ module _ {F C K : Type 0} (hook : Hook F C K) (x : Scope) where
   heads_told : (s : Span) (a : Bool) (ps : Trees F C K) (t : TokenAndSpan) (us : List TokenAndSpan)
       → exec hook (run hook) None (plan (heads s a (Some ps))) (t ∷ us)
       ≡ told (heads_ok x.context ps) t.had_line_break (is_arrow t.token) (arrow_behind hook s.lo a true ps x us)
-  heads_told s a ps t us =
-      ap (told (heads_ok x.context ps) t.had_line_break (is_arrow t.token)) (body_ends s a ps us)
+  heads_told s a ps t us = ap (told (heads_ok x.context ps) t.had_line_break (is_arrow t.token)) (body_ends s a ps us)
 
   closed_turned : (o : Option (Tree F C K)) (s : Span) (es : Tree F C K) (t : TokenAndSpan) (us : List TokenAndSpan)
       → is_arrow t.token ≡ true → (m b : Bool) → takes_params x.context es ≡ m → t.had_line_break ≡ b
@@ -154,8 +153,7 @@ module _ {F C K : Type 0} (hook : Hook F C K) (x : Scope) where
       by_test false = refl
 
   async_base : x.head ≡ false → (n : Spelling) (es : Tree F C K) (ts : List TokenAndSpan)
-      → at_token is_arrow (first ts) ≡ false
-      → run hook (asyncs n es) x ts
+      → at_token is_arrow (first ts) ≡ false → run hook (asyncs n es) x ts
       ≡ (async_call (ident_e n.at n.text) es x ts >>= (λ p. base_behind hook p.0 x p.1))
   async_base h n es ts k =
       knot hook (asyncs n es) x ts
@@ -220,8 +218,7 @@ module _ {F C K : Type 0} (hook : Hook F C K) (x : Scope) where
       async_base k n es [] refl ∙ sym (closed_base hook lo hi (Some (ident_e n.at n.text)) n.at es x [] refl)
   async_list_reads k lo hi n es (t ∷ us) r = by_arrow (is_arrow t.token) refl
     where
-      by_arrow : (b : Bool) → is_arrow t.token ≡ b
-          → list_behind hook (Some (ident_e n.at n.text)) n.at es x (t ∷ us)
+      by_arrow : (b : Bool) → is_arrow t.token ≡ b → list_behind hook (Some (ident_e n.at n.text)) n.at es x (t ∷ us)
           ≡ list_closed hook lo hi (Some (ident_e n.at n.text)) n.at es x (t ∷ us)
       by_arrow true h =
           async_heads n es t us h
@@ -245,8 +242,7 @@ module _ {F C K : Type 0} (hook : Hook F C K) (x : Scope) where
 module _ {F C K : Type 0} {fg : Ghosts F} {cg : Ghosts C} {kg : Ghosts K} where
   -- items that were read hold nothing that was refused
   pub refines_at : {ns : Nodes F C K fg cg kg} (list : Listed (ExprOrSpread ExprId))
-      → Apart 0 ns (args_parts list.items)
-      → are_valid (items_of (args_at ns list)) ≡ true → Refines (args_at ns list)
+      → Apart 0 ns (args_parts list.items) → are_valid (items_of (args_at ns list)) ≡ true → Refines (args_at ns list)
   refines_at {ns} list a v = record {
     valid = v;
     params = as-elems-is Binding list.trailing_comma array (items_at ns list.items.items)

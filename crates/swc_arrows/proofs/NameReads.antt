@@ -44,8 +44,7 @@ and_false : (a : Bool) → (a && false) ≡ false
 and_false true = refl
 and_false false = refl
 
-pub line_unasked : (x : Scope) (ts : List TokenAndSpan) → x.syntax.pedantic ≡ false
-    → arrow_on_line x ts ≡ Some (tt, ts)
+pub line_unasked : (x : Scope) (ts : List TokenAndSpan) → x.syntax.pedantic ≡ false → arrow_on_line x ts ≡ Some (tt, ts)
 line_unasked x ts h = rw (h, and_false (at_token is_arrow (first ts))) refl
 
 pub line_free : (x : Scope) (ts : List TokenAndSpan) → at_token is_arrow (first ts) ≡ false
@@ -125,8 +124,7 @@ module _ {F C K : Type 0} (hook : Hook F C K) where
   of_splits n x ts = refl
 
   abbrev pub arrow_rest : Spelling → Tree F C K → Scope → List TokenAndSpan → Out (Tree F C K)
-  arrow_rest n t c ts =
-      expected is_arrow c ts >>= (λ q. arrow_behind hook n.at.lo true false (cons t nil) c q.1)
+  arrow_rest n t c ts = expected is_arrow c ts >>= (λ q. arrow_behind hook n.at.lo true false (cons t nil) c q.1)
 
   abbrev pub param_rest : Spelling → Tree F C K → Scope → List TokenAndSpan → Out (Tree F C K)
   param_rest n t c ts = arrow_on_line c ts >>= (λ l. arrow_rest n t c l.1)
@@ -148,8 +146,7 @@ module _ {S H F C K : Type 0} {fg : Ghosts F} {cg : Ghosts C} {kg : Ghosts K} {m
   leaves_after (Ok b) o w h =
       record {
         reads = on_then o h.reads;
-        falls = less
-            (on_then o h.reads).leads;
+        falls = less (on_then o h.reads).leads;
         grows = grows-then w h.grows;
         from = h.from;
       }

@@ -69,8 +69,7 @@ plain_next c t = refl
 -- what is peeked at, and whether a line break is before it
 kind_seen : (c : Context) (o q : Option TokenAndSpan) (a : Option NextKind) (k : NextKind) (r : Bool) → a ≡ Some k
     → MatchOption o (a ≡ None) (λ t. a ≡ Some (next_token c t.token)) → seen_of q ≡ seen_of o
-    → MatchOption q (r ≡ true) (λ t. r ≡ t.had_line_break)
-    → next_kind c (seen_of q) ≡ (if r then next_is.Other else k)
+    → MatchOption q (r ≡ true) (λ t. r ≡ t.had_line_break) → next_kind c (seen_of q) ≡ (if r then next_is.Other else k)
 kind_seen c None q a k r e m s n = cc
 kind_seen c (Some u) None a k r e m s n = cc
 kind_seen c (Some u) (Some w) a k r e m s n =

@@ -54,8 +54,7 @@ statement_ends c ts = if breaks_at (first ts) || at_token ends_statement (first 
 
 -- after `async`: the word `of`, which the head of a `for` doesn't take for a parameter where no `=>` is after it
 abbrev pub is_of_alone : Context → List TokenAndSpan → Bool
-is_of_alone c ts =
-    c.expr_ctx.for_loop_init && (at_token is_of (first ts) && not (at_token is_arrow (second ts)))
+is_of_alone c ts = c.expr_ctx.for_loop_init && (at_token is_of (first ts) && not (at_token is_arrow (second ts)))
 
 abbrev pub of_alone : Scope → List TokenAndSpan → Out Bool
 of_alone c ts = Some (is_of_alone c.context ts, ts)
@@ -79,8 +78,7 @@ module _ {F C K : Type 0} where
 
   -- whether items in parentheses are parameters, as the code checks it
   abbrev pub takes_params : Context → Tree F C K → Bool
-  takes_params c es =
-      is_clear (params_verdict (comma_of es) (items_of es)) && names_ok c (want_items (items_of es))
+  takes_params c es = is_clear (params_verdict (comma_of es) (items_of es)) && names_ok c (want_items (items_of es))
 
   -- the same list as what is in parentheses, or as arguments of `async`
   abbrev pub base_closed : BytePos → BytePos → Option (Tree F C K) → Span → Tree F C K → Scope → List TokenAndSpan
@@ -203,10 +201,8 @@ module _ {F C K : Type 0} (hook : Hook F C K) where
   heads_refined o s es c ts =
       if takes_params c.context es then arrow_behind s.lo (is_some o) true (want_items (items_of es)) c ts else None
 
-  unfoldable pub heads_closed : Option (Tree F C K) → Span → Tree F C K → Scope → List TokenAndSpan
-      → Out (Tree F C K)
-  heads_closed o s es c ts =
-      on_line c ts >>= (λ p. expected is_arrow c p.1 >>= (λ q. heads_refined o s es c q.1))
+  unfoldable pub heads_closed : Option (Tree F C K) → Span → Tree F C K → Scope → List TokenAndSpan → Out (Tree F C K)
+  heads_closed o s es c ts = on_line c ts >>= (λ p. expected is_arrow c p.1 >>= (λ q. heads_refined o s es c q.1))
 
   unfoldable pub list_closed : BytePos → BytePos → Option (Tree F C K) → Span → Tree F C K → Scope
       → List TokenAndSpan → Out (Tree F C K)

@@ -24,7 +24,8 @@ spread_item = refl
 exported_name : (w : List ℕ) → export_name_span (export.Ident (record { span = at 9 10; sym = w })) ≡ at 9 10
 exported_name w = refl
 
-exported_string : (w raw : List ℕ) → export_name_span (export.Str (record { span = at 1 5; value = w; raw = raw })) ≡ at 1 5
+exported_string : (w raw : List ℕ) → export_name_span (export.Str
+    (record { span = at 1 5; value = w; raw = raw })) ≡ at 1 5
 exported_string w raw = refl
 
 module _ (E : Type 0) (expr_at : E → Span) where
@@ -46,19 +47,23 @@ module _ (E : Type 0) (expr_at : E → Span) where
   expr_body K block_at e = refl
 
   -- a, a.b, super.a, (a) and a?.b, as targets
-  name_target : (w : List ℕ) → simple_target_span {E = E} (simple.Ident (record { id = record { span = at 0 1; sym = w } })) ≡ at 0 1
+  name_target : (w : List ℕ) → simple_target_span {E = E}
+      (simple.Ident (record { id = record { span = at 0 1; sym = w } })) ≡ at 0 1
   name_target w = refl
 
-  member_target : (e : E) (p : MemberProp E) → simple_target_span (simple.Member (record { span = at 0 3; obj = e; prop = p })) ≡ at 0 3
+  member_target : (e : E) (p : MemberProp E) → simple_target_span
+      (simple.Member (record { span = at 0 3; obj = e; prop = p })) ≡ at 0 3
   member_target e p = refl
 
-  super_target : (s : Super) (p : SuperProp E) → simple_target_span (simple.SuperProp (record { span = at 0 7; obj = s; prop = p })) ≡ at 0 7
+  super_target : (s : Super) (p : SuperProp E) → simple_target_span
+      (simple.SuperProp (record { span = at 0 7; obj = s; prop = p })) ≡ at 0 7
   super_target s p = refl
 
   paren_target : (e : E) → simple_target_span (simple.Paren (record { span = at 0 3; expr = e })) ≡ at 0 3
   paren_target e = refl
 
-  chain_target : (b : Box (OptChainBase E) Global) → simple_target_span (simple.OptChain (record { span = at 0 4; optional = true; base = b })) ≡ at 0 4
+  chain_target : (b : Box (OptChainBase E) Global) → simple_target_span
+      (simple.OptChain (record { span = at 0 4; optional = true; base = b })) ≡ at 0 4
   chain_target b = refl
 
 module _ (F C K : Type 0) (fun_at : F → Span) (class_at : C → Span) (block_at : K → Span) where
@@ -72,7 +77,8 @@ module _ (F C K : Type 0) (fun_at : F → Span) (class_at : C → Span) (block_a
   abbrev target_at : AssignTarget F C K → Span
   target_at t = span_of (target_tree F C K fun_at class_at block_at t)
 
-  simple_target : (e : E) (p : MemberProp E) → target_at (target.Simple (simple.Member (record { span = at 0 3; obj = e; prop = p }))) ≡ at 0 3
+  simple_target : (e : E) (p : MemberProp E) → target_at
+      (target.Simple (simple.Member (record { span = at 0 3; obj = e; prop = p }))) ≡ at 0 3
   simple_target e p = search (rules, the_lemmas)
 
   array_target : (ps : Vec (Option P) Global) → target_at (target.Array (at 0 3) ps) ≡ at 0 3
@@ -105,10 +111,12 @@ module _ (F C K : Type 0) (fun_at : F → Span) (class_at : C → Span) (block_a
   setter_prop k p b = search (rules, the_lemmas)
 
   -- an item of an object literal: dots and an expression, or a property
-  spread_in_object : (e : E) → span_of (prop_or_spread_tree F C K fun_at class_at block_at (item.Spread (record { span = at 4 8; dot3_token = at 4 7; expr = e }))) ≡ at 4 8
+  spread_in_object : (e : E) → span_of (prop_or_spread_tree F C K fun_at class_at block_at
+      (item.Spread (record { span = at 4 8; dot3_token = at 4 7; expr = e }))) ≡ at 4 8
   spread_in_object e = search (rules, the_lemmas)
 
-  prop_in_object : (p : Box (Prop F C K) Global) → span_of (prop_or_spread_tree F C K fun_at class_at block_at (item.Prop p)) ≡ prop_at p.value
+  prop_in_object : (p : Box (Prop F C K) Global) → span_of
+      (prop_or_spread_tree F C K fun_at class_at block_at (item.Prop p)) ≡ prop_at p.value
   prop_in_object p = search (rules, the_lemmas)
 
   -- the items of an object pattern
@@ -124,5 +132,6 @@ module _ (F C K : Type 0) (fun_at : F → Span) (class_at : C → Span) (block_a
   default_pat : (i : BindingIdent) (e : E) → pat_prop_at (pat_prop.Assign (at 1 6) i (Some e)) ≡ at 1 6
   default_pat i e = search (rules, the_lemmas)
 
-  rest_pat : (p : Box P Global) → pat_prop_at (pat_prop.Rest (record { span = at 1 5; dot3_token = at 1 4; arg = p })) ≡ at 1 5
+  rest_pat : (p : Box P Global) → pat_prop_at (pat_prop.Rest
+      (record { span = at 1 5; dot3_token = at 1 4; arg = p })) ≡ at 1 5
   rest_pat p = search (rules, the_lemmas)

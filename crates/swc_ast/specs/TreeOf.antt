@@ -42,7 +42,8 @@ module _ (F C K : Type 0) (fun_at : F → Span) (class_at : C → Span) (block_a
   expr_step (o.OptChain c) = chain_tree unbox c
   expr_step (o.Tpl t) = tpl_tree unbox t
   expr_step (o.TaggedTpl s t q) = node tagged s (cons t.value (cons (tpl_tree unbox q.value) nil))
-  expr_step (o.Arrow s ps b is_async) = node (arrow is_async) s (cons (body_tree block_at unbox b.value) (trees ps.items))
+  expr_step (o.Arrow s ps b is_async) = node (arrow is_async) s
+      (cons (body_tree block_at unbox b.value) (trees ps.items))
   expr_step (o.Await s a) = node await s (cons a.value nil)
   expr_step (o.Yield s a delegate) = node (yield delegate) s (cons (or_hole unbox a) nil)
   expr_step (o.MetaProp m) = leaf (meta m.kind) m.span
@@ -53,7 +54,8 @@ module _ (F C K : Type 0) (fun_at : F → Span) (class_at : C → Span) (block_a
 
   abbrev pat_prop_step : o.ObjectPatProp-F F C K T T T T T T → T
   pat_prop_step (o.ObjectPatProp::KeyValue s k v) = node key_value s (cons (prop_name_tree unbox k) (cons v.value nil))
-  pat_prop_step (o.ObjectPatProp::Assign s k v) = node binding_prop s (cons (binding_tree k) (cons (or_hole unbox v) nil))
+  pat_prop_step (o.ObjectPatProp::Assign s k v) = node binding_prop s
+      (cons (binding_tree k) (cons (or_hole unbox v) nil))
   pat_prop_step (o.ObjectPatProp::Rest r) = rest_tree (λ t. t) r
 
   abbrev pat_step : o.Pat-F F C K T T T T T T → T
@@ -69,7 +71,8 @@ module _ (F C K : Type 0) (fun_at : F → Span) (class_at : C → Span) (block_a
   prop_step (o.Shorthand i) = node shorthand i.span (cons (ident_tree i) nil)
   prop_step (o.Prop::KeyValue s k v) = node key_value s (cons (prop_name_tree unbox k) (cons v.value nil))
   prop_step (o.Prop::Assign p) = cover_tree unbox p
-  prop_step (o.Method k f) = node method f.value.span (cons (prop_name_tree unbox k) (cons (function_tree block_at (λ t. t) f.value) nil))
+  prop_step (o.Method k f) = node method f.value.span (cons (prop_name_tree unbox k)
+      (cons (function_tree block_at (λ t. t) f.value) nil))
   prop_step (o.Getter s k b) = node getter s (cons (prop_name_tree unbox k) (cons (block_tree b) nil))
   prop_step (o.Setter s k p b) = node setter s (cons (prop_name_tree unbox k) (cons p.value (cons (block_tree b) nil)))
 
@@ -93,7 +96,8 @@ module _ (F C K : Type 0) (fun_at : F → Span) (class_at : C → Span) (block_a
   prop_tree = fold-Prop F C K T T T T T T target_step expr_step pat_prop_step pat_step prop_step item_step
 
   abbrev pub prop_or_spread_tree : PropOrSpread F C K → T
-  prop_or_spread_tree = fold-PropOrSpread F C K T T T T T T target_step expr_step pat_prop_step pat_step prop_step item_step
+  prop_or_spread_tree = fold-PropOrSpread F C K T T T T T T target_step expr_step pat_prop_step pat_step prop_step
+      item_step
 
   -- what is in a box
   abbrev pub boxed_tree : Box (Expr F C K) Global → T

@@ -23,7 +23,8 @@ module _ {S : Type 0} (model : Model S) (reads : Reading Body) (b c : Buffer S) 
       put-found body at r place answer (ap (λ v. v.span) x.0 ∙ f.same) x.1 x.2
 
   -- no body was read
-  pub none-faithful : (e : Error) → Faithful model reads b (Err e) c → Faithful model (mapped_reading lies_at reads) b (Err e) c
+  pub none-faithful : (e : Error) → Faithful model reads b (Err e) c
+      → Faithful model (mapped_reading lies_at reads) b (Err e) c
   none-faithful e faithful = λ loud ts place rest known read.
       let f = found lies_at (reads (state_of model b).context ts) place rest read in
       faithful loud ts f.value rest known f.is

@@ -47,7 +47,8 @@ kept-all ks t (u ∷ us) h k = elim (is_pair t u)
       | true ↦ (λ e.
           let p = pair t u e in
           ap (λ l. kept_on l us) (kept-pair ks t u e)
-          ∙ kept-all ks u us (both (goes_on t (u ∷ us)) (in_order (u ∷ us)) h).1 (ap (λ v. cleared v ks) (sym p.start) ∙ k)
+          ∙ kept-all ks u us (both (goes_on t (u ∷ us)) (in_order (u ∷ us)) h).1
+          (ap (λ v. cleared v ks) (sym p.start) ∙ k)
           ∙ ap (λ l. ks ++ l) (sym (left-out t (u ∷ us) e)))
       | false ↦ (λ e.
           let (g, r) = both (goes_on t (u ∷ us)) (in_order (u ∷ us)) h in

@@ -16,7 +16,8 @@ in_context c b = record { context = c; body = b }
 
 -- A body was read, from the buffer b to c, and put after those that waited, with the context of b; its place is the
 -- answer. The body is what the reading gives (`read`, `faithful`).
-pub record Waits {S : Type 0} (model : Model S) (reads : Reading Body) (h : DeferredBodies) (b : Buffer S) (place : Span) (k : DeferredBodies) (c : Buffer S) : Type 0 where
+pub record Waits {S : Type 0} (model : Model S) (reads : Reading Body) (h : DeferredBodies) (b : Buffer S)
+    (place : Span) (k : DeferredBodies) (c : Buffer S) : Type 0 where
   pub body : Body
   pub lies : place ≡ body.span
   pub kept : waiting k ≡ waiting h ++ in_context (state_of model b).context body ∷ []

@@ -20,11 +20,13 @@ going : (p : Place) (s : Sign) (q : Place) → after p s ≡ Some q → is_end p
 going place.End s q h = cc
 going p s q h = refl
 
-pub taken-end : (from : BytePos) (ts ks : List TokenAndSpan) (to : BytePos) → taken_on from ts place.End ks to ≡ Some (body from ks to, ts)
+pub taken-end : (from : BytePos) (ts ks : List TokenAndSpan) (to : BytePos)
+    → taken_on from ts place.End ks to ≡ Some (body from ks to, ts)
 taken-end from [] ks to = refl
 taken-end from (t ∷ ts) ks to = refl
 
-pub taken-next : (from : BytePos) (t : TokenAndSpan) (ts : List TokenAndSpan) (p q : Place) (ks : List TokenAndSpan) (to : BytePos) →
+pub taken-next : (from : BytePos) (t : TokenAndSpan) (ts : List TokenAndSpan) (p q : Place) (ks : List TokenAndSpan)
+    (to : BytePos) →
     after p (sign_at t) ≡ Some q → taken_on from (t ∷ ts) p ks to ≡ taken_on from ts q (kept ks t) t.span.hi
 taken-next from t ts p q ks to h = let e = going p (sign_at t) q h in rw (e, h, taken_on) refl
 
@@ -43,7 +45,8 @@ last_end-of t [] = refl
 last_end-of t (u ∷ us) = last_end-of u us
 
 -- what is read from a place on is read of its own tokens alone
-record OwnOn (from : BytePos) (ts : List TokenAndSpan) (p : Place) (ks : List TokenAndSpan) (to : BytePos) (v : Body) (rest : List TokenAndSpan) : Type 0 where
+record OwnOn (from : BytePos) (ts : List TokenAndSpan) (p : Place) (ks : List TokenAndSpan) (to : BytePos) (v : Body)
+    (rest : List TokenAndSpan) : Type 0 where
   own : List TokenAndSpan
   list : ts ≡ own ++ rest
   alone : (other : List TokenAndSpan) → taken_on from (own ++ other) p ks to ≡ Some (v, other)
@@ -70,7 +73,8 @@ own-end from ts ks to v rest same left = record {
   span = ap (λ b. b.span) (sym same);
 }
 
-own-next : (from : BytePos) (t : TokenAndSpan) (ts : List TokenAndSpan) (p q : Place) (ks : List TokenAndSpan) (to : BytePos) (v : Body) (rest : List TokenAndSpan) →
+own-next : (from : BytePos) (t : TokenAndSpan) (ts : List TokenAndSpan) (p q : Place) (ks : List TokenAndSpan)
+    (to : BytePos) (v : Body) (rest : List TokenAndSpan) →
     after p (sign_at t) ≡ Some q → OwnOn from ts q (kept ks t) t.span.hi v rest → OwnOn from (t ∷ ts) p ks to v rest
 own-next from t ts p q ks to v rest h o = record {
   own = t ∷ o.own;
@@ -79,24 +83,29 @@ own-next from t ts p q ks to v rest h o = record {
   span = o.span;
 }
 
-own-on : (from : BytePos) (ts : List TokenAndSpan) (p : Place) (ks : List TokenAndSpan) (to : BytePos) (v : Body) (rest : List TokenAndSpan) →
+own-on : (from : BytePos) (ts : List TokenAndSpan) (p : Place) (ks : List TokenAndSpan) (to : BytePos) (v : Body)
+    (rest : List TokenAndSpan) →
     taken_on from ts p ks to ≡ Some (v, rest) → OwnOn from ts p ks to v rest
 own-on from ts place.End ks to v rest h =
     let e : read (body from ks to) ts ≡ read v rest = sym (taken-end from ts ks to) ∙ h in
     own-end from ts ks to v rest (ap (value_or v) e) (ap (rest_or rest) e)
 own-on from [] p ks to v rest h = cc
-own-on from (t ∷ ts) p ks to v rest h = elim (after p (sign_at t)) as (λ o. after p (sign_at t) ≡ o → OwnOn from (t ∷ ts) p ks to v rest) [
-  | None ↦ (λ e. let none = taken-none from (t ∷ ts) p ks to refl e in cc)
-  | Some q ↦ (λ e. own-next from t ts p q ks to v rest e (own-on from ts q (kept ks t) t.span.hi v rest (sym (taken-next from t ts p q ks to e) ∙ h)))
-] refl
+own-on from (t ∷ ts) p ks to v rest h = elim (after p (sign_at t)) as (λ o. after p (sign_at t) ≡ o
+    → OwnOn from (t ∷ ts) p ks to v rest) [
+      | None ↦ (λ e. let none = taken-none from (t ∷ ts) p ks to refl e in cc)
+      | Some q ↦ (λ e. own-next from t ts p q ks to v rest e
+          (own-on from ts q (kept ks t) t.span.hi v rest (sym (taken-next from t ts p q ks to e) ∙ h)))
+    ] refl
 
 -- the tokens that a body takes from its first on are such as it begins with
 abbrev Opens : (Token → Option Place) → (List TokenAndSpan → Bool) → Type 0
 Opens first starts = (t : TokenAndSpan) (own : List TokenAndSpan) (p : Place) (v : Body) → first t.token ≡ Some p →
     taken_on t.span.lo (own ++ []) p (t ∷ []) t.span.hi ≡ Some (v, []) → starts (t ∷ own) ≡ true
 
-owns-from : (first : Token → Option Place) (starts : List TokenAndSpan → Bool) (c : Context) (t : TokenAndSpan) (ts : List TokenAndSpan) (p : Place) (v : Body) (rest : List TokenAndSpan) →
-    Opens first starts → first t.token ≡ Some p → OwnOn t.span.lo ts p (t ∷ []) t.span.hi v rest → ReadsOwn (λ b. b.span) starts (taken first) c (t ∷ ts) v rest
+owns-from : (first : Token → Option Place) (starts : List TokenAndSpan → Bool) (c : Context) (t : TokenAndSpan)
+    (ts : List TokenAndSpan) (p : Place) (v : Body) (rest : List TokenAndSpan) →
+    Opens first starts → first t.token ≡ Some p → OwnOn t.span.lo ts p (t ∷ []) t.span.hi v rest
+    → ReadsOwn (λ b. b.span) starts (taken first) c (t ∷ ts) v rest
 owns-from first starts c t ts p v rest opens h o = record {
   own = t ∷ o.own;
   list = ap (λ l. t ∷ l) o.list;
@@ -106,14 +115,18 @@ owns-from first starts c t ts p v rest opens h o = record {
 }
 
 owns-all : (first : Token → Option Place) (starts : List TokenAndSpan → Bool) → Opens first starts →
-    (c : Context) (ts : List TokenAndSpan) (v : Body) (rest : List TokenAndSpan) → taken first c ts ≡ Some (v, rest) → ReadsOwn (λ b. b.span) starts (taken first) c ts v rest
+    (c : Context) (ts : List TokenAndSpan) (v : Body) (rest : List TokenAndSpan) → taken first c ts ≡ Some (v, rest)
+    → ReadsOwn (λ b. b.span) starts (taken first) c ts v rest
 owns-all first starts opens c [] v rest h = cc
-owns-all first starts opens c (t ∷ ts) v rest h = elim (first t.token) as (λ o. first t.token ≡ o → ReadsOwn (λ b. b.span) starts (taken first) c (t ∷ ts) v rest) [
-  | None ↦ (λ e. let none = rw (e, taken) at h in cc)
-  | Some p ↦ (λ e. owns-from first starts c t ts p v rest opens e (own-on t.span.lo ts p (t ∷ []) t.span.hi v rest (rw (e, taken) at h)))
-] refl
+owns-all first starts opens c (t ∷ ts) v rest h = elim
+    (first t.token) as (λ o. first t.token ≡ o → ReadsOwn (λ b. b.span) starts (taken first) c (t ∷ ts) v rest) [
+      | None ↦ (λ e. let none = rw (e, taken) at h in cc)
+      | Some p ↦ (λ e. owns-from first starts c t ts p v rest opens e
+          (own-on t.span.lo ts p (t ∷ []) t.span.hi v rest (rw (e, taken) at h)))
+    ] refl
 
-taken-reading : (first : Token → Option Place) (starts : List TokenAndSpan → Bool) → Opens first starts → IsReading (λ b. b.span) starts (taken first)
+taken-reading : (first : Token → Option Place) (starts : List TokenAndSpan → Bool) → Opens first starts
+    → IsReading (λ b. b.span) starts (taken first)
 taken-reading first starts opens = record { owns = owns-all first starts opens; viewed = λ c ts. refl }
 
 place_if-true : (p q : Place) (b : Bool) → place_if p b ≡ Some q → b ≡ true
@@ -134,32 +147,37 @@ place_if-same : (p q : Place) (b : Bool) → place_if p b ≡ Some q → q ≡ p
 place_if-same p q true h = cc
 place_if-same p q false h = cc
 
-async-first : (b : Bool) (t : Token) (p : Place) → b ≡ false → or_async b t ≡ Some p → (is_async t ≡ true) × (p ≡ place.Async)
+async-first : (b : Bool) (t : Token) (p : Place) → b ≡ false → or_async b t ≡ Some p
+    → (is_async t ≡ true) × (p ≡ place.Async)
 async-first true t p e h = cc
 async-first false t p e h = (place_if-true place.Async p (is_async t) h, place_if-same place.Async p (is_async t) h)
 
-wanted-here : (from : BytePos) (u : TokenAndSpan) (us ks : List TokenAndSpan) (to : BytePos) (v : Body) (rest : List TokenAndSpan) →
+wanted-here : (from : BytePos) (u : TokenAndSpan) (us ks : List TokenAndSpan) (to : BytePos) (v : Body)
+    (rest : List TokenAndSpan) →
     taken_on from (u ∷ us) place.Async ks to ≡ Some (v, rest) → (is_function u.token && not u.had_line_break) ≡ true
 wanted-here from u us ks to v rest h = elim (is_function u.token && not u.had_line_break)
     as (λ b. (is_function u.token && not u.had_line_break) ≡ b → (is_function u.token && not u.had_line_break) ≡ true) [
       | true ↦ (λ e. e)
-      | false ↦ (λ e. let none = taken-none from (u ∷ us) place.Async ks to refl (wanted u.token u.had_line_break e) in cc)
+      | false ↦ (λ e. let none = taken-none from (u ∷ us) place.Async ks to refl (wanted u.token u.had_line_break e) in
+          cc)
     ] refl
 
 opens-function : Opens function_first begins_function
-opens-function t [] p v h alone = elim (is_function t.token) as (λ b. is_function t.token ≡ b → begins_function (t ∷ []) ≡ true) [
-  | true ↦ (λ e. rw e refl)
-  | false ↦ (λ e.
-      let a = async-first (is_function t.token) t.token p e h in
-      let none = subst (λ q. taken_on t.span.lo [] q (t ∷ []) t.span.hi ≡ Some (v, [])) a.1 alone in absurd cc)
-] refl
-opens-function t (u ∷ us) p v h alone = elim (is_function t.token) as (λ b. is_function t.token ≡ b → begins_function (t ∷ u ∷ us) ≡ true) [
-  | true ↦ (λ e. rw e refl)
-  | false ↦ (λ e.
-      let a = async-first (is_function t.token) t.token p e h in
-      let there = subst (λ q. taken_on t.span.lo (u ∷ us ++ []) q (t ∷ []) t.span.hi ≡ Some (v, [])) a.1 alone in
-      rw (e, a.0, wanted-here t.span.lo u (us ++ []) (t ∷ []) t.span.hi v [] there) refl)
-] refl
+opens-function t [] p v h alone = elim (is_function t.token) as (λ b. is_function t.token ≡ b
+    → begins_function (t ∷ []) ≡ true) [
+      | true ↦ (λ e. rw e refl)
+      | false ↦ (λ e.
+          let a = async-first (is_function t.token) t.token p e h in
+          let none = subst (λ q. taken_on t.span.lo [] q (t ∷ []) t.span.hi ≡ Some (v, [])) a.1 alone in absurd cc)
+    ] refl
+opens-function t (u ∷ us) p v h alone = elim (is_function t.token) as (λ b. is_function t.token ≡ b
+    → begins_function (t ∷ u ∷ us) ≡ true) [
+      | true ↦ (λ e. rw e refl)
+      | false ↦ (λ e.
+          let a = async-first (is_function t.token) t.token p e h in
+          let there = subst (λ q. taken_on t.span.lo (u ∷ us ++ []) q (t ∷ []) t.span.hi ≡ Some (v, [])) a.1 alone in
+          rw (e, a.0, wanted-here t.span.lo u (us ++ []) (t ∷ []) t.span.hi v [] there) refl)
+    ] refl
 
 -- the laws of the hook
 pub token_forms_read : LawfulHook (λ (b : Body). b.span) (λ (b : Body). b.span) (λ (b : Body). b.span) token_forms

@@ -1,4 +1,5 @@
--- Hooks whose values are functions of another hook's values. Such a hook reads what the other reads, and its laws follow.
+-- Hooks whose values are functions of another hook's values. Such a hook reads what the other reads, and its laws
+-- follow.
 use Rattle.std.proofs.Common.{◌≡◌, Bool, List, Option, Some, None, refl, sym, ap, ◌∙◌}
 use Rattle.swc_context.specs.{declared.context.Context.Context, declared.span.Span.Span}
 use Rattle.swc_input.specs.declared.token.TokenAndSpan.{TokenAndSpan}
@@ -28,7 +29,8 @@ module _ {V W : Type 0} (f : V → W) where
   rest_or ts None = ts
   rest_or ts (Some r) = r.1
 
-  pub found : (o : Option (V × List TokenAndSpan)) (w : W) (rest : List TokenAndSpan) → mapped o ≡ Some (w, rest) → Found o w rest
+  pub found : (o : Option (V × List TokenAndSpan)) (w : W) (rest : List TokenAndSpan) → mapped o ≡ Some (w, rest)
+      → Found o w rest
   found None w rest h = cc
   found (Some (v, ts)) w rest h = record {
     value = v;
@@ -37,7 +39,8 @@ module _ {V W : Type 0} (f : V → W) where
   }
 
   module _ (place : W → Span) (starts : List TokenAndSpan → Bool) (reads : Reading V) where
-    own : IsReading (λ v. place (f v)) starts reads → (c : Context) (ts : List TokenAndSpan) (w : W) (rest : List TokenAndSpan) →
+    own : IsReading (λ v. place (f v)) starts reads → (c : Context) (ts : List TokenAndSpan) (w : W)
+        (rest : List TokenAndSpan) →
         mapped_reading reads c ts ≡ Some (w, rest) → ReadsOwn place starts (mapped_reading reads) c ts w rest
     own laws c ts w rest h =
         let x = found (reads c ts) w rest h in
@@ -68,7 +71,8 @@ module _ {F C K G D L : Type 0} (fun : F → G) (class : C → D) (block : K →
   }
 
   -- Lawful where the other is, if its values lie where those lie that they are made of.
-  pub mapped_forms_read : (fun_place : G → Span) (class_place : D → Span) (block_place : L → Span) (forms : Hook F C K) →
+  pub mapped_forms_read : (fun_place : G → Span) (class_place : D → Span) (block_place : L → Span)
+      (forms : Hook F C K) →
       LawfulHook (λ v. fun_place (fun v)) (λ v. class_place (class v)) (λ v. block_place (block v)) forms →
       LawfulHook fun_place class_place block_place (mapped_forms forms)
   mapped_forms_read fun_place class_place block_place forms laws = record {

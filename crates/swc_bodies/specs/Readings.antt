@@ -51,12 +51,14 @@ abbrev pub whole_span : List TokenAndSpan → Span
 whole_span [] = record { lo = record { 0 = 0 }; hi = record { 0 = 0 } }
 whole_span (t ∷ ts) = from_to t.span.lo (last_of t ts).span.hi
 
--- From a context and the tokens to come: a value and the tokens left, or nothing. So there is at most one reading from each place.
+-- From a context and the tokens to come: a value and the tokens left, or nothing. So there is at most one reading from
+-- each place.
 abbrev pub Reading : Type 0 → Type 0
 Reading V = Context → List TokenAndSpan → Option (V × List TokenAndSpan)
 
 -- the tokens xs were read as v from a list that goes on with rest
-pub record ReadsOwn {V : Type 0} (place : V → Span) (starts : List TokenAndSpan → Bool) (reads : Reading V) (c : Context) (ts : List TokenAndSpan) (v : V) (rest : List TokenAndSpan) : Type 0 where
+pub record ReadsOwn {V : Type 0} (place : V → Span) (starts : List TokenAndSpan → Bool) (reads : Reading V)
+    (c : Context) (ts : List TokenAndSpan) (v : V) (rest : List TokenAndSpan) : Type 0 where
   pub own : List TokenAndSpan
   pub list : ts ≡ own ++ rest
   pub begins : starts own ≡ true
@@ -65,8 +67,10 @@ pub record ReadsOwn {V : Type 0} (place : V → Span) (starts : List TokenAndSpa
   pub span : place v ≡ whole_span own
 
 -- the laws of a hook's reading
-pub record IsReading {V : Type 0} (place : V → Span) (starts : List TokenAndSpan → Bool) (reads : Reading V) : Type 0 where
-  pub owns : (c : Context) (ts : List TokenAndSpan) (v : V) (rest : List TokenAndSpan) → reads c ts ≡ Some (v, rest) → ReadsOwn place starts reads c ts v rest
+pub record IsReading {V : Type 0} (place : V → Span) (starts : List TokenAndSpan → Bool)
+    (reads : Reading V) : Type 0 where
+  pub owns : (c : Context) (ts : List TokenAndSpan) (v : V) (rest : List TokenAndSpan) → reads c ts ≡ Some (v, rest)
+      → ReadsOwn place starts reads c ts v rest
   pub viewed : (c : Context) (ts : List TokenAndSpan) → reads c ts ≡ reads (view c) ts
 
 -- what a hook reads: functions, classes and blocks
@@ -76,7 +80,8 @@ pub record Hook (F C K : Type 0) : Type 0 where
   pub block : Reading K
 
 -- the laws of a hook, where its values lie at the places given
-pub record LawfulHook {F C K : Type 0} (fun_place : F → Span) (class_place : C → Span) (block_place : K → Span) (forms : Hook F C K) : Type 0 where
+pub record LawfulHook {F C K : Type 0} (fun_place : F → Span) (class_place : C → Span) (block_place : K → Span)
+    (forms : Hook F C K) : Type 0 where
   pub fun : IsReading fun_place begins_function forms.fun
   pub class : IsReading class_place (begins is_class) forms.class
   pub block : IsReading block_place (begins is_brace) forms.block
@@ -86,23 +91,28 @@ abbrev pub Loud : {S : Type 0} → Model S → Buffer S → Type 0
 Loud model b = is_silent (model.state (source b)) ≡ false
 
 module _ {S V : Type 0} (model : Model S) where
-  -- A call of a hook, from b to c, that answered r: it took a token at least, and fewer are to come. Where faults are recorded, and it
-  -- answers a value and records none, the value is what the reading gives, whatever comes after. Of a source that fails nothing is
+  -- A call of a hook, from b to c, that answered r: it took a token at least, and fewer are to come. Where faults are
+  -- recorded, and it
+  -- answers a value and records none, the value is what the reading gives, whatever comes after. Of a source that fails
+  -- nothing is
   -- asked: then the parser answers out of memory, in place of r.
   pub record Hooked (reads : Reading V) (b : Buffer S) (r : Result V Error) (c : Buffer S) : Type 0 where
     pub taken : List TokenAndSpan
     pub some : 1 ≤ length taken
     pub read : Read model b taken c
     pub less : to_come model c < to_come model b
-    pub clean : Loud model b → (model.state (source c)).errors ≡ (model.state (source b)).errors → IfOk r (λ v. (rest : List TokenAndSpan)
+    pub clean : Loud model b → (model.state (source c)).errors ≡ (model.state (source b)).errors
+        → IfOk r (λ v. (rest : List TokenAndSpan)
         → Future model c rest → reads (model.state (source b)).context (taken ++ rest) ≡ Some (v, rest))
     pub refused : IfErr r (λ e. e.kind ≢ ParserFailed)
 
-  -- Over a listed source, and where faults are recorded, a faithful hook reads cleanly what its reading gives, or answers out of memory.
+  -- Over a listed source, and where faults are recorded, a faithful hook reads cleanly what its reading gives, or
+  -- answers out of memory.
   abbrev pub Faithful : Reading V → Buffer S → Result V Error → Buffer S → Type 0
   Faithful reads b r c = Loud model b → (ts : List TokenAndSpan) (v : V) (rest : List TokenAndSpan) → Known model b ts →
       reads (model.state (source b)).context ts ≡ Some (v, rest) →
-      MatchResult r (λ w. (w ≡ v) × (Known model c rest) × ((model.state (source c)).errors ≡ (model.state (source b)).errors))
+      MatchResult r (λ w. (w ≡ v) × (Known model c rest)
+      × ((model.state (source c)).errors ≡ (model.state (source b)).errors))
       (λ e. e.kind ≡ OutOfMemory)
 
 -- nothing is read
@@ -112,10 +122,12 @@ no_reading c ts = None
 abbrev pub no_forms : {F C K : Type 0} → Hook F C K
 no_forms = record { fun = no_reading; class = no_reading; block = no_reading }
 
-none_is_reading : {V : Type 0} (place : V → Span) (starts : List TokenAndSpan → Bool) → IsReading place starts no_reading
+none_is_reading : {V : Type 0} (place : V → Span) (starts : List TokenAndSpan → Bool)
+    → IsReading place starts no_reading
 none_is_reading place starts = record { owns = λ c ts v rest h. cc; viewed = λ c ts. refl }
 
-pub no_forms_read : {F C K : Type 0} (fun_place : F → Span) (class_place : C → Span) (block_place : K → Span) → LawfulHook fun_place class_place block_place no_forms
+pub no_forms_read : {F C K : Type 0} (fun_place : F → Span) (class_place : C → Span) (block_place : K → Span)
+    → LawfulHook fun_place class_place block_place no_forms
 no_forms_read fun_place class_place block_place = record {
   fun = none_is_reading fun_place begins_function;
   class = none_is_reading class_place (begins is_class);

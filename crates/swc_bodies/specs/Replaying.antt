@@ -1,4 +1,5 @@
--- What is taken as tokens is taken without the slashes at which regular expressions were found too, and the same is kept
+-- What is taken as tokens is taken without the slashes at which regular expressions were found too, and the same is
+-- kept
 -- of it.
 use Rattle.std.proofs.Common.{◌≡◌, ◌≤◌, zero, suc, Bool, true, false, ◌&&◌, List, [], ◌∷◌, ◌++◌, Option, Some, None, refl, sym, ap, ◌∙◌}
 use Rattle.std.proofs.lemmas.Bool.{eqb-true, leb-true}
@@ -133,8 +134,7 @@ module _ (from : BytePos) where
 
   -- past a slash and the regular expression found at it
   past-pair : (t u : TokenAndSpan) (us : List TokenAndSpan) (p q : Place) (ks : List TokenAndSpan) (to : BytePos)
-      → is_pair t u ≡ true → after p (sign_at t) ≡ Some q
-      → (after p (sign_at u) ≡ Some p)
+      → is_pair t u ≡ true → after p (sign_at t) ≡ Some q → (after p (sign_at u) ≡ Some p)
       × (taken_on from (t ∷ u ∷ us) p ks to ≡ taken_on from us p (kept ks u) u.span.hi)
   past-pair t u us p q ks to h a =
       let w = pair t u h in

@@ -19,7 +19,8 @@ abbrev pub agree : Bool → Bool → Bool
 agree true b = b
 agree false b = not b
 
--- a slash, and the regular expression found at it: this begins where the slash does, which isn't empty, and has its mark
+-- a slash, and the regular expression found at it: this begins where the slash does, which isn't empty, and has its
+-- mark
 -- of a line break
 abbrev pub is_pair : TokenAndSpan → TokenAndSpan → Bool
 is_pair a b =

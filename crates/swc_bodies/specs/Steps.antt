@@ -13,16 +13,19 @@ wanting (Unexpected what) = Some what
 wanting k = None
 
 module _ {S : Type 0} (model : Model S) where
-  -- Why no body was answered: out of memory, at the end of the token consumed last; or the current token, which may not be in the
+  -- Why no body was answered: out of memory, at the end of the token consumed last; or the current token, which may not
+  -- be in the
   -- body, or is an error token, or the end.
   pub data NoBody (e : Error) (c : Buffer S) : Type 0 where
     wanted_memory : e ≡ no_memory (last_position c) → NoBody e c
-    refused_token : (b : Buffer S) (k : SyntaxError) → wanting k ≡ Some wanted.LBrace → Refused model b (λ here. unfit (current here) (last_position here) k) e c → NoBody e c
+    refused_token : (b : Buffer S) (k : SyntaxError) → wanting k ≡ Some wanted.LBrace
+        → Refused model b (λ here. unfit (current here) (last_position here) k) e c → NoBody e c
 
   -- over a listed source nothing was recorded, nor set waiting
   abbrev pub Quiet : Buffer S → Buffer S → Type 0
   Quiet b c = (m : List TokenAndSpan) → (model.state (source b)).known ≡ Some m
-      → ((model.state (source c)).errors ≡ (model.state (source b)).errors) × ((model.state (source c)).waiting ≡ (model.state (source b)).waiting)
+      → ((model.state (source c)).errors ≡ (model.state (source b)).errors)
+      × ((model.state (source c)).waiting ≡ (model.state (source b)).waiting)
 
   -- no body is read: the current token was consumed, and is refused where it lies
   pub record Declines {V : Type 0} (b : Buffer S) (r : Result V Error) (c : Buffer S) : Type 0 where
@@ -34,7 +37,8 @@ module _ {S : Type 0} (model : Model S) where
     pub refused : r ≡ Err (record { span = token.span; kind = Unexpected wanted.LBrace })
 
   -- the current token was consumed; it was kept after the tokens ts, which are us then, or memory ran out
-  pub record KeepsOne (b : Buffer S) (ts : List TokenAndSpan) (r : Result (Unit {0}) Error) (us : List TokenAndSpan) (c : Buffer S) : Type 0 where
+  pub record KeepsOne (b : Buffer S) (ts : List TokenAndSpan) (r : Result (Unit {0}) Error) (us : List TokenAndSpan)
+      (c : Buffer S) : Type 0 where
     pub token : TokenAndSpan
     pub current : current b ≡ Some token
     pub read : Read model b (plain token ∷ []) c

@@ -97,8 +97,10 @@ at_current p (Some t) = after p (sign_at t)
 abbrev pub body : BytePos → List TokenAndSpan → BytePos → Body
 body from ks to = record { span = from_to from to; tokens = ks }
 
--- What is read from a place on, of a body that began at the position, where these tokens were kept, and the token taken last ended there.
-abbrev pub taken_on : BytePos → List TokenAndSpan → Place → List TokenAndSpan → BytePos → Option (Body × List TokenAndSpan)
+-- What is read from a place on, of a body that began at the position, where these tokens were kept, and the token taken
+-- last ended there.
+abbrev pub taken_on : BytePos → List TokenAndSpan → Place → List TokenAndSpan → BytePos
+    → Option (Body × List TokenAndSpan)
 taken_on from [] p ks to = elim (is_end p) [ true ↦ Some (body from ks to, []) | false ↦ None ]
 taken_on from (t ∷ ts) p ks to = elim (is_end p) [
   | true ↦ Some (body from ks to, t ∷ ts)

@@ -18,13 +18,15 @@ abbrev pub of_length : ℕ → List Keyword → List Keyword
 of_length n [] = []
 of_length n (k ∷ ks) = if nat_eq n (length (keyword_text k)) then k ∷ of_length n ks else of_length n ks
 
-skip : (w : List ℕ) (ks : List Keyword) (at : ℕ) (k : Keyword) → slice_get ks at ≡ Some k → false ≡ is_text w (keyword_text k) → keyword_among w (drop (suc at) ks) ≡ keyword_among w (drop at ks)
+skip : (w : List ℕ) (ks : List Keyword) (at : ℕ) (k : Keyword) → slice_get ks at ≡ Some k
+    → false ≡ is_text w (keyword_text k) → keyword_among w (drop (suc at) ks) ≡ keyword_among w (drop at ks)
 skip w [] zero k h f = cc
 skip w [] (suc at) k h f = cc
 skip w (x ∷ ks) zero k h f = let e : x ≡ k = cc in rw (e, ← f) refl
 skip w (x ∷ ks) (suc at) k h f = skip w ks at k h f
 
-hit : (w : List ℕ) (ks : List Keyword) (at : ℕ) (k : Keyword) → slice_get ks at ≡ Some k → true ≡ is_text w (keyword_text k) → Some k ≡ keyword_among w (drop at ks)
+hit : (w : List ℕ) (ks : List Keyword) (at : ℕ) (k : Keyword) → slice_get ks at ≡ Some k
+    → true ≡ is_text w (keyword_text k) → Some k ≡ keyword_among w (drop at ks)
 hit w [] zero k h f = cc
 hit w [] (suc at) k h f = cc
 hit w (x ∷ ks) zero k h f = let e : x ≡ k = cc in rw (e, ← f) refl
@@ -34,16 +36,20 @@ over : (w : List ℕ) (ks : List Keyword) → length ks ≡ 0 → None ≡ keywo
 over w [] h = refl
 over w (k ∷ ks) h = absurd (omega (arith, h))
 
-pub among_hit : (w : List ℕ) (ks : List Keyword) (at : ℕ) (k : Keyword) (t : List ℕ) → AmongTo w ks at → slice_get ks at ≡ Some k → t ≡ keyword_text k → true ≡ is_text w t → Some k ≡ keyword_among w ks
+pub among_hit : (w : List ℕ) (ks : List Keyword) (at : ℕ) (k : Keyword) (t : List ℕ) → AmongTo w ks at
+    → slice_get ks at ≡ Some k → t ≡ keyword_text k → true ≡ is_text w t → Some k ≡ keyword_among w ks
 among_hit w ks at k t i h e f = hit w ks at k h (f ∙ ap (is_text w) e) ∙ i.left
 
-pub among_over : (w : List ℕ) (ks : List Keyword) (at : ℕ) → AmongTo w ks at → length ks ≤ at → None ≡ keyword_among w ks
+pub among_over : (w : List ℕ) (ks : List Keyword) (at : ℕ) → AmongTo w ks at → length ks ≤ at
+    → None ≡ keyword_among w ks
 among_over w ks at i h = over w (drop at ks) (let l = length-drop at ks in omega (arith, l, h)) ∙ i.left
 
-pub among_next : (w : List ℕ) (ks : List Keyword) (at : ℕ) (k : Keyword) (t : List ℕ) → AmongTo w ks at → at < length ks → slice_get ks at ≡ Some k → t ≡ keyword_text k → false ≡ is_text w t → AmongTo w ks (at + 1)
+pub among_next : (w : List ℕ) (ks : List Keyword) (at : ℕ) (k : Keyword) (t : List ℕ) → AmongTo w ks at → at < length ks
+    → slice_get ks at ≡ Some k → t ≡ keyword_text k → false ≡ is_text w t → AmongTo w ks (at + 1)
 among_next w ks at k t i m h e f = record {
   within = omega (arith, m);
-  left = (let n : at + 1 ≡ suc at = omega arith in ap (λ j. keyword_among w (drop j ks)) n ∙ skip w ks at k h (f ∙ ap (is_text w) e) ∙ i.left);
+  left = (let n : at + 1 ≡ suc at = omega arith in ap (λ j. keyword_among w (drop j ks)) n ∙ skip w ks at k h
+      (f ∙ ap (is_text w) e) ∙ i.left);
 }
 
 -- a keyword of another length isn't found
@@ -51,34 +57,47 @@ by_length : (w : List ℕ) (ks : List Keyword) → keyword_among w ks ≡ keywor
 by_length w [] = refl
 by_length w (k ∷ ks) =
     ⊎_elim (λ t. rw t.0 (ap (λ r. if is_text w (keyword_text k) then Some k else r) (by_length w ks)))
-    (λ f. let u : is_text w (keyword_text k) ≡ false = unequal ◌==◌ w (keyword_text k) f.1 in rw (f.0, u) (by_length w ks))
+    (λ f. let u : is_text w (keyword_text k) ≡ false = unequal ◌==◌ w (keyword_text k) f.1 in
+    rw (f.0, u) (by_length w ks))
     (eqb_tells (length w) (length (keyword_text k)))
 
-found : (w : List ℕ) (n : ℕ) (r : Option Keyword) → length w ≡ n → r ≡ keyword_among w (of_length n keywords) → r ≡ keyword_of w
+found : (w : List ℕ) (n : ℕ) (r : Option Keyword) → length w ≡ n → r ≡ keyword_among w (of_length n keywords)
+    → r ≡ keyword_of w
 found w n r is e = e ∙ sym (by_length w keywords ∙ ap (λ m. keyword_among w (of_length m keywords)) is)
 
-pub found_2 : (w : List ℕ) (r : Option Keyword) → length w ≡ 2 → r ≡ keyword_among w (keyword.Do ∷ keyword.If ∷ keyword.In ∷ []) → r ≡ keyword_of w
+pub found_2 : (w : List ℕ) (r : Option Keyword) → length w ≡ 2
+    → r ≡ keyword_among w (keyword.Do ∷ keyword.If ∷ keyword.In ∷ []) → r ≡ keyword_of w
 found_2 w r is e = found w 2 r is e
 
-pub found_3 : (w : List ℕ) (r : Option Keyword) → length w ≡ 3 → r ≡ keyword_among w (keyword.For ∷ keyword.Let ∷ keyword.New ∷ keyword.Try ∷ keyword.Var ∷ []) → r ≡ keyword_of w
+pub found_3 : (w : List ℕ) (r : Option Keyword) → length w ≡ 3
+    → r ≡ keyword_among w (keyword.For ∷ keyword.Let ∷ keyword.New ∷ keyword.Try ∷ keyword.Var ∷ []) → r ≡ keyword_of w
 found_3 w r is e = found w 3 r is e
 
-pub found_4 : (w : List ℕ) (r : Option Keyword) → length w ≡ 4 → r ≡ keyword_among w (keyword.Case ∷ keyword.Else ∷ keyword.This ∷ keyword.Void ∷ keyword.With ∷ []) → r ≡ keyword_of w
+pub found_4 : (w : List ℕ) (r : Option Keyword) → length w ≡ 4
+    → r ≡ keyword_among w (keyword.Case ∷ keyword.Else ∷ keyword.This ∷ keyword.Void ∷ keyword.With ∷ [])
+    → r ≡ keyword_of w
 found_4 w r is e = found w 4 r is e
 
-pub found_5 : (w : List ℕ) (r : Option Keyword) → length w ≡ 5 → r ≡ keyword_among w (keyword.Await ∷ keyword.Break ∷ keyword.Catch ∷ keyword.Class ∷ keyword.Const ∷ keyword.Super ∷ keyword.Throw ∷ keyword.While ∷ keyword.Yield ∷ []) → r ≡ keyword_of w
+pub found_5 : (w : List ℕ) (r : Option Keyword) → length w ≡ 5
+    → r ≡ keyword_among w (keyword.Await ∷ keyword.Break ∷ keyword.Catch ∷ keyword.Class ∷ keyword.Const ∷ keyword.Super
+    ∷ keyword.Throw ∷ keyword.While ∷ keyword.Yield ∷ []) → r ≡ keyword_of w
 found_5 w r is e = found w 5 r is e
 
-pub found_6 : (w : List ℕ) (r : Option Keyword) → length w ≡ 6 → r ≡ keyword_among w (keyword.Delete ∷ keyword.Export ∷ keyword.Import ∷ keyword.Return ∷ keyword.Switch ∷ keyword.TypeOf ∷ []) → r ≡ keyword_of w
+pub found_6 : (w : List ℕ) (r : Option Keyword) → length w ≡ 6
+    → r ≡ keyword_among w (keyword.Delete ∷ keyword.Export ∷ keyword.Import ∷ keyword.Return ∷ keyword.Switch
+    ∷ keyword.TypeOf ∷ []) → r ≡ keyword_of w
 found_6 w r is e = found w 6 r is e
 
-pub found_7 : (w : List ℕ) (r : Option Keyword) → length w ≡ 7 → r ≡ keyword_among w (keyword.Default_ ∷ keyword.Extends ∷ keyword.Finally ∷ []) → r ≡ keyword_of w
+pub found_7 : (w : List ℕ) (r : Option Keyword) → length w ≡ 7
+    → r ≡ keyword_among w (keyword.Default_ ∷ keyword.Extends ∷ keyword.Finally ∷ []) → r ≡ keyword_of w
 found_7 w r is e = found w 7 r is e
 
-pub found_8 : (w : List ℕ) (r : Option Keyword) → length w ≡ 8 → r ≡ keyword_among w (keyword.Continue ∷ keyword.Debugger ∷ keyword.Function ∷ []) → r ≡ keyword_of w
+pub found_8 : (w : List ℕ) (r : Option Keyword) → length w ≡ 8
+    → r ≡ keyword_among w (keyword.Continue ∷ keyword.Debugger ∷ keyword.Function ∷ []) → r ≡ keyword_of w
 found_8 w r is e = found w 8 r is e
 
-pub found_10 : (w : List ℕ) (r : Option Keyword) → length w ≡ 10 → r ≡ keyword_among w (keyword.InstanceOf ∷ []) → r ≡ keyword_of w
+pub found_10 : (w : List ℕ) (r : Option Keyword) → length w ≡ 10 → r ≡ keyword_among w (keyword.InstanceOf ∷ [])
+    → r ≡ keyword_of w
 found_10 w r is e = found w 10 r is e
 
 pub none_0 : (w : List ℕ) → length w ≡ 0 → None ≡ keyword_of w

@@ -109,14 +109,12 @@ module _ {S : Type 0} {model : Model S} where
   whole-then true false h k = record {
     leads = leads_then h.leads k.leads;
     passes = λ w. cc;
-    notes = λ g n l. let a =
-        k.notes refl (loud_after h.leads l) in let m = more_recorded h.leads in omega arith;
+    notes = λ g n l. let a = k.notes refl (loud_after h.leads l) in let m = more_recorded h.leads in omega arith;
   }
   whole-then false names h k = record {
     leads = leads_then h.leads k.leads;
     passes = λ w. cc;
-    notes = λ g n l. let a =
-        h.notes g refl l in let m = more_recorded k.leads in omega arith;
+    notes = λ g n l. let a = h.notes g refl l in let m = more_recorded k.leads in omega arith;
   }
 
   -- ---- the ends of loops

@@ -111,8 +111,7 @@ module _ {F C K : Type 0} where
     prop-same k rest s (cons d (cons p nil)) ts h e = rw (
       ident-rebound p h,
       keep-is d,
-      rest-is Rebind s d p
-          (ident-ok p h),
+      rest-is Rebind s d p (ident-ok p h),
       e,
     ) refl
     prop-same k j s us ts h e = cc

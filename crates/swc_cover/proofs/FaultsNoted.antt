@@ -23,7 +23,8 @@ errors-all fs gs i same le = ap errors_of (take_all i fs le ∙ same)
 
 pub names-more : (ss : List Span) (i : ℕ) (d : Span) → i < length ss
     → map name_error (take (i + 1) ss) ≡ map name_error (take i ss) ++ name_error (get_or ss i d) ∷ []
-names-more ss i d lt = ap (map name_error) (take_more ss i d lt) ∙ map-append name_error (take i ss) (get_or ss i d ∷ [])
+names-more ss i d lt = ap (map name_error) (take_more ss i d lt) ∙ map-append name_error (take i ss)
+    (get_or ss i d ∷ [])
 
 pub names-all : (ss us : List Span) (i : ℕ) → ss ≡ us → length ss ≤ i → map name_error (take i ss) ≡ map name_error us
 names-all ss us i same le = ap (map name_error) (take_all i ss le ∙ same)

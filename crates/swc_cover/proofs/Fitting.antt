@@ -157,8 +157,7 @@ module _ {F C K : Type 0} {fg : Ghosts F} {cg : Ghosts C} {kg : Ghosts K} where
           within = f.within;
           above = f.above;
           first = f.first;
-          view =
-              simple-expr (seat_at ns u.0).form f.view;
+          view = simple-expr (seat_at ns u.0).form f.view;
         };
       }
 
@@ -174,8 +173,7 @@ module _ {F C K : Type 0} {fg : Ghosts F} {cg : Ghosts C} {kg : Ghosts K} where
           within = f.within;
           above = f.above;
           first = f.first;
-          view =
-              pattern-pat (seat_at ns u.0).form f.view;
+          view = pattern-pat (seat_at ns u.0).form f.view;
         };
       }
 

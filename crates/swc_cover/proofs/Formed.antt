@@ -93,8 +93,7 @@ module _ {F C K : Type 0} (at : ℕ → Tree F C K) where
   elems-formed [] h = tt
   elems-formed (x ∷ xs) h = (
     elem-formed x (parts-left (if_some item_parts x) (flat (if_some item_parts) xs) h),
-    elems-formed xs
-        (parts-right (if_some item_parts x) (flat (if_some item_parts) xs) h),
+    elems-formed xs (parts-right (if_some item_parts x) (flat (if_some item_parts) xs) h),
   )
 
   pub items-formed : (xs : List (ExprOrSpread ExprId)) → Parts (flat item_parts xs) →
@@ -102,8 +101,7 @@ module _ {F C K : Type 0} (at : ℕ → Tree F C K) where
   items-formed [] h = tt
   items-formed (x ∷ xs) h = (
     item-formed x.spread (at x.expr.0) (h (expr_part x.expr) (inl refl)),
-    items-formed xs
-        (parts-right (item_parts x) (flat item_parts xs) h),
+    items-formed xs (parts-right (item_parts x) (flat item_parts xs) h),
   )
 
 module _ {F C K : Type 0} (fun_at : F → Span) (class_at : C → Span) (block_at : K → Span) (at : ℕ → Tree F C K) where
@@ -120,8 +118,7 @@ module _ {F C K : Type 0} (fun_at : F → Span) (class_at : C → Span) (block_a
   props-formed [] h = tt
   props-formed (y ∷ ys) h = (
     prop-formed y (parts-left at (prop_parts y) (flat prop_parts ys) h),
-    props-formed ys
-        (parts-right at (prop_parts y) (flat prop_parts ys) h),
+    props-formed ys (parts-right at (prop_parts y) (flat prop_parts ys) h),
   )
 
   -- ---- patterns
@@ -154,8 +151,7 @@ module _ {F C K : Type 0} (fun_at : F → Span) (class_at : C → Span) (block_a
   pat-props-formed [] h = tt
   pat-props-formed (y ∷ ys) h = (
     pat-prop-formed y (parts-left at (pat_prop_parts y) (flat pat_prop_parts ys) h),
-    pat-props-formed ys
-        (parts-right at (pat_prop_parts y) (flat pat_prop_parts ys) h),
+    pat-props-formed ys (parts-right at (pat_prop_parts y) (flat pat_prop_parts ys) h),
   )
 
   -- ---- nodes
@@ -171,8 +167,7 @@ module _ {F C K : Type 0} (fun_at : F → Span) (class_at : C → Span) (block_a
   )
   node-formed (n.Assign s o (target.Pat u) r) v h q = (
     λ e. h (target_part (target.Pat u)) (inl refl),
-    λ e. let z : true ≡ false = sym
-        (q (target_part (target.Pat u)) (inl refl)) ∙ e in cc,
+    λ e. let z : true ≡ false = sym (q (target_part (target.Pat u)) (inl refl)) ∙ e in cc,
   )
   node-formed (n.PatArray s es) v h q = cc
   node-formed (n.PatObject s ps) v h q = cc

@@ -16,8 +16,7 @@ module _ {F C K : Type 0} {fg : Ghosts F} {cg : Ghosts C} {kg : Ghosts K} where
       sym (take-take n k ks.nodes.items le) ∙ ap (take n) h.kept ∙ take-take n k ms.nodes.items le ∙ cut_kept g in
       record {
         more = drop n ks.nodes.items;
-        appended = sym (take-append-drop n ks.nodes.items)
-            ∙ ap (λ v. v ++ drop n ks.nodes.items) front;
+        appended = sym (take-append-drop n ks.nodes.items) ∙ ap (λ v. v ++ drop n ks.nodes.items) front;
       }
 
   pub kept-to : {ns ms : Nodes F C K fg cg kg} {k : ℕ} → KeptBelow k ns ms → KeptTo k ns ms
@@ -39,8 +38,7 @@ module _ {F C K : Type 0} {fg : Ghosts F} {cg : Ghosts C} {kg : Ghosts K} where
   kept-less {ns} {ms} {j} {k} le h =
       let a = h.above in
       record {
-        kept = sym (take-take j k ms.nodes.items le) ∙ ap (take j) h.kept
-            ∙ take-take j k ns.nodes.items le;
+        kept = sym (take-take j k ms.nodes.items le) ∙ ap (take j) h.kept ∙ take-take j k ns.nodes.items le;
         above = omega arith;
       }
 

@@ -71,8 +71,7 @@ module _ {F C K : Type 0} where
   item-bound : (o : Option Span) (s t : Tree F C K) (us vs : Trees F C K) → s ≡ want wanted.Bind t →
       us ≡ want_parts wanted.Array wanted.Bind array vs →
       cons (item_of o s) us ≡ want_parts wanted.Array wanted.Bind array (cons (item_of o t) vs)
-  item-bound None s t us vs e f =
-      ap (λ v. cons (item_of None v) us) e ∙ ap (cons (item_of None (want wanted.Bind t))) f
+  item-bound None s t us vs e f = ap (λ v. cons (item_of None v) us) e ∙ ap (cons (item_of None (want wanted.Bind t))) f
   item-bound (Some d) s t us vs e f =
       ap (λ v. cons (item_of (Some d) v) us) e ∙ ap (cons (item_of (Some d) (want wanted.Bind t))) f
 

@@ -53,8 +53,7 @@ remains-ends {was} {now} {next} {whole} {left} {r} u v e h x m =
     let on = e ∙ also-ends u v r x.refused h in
     record {
       faults = x.faults ∙ sym (m.faults ∙ ap (λ w. now ++ w.faults) on);
-      refused = sym
-          (m.refused ∙ ap (λ w. w.refused) on);
+      refused = sym (m.refused ∙ ap (λ w. w.refused) on);
     }
 
 pub remains-none : {was now : List Fault} {whole left : Verdict} → left ≡ clean → Remains was whole now left →
@@ -62,8 +61,7 @@ pub remains-none : {was now : List Fault} {whole left : Verdict} → left ≡ cl
 remains-none {was} {now} {whole} {left} e m =
     record {
       faults = sym (m.faults ∙ ap (λ w. now ++ w.faults) e ∙ append-nil now);
-      refused = sym
-          (m.refused ∙ ap (λ w. w.refused) e);
+      refused = sym (m.refused ∙ ap (λ w. w.refused) e);
     }
 
 module _ {F C K : Type 0} {fg : Ghosts F} {cg : Ghosts C} {kg : Ghosts K} where

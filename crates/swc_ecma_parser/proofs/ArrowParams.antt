@@ -1,4 +1,5 @@
--- The parameters of an arrow function (ECMA-262, 13.2.9 and 15.3), from what the code reads to what is promised of them.
+-- The parameters of an arrow function (ECMA-262, 13.2.9 and 15.3), from what the code reads to what is promised of
+-- them.
 use Rattle.std.proofs.Common.{◌≡◌, ◌≢◌, ℕ, Bool, true, false, ◌&&◌, if◌then◌else◌, List, [], ◌∷◌, ◌++◌, Option, Some, None, Result, Ok, Err, IfOk, IfErr, map, refl, sym, ap, subst, ◌∙◌}
 use Rattle.std.specs.{declared.alloc.Global.Global, declared.vec.Vec.Vec}
 use Rattle.swc_context.specs.{declared.error.Error.Error, declared.error.SyntaxError.TheVariants.OutOfMemory, declared.span.Span.Span}
@@ -127,7 +128,8 @@ module _ {F C K : Type 0} (hook : Hook F C K) where
 
 -- ---- what the steps of the code read
 
-module _ {S A B : Type 0} {model : Model S} {sure : Bool} {f g : Reader A} {q : Reader B} {t : B} {u : A} {b c d : Buffer S} where
+module _ {S A B : Type 0} {model : Model S} {sure : Bool} {f g : Reader A} {q : Reader B} {t : B} {u : A}
+    {b c d : Buffer S} where
   -- what was read, and what is read after it, where that is known to be what q read
   pub heard_behind : (k : Scope → B × List TokenAndSpan → Out A) → ((x : Scope) (ts : List TokenAndSpan)
       → f x ts ≡ (q x ts >>= k x)) → Heard model sure q t b c → ((x : Scope) (ts us : List TokenAndSpan)
@@ -138,18 +140,21 @@ module _ {S A B : Type 0} {model : Model S} {sure : Bool} {f g : Reader A} {q : 
 
 module _ {F C K : Type 0} (x : Scope) (es : Tree F C K) (us : List TokenAndSpan) where
   -- a list that is parameters, and one that isn't
-  made_goes : takes_params x.context es ≡ true → made_heads es x us ≡ Some (node args no_span (want_items (items_of es)), us)
+  made_goes : takes_params x.context es ≡ true → made_heads es x us ≡ Some
+      (node args no_span (want_items (items_of es)), us)
   made_goes h = ap (λ b. if b then Some (node args no_span (want_items (items_of es)), us) else None) h
 
   made_stops : takes_params x.context es ≡ false → made_heads es x us ≡ None
   made_stops h = ap (λ b. if b then Some (node args no_span (want_items (items_of es)), us) else None) h
 
-module _ {S F C K : Type 0} {fg : Ghosts F} {cg : Ghosts C} {kg : Ghosts K} {model : Model S} {sure : Bool} (hook : Hook F C K)
+module _ {S F C K : Type 0} {fg : Ghosts F} {cg : Ghosts C} {kg : Ghosts K} {model : Model S} {sure : Bool}
+    (hook : Hook F C K)
     (lawful : LawfulHook fg.place cg.place kg.place hook) {ns : Nodes F C K fg cg kg} {k : ℕ}
     (list : Listed (ExprOrSpread ExprId)) (a : Apart k ns (args_parts list.items)) {b c : Buffer S}
     (h : Heard model sure (run hook (at (Arguments false))) (args_at ns list) b c) where
   -- of the list that was read it is known that nothing in it was refused
-  read_made : (x : Scope) (ts us : List TokenAndSpan) → run hook (at (Arguments false)) x ts ≡ Some (args_at ns list, us)
+  read_made : (x : Scope) (ts us : List TokenAndSpan) → run hook (at (Arguments false)) x ts ≡ Some
+      (args_at ns list, us)
       → (y : Scope) (ys : List TokenAndSpan)
       → given_heads (as_params (args_at ns list)) y ys ≡ made_heads (args_at ns list) y ys
   read_made x ts us e y ys =
@@ -177,7 +182,8 @@ module _ {S F C K : Type 0} {fg : Ghosts F} {cg : Ghosts C} {kg : Ghosts K} {mod
       → Unheard model sure (heads_items hook) b e d
   heads_unheard e refuses unclear =
       let es = args_at ns list in
-      steps.unheard_after (on_call_read {g = made_heads es} (λ x p. given_heads (as_params p.0) x p.1) (heads_splits hook) h.on read_made)
+      steps.unheard_after (on_call_read {g = made_heads es} (λ x p. given_heads (as_params p.0) x p.1)
+      (heads_splits hook) h.on read_made)
       (record {
         refuses = refuses;
         none = λ n y l ts z. made_stops (scope model c) es ts
@@ -186,10 +192,12 @@ module _ {S F C K : Type 0} {fg : Ghosts F} {cg : Ghosts C} {kg : Ghosts K} {mod
 
 -- ---- among nodes
 
-module _ {S H F C K : Type 0} {fg : Ghosts F} {cg : Ghosts C} {kg : Ghosts K} {model : Model S} {sure : Bool} (hook : Hook F C K)
+module _ {S H F C K : Type 0} {fg : Ghosts F} {cg : Ghosts C} {kg : Ghosts K} {model : Model S} {sure : Bool}
+    (hook : Hook F C K)
     (lawful : LawfulHook fg.place cg.place kg.place hook) where
   -- a list was read, and was made parameters of, or not
-  pub heads-made : {p q : Productions S H F C K fg cg kg} (m : Productions S H F C K fg cg kg) (list : Listed (ExprOrSpread ExprId)) (r : Result (Vec PatId Global) Error)
+  pub heads-made : {p q : Productions S H F C K fg cg kg} (m : Productions S H F C K fg cg kg)
+      (list : Listed (ExprOrSpread ExprId)) (r : Result (Vec PatId Global) Error)
       → Heard model sure (run hook (at (Arguments false))) (args_at m.nodes list) p.input m.input
       → Grows p.nodes m.nodes → Apart (count p.nodes) m.nodes (args_parts list.items)
       → IfOk r (λ pats. RefinedItems model list.items.items list.trailing_comma m pats.items q)
@@ -209,7 +217,8 @@ module _ {S H F C K : Type 0} {fg : Ghosts F} {cg : Ghosts C} {kg : Ghosts K} {m
       making.yes (Err e) (heads_unheard hook lawful list a h e unrefined.refuses.refuses unclear)
       (grows-kept grows le unrefined.kept) tt
 
-module _ {S H F C K : Type 0} {fg : Ghosts F} {cg : Ghosts C} {kg : Ghosts K} {model : Model S} {sure : Bool} (hook : Hook F C K) where
+module _ {S H F C K : Type 0} {fg : Ghosts F} {cg : Ghosts C} {kg : Ghosts K} {model : Model S} {sure : Bool}
+    (hook : Hook F C K) where
   -- or no list was
   pub heads-unread : {p m : Productions S H F C K fg cg kg} {e : Error}
       → Unheard model sure (run hook (at (Arguments false))) p.input e m.input

@@ -57,10 +57,12 @@ module _ {S F C K T : Type 0} (model : Model S) (hook : Hook F C K) (view : T �
   -- what is derived binds names alone
   pub bound-heads : (b : Buffer S) (r : Result T Error) (c : Buffer S)
       → Sound model (Finished covers_done (ReadsAs only_items hook Heads)) view b r c → BoundItems model view b r c
-  bound-heads b (Ok x) c h = λ l same. let d = h l same in items_bound hook (scope model b) d.consumed [] (view x) d.whole.read
+  bound-heads b (Ok x) c h = λ l same. let d = h l same in
+      items_bound hook (scope model b) d.consumed [] (view x) d.whole.read
   bound-heads b (Err e) c h = λ l. tt
 
-module _ {S F C K : Type 0} {fg : Ghosts F} {cg : Ghosts C} {kg : Ghosts K} (model : Model S) (sure : Bool) (hook : Hook F C K)
+module _ {S F C K : Type 0} {fg : Ghosts F} {cg : Ghosts C} {kg : Ghosts K} (model : Model S) (sure : Bool)
+    (hook : Hook F C K)
     (laws : LawfulHook fg.place cg.place kg.place hook) (ns : Nodes F C K fg cg kg) where
   abbrev boxed : Vec (PatOf F C K) Global → Tree F C K
   boxed = pats_tree (pat_tree F C K fg.place cg.place kg.place)
@@ -80,7 +82,8 @@ module _ {S F C K : Type 0} {fg : Ghosts F} {cg : Ghosts C} {kg : Ghosts K} (mod
     meets-heads =
         meets-checked model sure hook laws boxed unmarked Heads (ReadsAs only_items hook Heads) (heads_items hook)
         (heads_sound hook laws) (heads_complete hook) (well_as hook leaves-items Heads (heads-placed hook)) b r c
-        (moved-parses model sure (checked unmarked (heads_items hook)) ns heads_at bare_heads boxed b c answer r reads bare_items moved)
+        (moved-parses model sure (checked unmarked (heads_items hook)) ns heads_at bare_heads boxed b c answer r reads
+        bare_items moved)
 
     -- the commas of the literals in them
     pub heads-recalled : (old new : TrailingCommas)
@@ -114,12 +117,15 @@ module _ {F C K : Type 0} (hook : Hook F C K) where
 module _ {S F C K T : Type 0} (model : Model S) (hook : Hook F C K) (view : T → Tree F C K) where
   pub bound-kept : (b : Buffer S) (r : Result T Error) (c : Buffer S)
       → Sound model (Finished covers_done (ReadsAs keep_items hook Heads)) view b r c → BoundItems model view b r c
-  bound-kept b (Ok x) c h = λ l same. let d = h l same in kept_bound hook (scope model b) d.consumed [] (view x) d.whole.read
+  bound-kept b (Ok x) c h = λ l same. let d = h l same in
+      kept_bound hook (scope model b) d.consumed [] (view x) d.whole.read
   bound-kept b (Err e) c h = λ l. tt
 
-module _ {S F C K : Type 0} {fg : Ghosts F} {cg : Ghosts C} {kg : Ghosts K} (model : Model S) (sure : Bool) (hook : Hook F C K)
+module _ {S F C K : Type 0} {fg : Ghosts F} {cg : Ghosts C} {kg : Ghosts K} (model : Model S) (sure : Bool)
+    (hook : Hook F C K)
     (laws : LawfulHook fg.place cg.place kg.place hook) (ms ns : Nodes F C K fg cg kg) (k : ℕ) (b c : Buffer S)
-    (answer r : Result (Vec PatId Global) Error) (reads : Parses model sure (heads_at ms) (checked (λ t. t) (heads_items hook)) b answer c)
+    (answer r : Result (Vec PatId Global) Error) (reads : Parses model sure (heads_at ms)
+    (checked (λ t. t) (heads_items hook)) b answer c)
     (same : Kept (last_position c) answer r) (nodes : MatchResult r (λ x. ns ≡ ms) (λ e. CutTo k ms ns)) where
   pub meets-kept : Meets model sure (Finished covers_done (ReadsAs keep_items hook Heads)) (heads_at ns) Heads b r c
   meets-kept =
@@ -142,14 +148,16 @@ module _ {S F C K : Type 0} {fg : Ghosts F} {cg : Ghosts C} {kg : Ghosts K} (mod
 
 -- ---- the look through them
 
-module _ {S F C K : Type 0} {fg : Ghosts F} {cg : Ghosts C} {kg : Ghosts K} (model : Model S) (sure : Bool) (f : Reader (Tree F C K))
+module _ {S F C K : Type 0} {fg : Ghosts F} {cg : Ghosts C} {kg : Ghosts K} (model : Model S) (sure : Bool)
+    (f : Reader (Tree F C K))
     (ns : Nodes F C K fg cg kg) (b c d : Buffer S) (answer r : Result (Vec PatId Global) Error)
     (reads : Parses model sure (heads_at ns) f b answer c)
     (checks : ChecksAnswer model (λ ps. parts_done (scope model c) (tree_at ns) (pats_parts ps)) c answer r d) where
   pub heads-boxes-checked : Parses model sure (heads_at ns) (checked unmarked f) b r d
   heads-boxes-checked =
       finished-parses model sure (λ k t. covers_done k (unmarked t)) f (heads_at ns) _ b c d answer r reads checks
-      (λ ps. parts-told-bare (scope model c) (tree_at ns) (pats_parts ps) (heads_at ns ps) (pats-left (tree_at ns) ps.items))
+      (λ ps. parts-told-bare (scope model c) (tree_at ns) (pats_parts ps) (heads_at ns ps)
+      (pats-left (tree_at ns) ps.items))
 
   pub heads-checked : Parses model sure (heads_at ns) (checked (λ t. t) f) b r d
   heads-checked =

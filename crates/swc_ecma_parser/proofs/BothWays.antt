@@ -33,7 +33,8 @@ module _ {F C K : Type 0} where
     all-bare-erased (cons t ts) = rw (bare-erased t, all-bare-erased ts) refl
 
   -- what is the same with marks is the same without
-  bare-same : (ts us : Trees F C K) → erase_all ts ≡ erase_all us → erase_all (all_unmarked ts) ≡ erase_all (all_unmarked us)
+  bare-same : (ts us : Trees F C K) → erase_all ts ≡ erase_all us
+      → erase_all (all_unmarked ts) ≡ erase_all (all_unmarked us)
   bare-same ts us h = all-bare-erased ts ∙ ap all_unmarked h ∙ sym (all-bare-erased us)
 
   bare-items : (t : Tree F C K) → items_of (unmarked t) ≡ all_unmarked (items_of t)
@@ -47,7 +48,8 @@ module _ {F C K : Type 0} where
   same-done ts us h = sym (all-covers-erased ts) ∙ ap none_left h ∙ all-covers-erased us
 
 -- the tokens that are known to come are these alone
-known-once : {S : Type 0} (model : Model S) (b : Buffer S) (xs ys : List TokenAndSpan) → Known model b xs → Known model b ys → xs ≡ ys
+known-once : {S : Type 0} (model : Model S) (b : Buffer S) (xs ys : List TokenAndSpan) → Known model b xs
+    → Known model b ys → xs ≡ ys
 known-once model b xs ys k l = let e : Some k.more ≡ Some l.more = sym k.known ∙ l.known in
     let same : k.more ≡ l.more = cc in
     k.begins ∙ ap (λ v. held b ++ v) same ∙ sym l.begins
@@ -61,8 +63,10 @@ module _ {H F C K : Type 0} {fg : Ghosts F} {cg : Ghosts C} {kg : Ghosts K} wher
   -- what formal parameters are derived from, as they come to be answered
   formal-answered : (q : Parser TokensInput H F C K fg cg kg) (s : Result (Vec (Param (Pat F C K)) Global) Error)
       (v : Vec (Pat F C K) Global) (b : Parser TokensInput H F C K fg cg kg)
-      (t : Tree F C K) (ys : List TokenAndSpan) → faults b ≡ [] → erase_all (patterns fg cg kg v) ≡ erase_all (items_of t)
-      → MatchResult s (λ w. ClosedBy listed_model (param_patterns fg cg kg w) t (buffer_of q) ys × (faults q ≡ faults b))
+      (t : Tree F C K) (ys : List TokenAndSpan) → faults b ≡ []
+      → erase_all (patterns fg cg kg v) ≡ erase_all (items_of t)
+      → MatchResult s (λ w. ClosedBy listed_model (param_patterns fg cg kg w) t
+      (buffer_of q) ys × (faults q ≡ faults b))
       (λ e. e.kind ≡ OutOfMemory)
       → MatchResult s (λ w. Same fg cg kg v w × StandsBefore q ys × (faults q ≡ [])) (λ e. e.kind ≡ OutOfMemory)
   formal-answered q (Ok w) v b t ys clean same (closed, quiet) = (
@@ -77,14 +81,16 @@ module _ {H F C K : Type 0} {fg : Ghosts F} {cg : Ghosts C} {kg : Ghosts K} wher
       (w : Vec (Param (Pat F C K)) Global) (b : Parser TokensInput H F C K fg cg kg)
       (hs : Tree F C K) (ys : List TokenAndSpan) → faults b ≡ []
       → erase_all (all_unmarked (items_of hs)) ≡ erase_all (param_patterns fg cg kg w)
-      → MatchResult r (λ v. (heads_in_boxes.tree p.productions.nodes v ≡ only_items hs) × Left p ys × (faults p ≡ faults b))
+      → MatchResult r (λ v. (heads_in_boxes.tree p.productions.nodes v ≡ only_items hs) × Left p ys
+      × (faults p ≡ faults b))
       (λ e. e.kind ≡ OutOfMemory)
       → MatchResult r (λ v. Same fg cg kg v w × Left p ys × (faults p ≡ [])) (λ e. e.kind ≡ OutOfMemory)
   arrow-answered p (Ok v) w b hs ys clean same (e, left, quiet) =
       (ap (λ t. erase_all (items_of t)) e ∙ ap erase_all (kept-items hs) ∙ same, left, quiet ∙ clean)
   arrow-answered p (Err e) w b hs ys clean same h = h
 
-module _ {H F C K : Type 0} {fg : Ghosts F} {cg : Ghosts C} {kg : Ghosts K} (sure : Bool) (hook : Hook F C K) (c : Context)
+module _ {H F C K : Type 0} {fg : Ghosts F} {cg : Ghosts C} {kg : Ghosts K} (sure : Bool) (hook : Hook F C K)
+    (c : Context)
     (x : Syntax) (ts : List TokenAndSpan) where
   abbrev Heading : Result (Vec (Pat F C K) Global) Error → Parser TokensInput H F C K fg cg kg
       → Parser TokensInput H F C K fg cg kg → Type 0
@@ -98,7 +104,8 @@ module _ {H F C K : Type 0} {fg : Ghosts F} {cg : Ghosts C} {kg : Ghosts K} (sur
 
   heads-read : {p : Parser TokensInput H F C K fg cg kg} (v : Vec (Pat F C K) Global) → Fresh (Heading (Ok v)) c x ts p
       → IsHeeded c x → faults p ≡ [] → (ys : List TokenAndSpan) → Left p ys
-      → Finished covers_done (ReadsAs only_items hook Heads) (scope_of (view c) x) ts ys (heads_in_boxes.tree p.productions.nodes v)
+      → Finished covers_done (ReadsAs only_items hook Heads) (scope_of (view c) x) ts ys
+      (heads_in_boxes.tree p.productions.nodes v)
   heads-read {p} v f heeded none ys left =
       let d = f.call.sound f.runs (f.loud heeded) (none ∙ sym f.clean) in
       let k = Known-after listed_laws (buffer_of f.start) (buffer_of p) d.consumed ts d.read.took f.left in
@@ -116,7 +123,8 @@ module _ {H F C K : Type 0} {fg : Ghosts F} {cg : Ghosts C} {kg : Ghosts K} (sur
   cover-law {p} {q} (Ok v) s f g = λ heeded y strict sp. λ none kept ys left.
       let d = heads-read v f heeded none ys left in
       let read = d.read in
-      let items : all_unmarked (items_of read.marked) ≡ patterns fg cg kg v = sym (kept-items read.marked) ∙ ap items_of read.same in
+      let items : all_unmarked (items_of read.marked) ≡ patterns fg cg kg v =
+      sym (kept-items read.marked) ∙ ap items_of read.same in
       let names = is_kept_name c in
       let free : all_bind_names names (items_of read.marked) ≡ true =
       sym (all-same-binds names (items_of read.marked)) ∙ ap (all_bind_names names) items ∙ kept in
@@ -127,31 +135,39 @@ module _ {H F C K : Type 0} {fg : Ghosts F} {cg : Ghosts C} {kg : Ghosts K} (sur
         same = refl;
       } in
       let same : erase_all (patterns fg cg kg v) ≡ erase_all (items_of (unmarked k.tree)) =
-      ap erase_all (sym items) ∙ bare-same (items_of read.marked) (items_of k.tree) k.same ∙ ap erase_all (sym (bare-items k.tree)) in
-      let whole : Finished items_done (ReadsUnmarked hook Params) (scope listed_model (buffer_of g.start)) ms ys (unmarked k.tree) =
+      ap erase_all (sym items) ∙ bare-same (items_of read.marked) (items_of k.tree) k.same ∙ ap erase_all
+      (sym (bare-items k.tree)) in
+      let whole : Finished items_done (ReadsUnmarked hook Params) (scope listed_model (buffer_of g.start)) ms ys
+      (unmarked k.tree) =
       record {
         read = bare;
         covers = subst (λ z. items_done z (unmarked k.tree) ≡ true) (sym g.stands)
-            (ap (λ b. not x.pedantic || b) (same-done (items_of (unmarked k.tree)) (patterns fg cg kg v) (sym same)) ∙ d.covers);
+            (ap (λ b. not x.pedantic || b) (same-done (items_of (unmarked k.tree)) (patterns fg cg kg v) (sym same))
+            ∙ d.covers);
       } in
       formal-answered q s v g.start (unmarked k.tree) ys g.clean same
-      (g.call.complete g.runs y (g.loud heeded) ms ys (unmarked k.tree) (subst (λ l. Left g.start l) (ap rest at) g.left) whole)
+      (g.call.complete g.runs y (g.loud heeded) ms ys (unmarked k.tree)
+      (subst (λ l. Left g.start l) (ap rest at) g.left) whole)
 
   -- ---- and the other way
 
   -- what was read as formal parameters, up to a `)`
   params-read : {q : Parser TokensInput H F C K fg cg kg} (w : Vec (Param (Pat F C K)) Global)
-      → Fresh (Forming (Ok w)) c x (rest ts) q → IsHeeded c x → faults q ≡ [] → (ys : List TokenAndSpan) (before : StandsBefore q ys)
+      → Fresh (Forming (Ok w)) c x (rest ts) q → IsHeeded c x → faults q ≡ []
+      → (ys : List TokenAndSpan) (before : StandsBefore q ys)
       → Finished items_done (ReadsUnmarked hook Params) (scope_of (view c) x) (rest ts) ys
       (listed None before.close.span (param_patterns fg cg kg w))
   params-read {q} w g heeded none ys before =
       let d = g.call.sound g.runs (g.loud heeded) (none ∙ sym g.clean) in
       let k = Known-after listed_laws (buffer_of g.start) (buffer_of q) d.consumed (rest ts) d.read.took g.left in
-      let same : k.0 ≡ before.close ∷ ys = known-once listed_model (buffer_of q) k.0 (before.close ∷ ys) k.1 before.left in
+      let same : k.0 ≡ before.close ∷ ys = known-once listed_model (buffer_of q) k.0
+      (before.close ∷ ys) k.1 before.left in
       let whole : rest ts ≡ d.consumed ++ before.close ∷ ys = k.2 ∙ ap (λ l. d.consumed ++ l) same in
-      let got = d.front before.close ys (Known-Future listed_laws (buffer_of q) (before.close ∷ ys) before.left) before.is in
+      let got = d.front before.close ys (Known-Future listed_laws (buffer_of q) (before.close ∷ ys) before.left)
+      before.is in
       let D : Scope → List TokenAndSpan → Type 0 =
-      λ z l. Finished items_done (ReadsUnmarked hook Params) z l ys (listed None before.close.span (param_patterns fg cg kg w)) in
+      λ z l. Finished items_done (ReadsUnmarked hook Params) z l ys
+      (listed None before.close.span (param_patterns fg cg kg w)) in
       subst (λ z. D z (rest ts)) g.stands (subst (λ l. D (scope listed_model (buffer_of g.start)) l) (sym whole) got)
 
   pub converse-law : {p q : Parser TokensInput H F C K fg cg kg} (r : Result (Vec (Pat F C K) Global) Error)
@@ -162,7 +178,8 @@ module _ {H F C K : Type 0} {fg : Ghosts F} {cg : Ghosts C} {kg : Ghosts K} (sur
       let (a, ms, at, h) = first-is ts paren in
       let all = params-read w g heeded none ys before in
       let d = all.read in
-      let items : all_unmarked (items_of d.marked) ≡ param_patterns fg cg kg w = sym (bare-items d.marked) ∙ ap items_of d.same in
+      let items : all_unmarked (items_of d.marked) ≡ param_patterns fg cg kg w =
+      sym (bare-items d.marked) ∙ ap items_of d.same in
       let names : all_bind_names is_free_name (items_of d.marked) ≡ true =
       sym (all-same-binds is_free_name (items_of d.marked)) ∙ ap (all_bind_names is_free_name) items ∙ free in
       let here = subst (λ l. Reads hook Params (scope_of (view c) x) l ys d.marked) (ap rest at) d.read in
@@ -170,9 +187,15 @@ module _ {H F C K : Type 0} {fg : Ghosts F} {cg : Ghosts C} {kg : Ghosts K} (sur
       let whole : Reads hook Heads (scope_of (view c) x) ts ys hs =
       subst (λ l. Reads hook Heads (scope_of (view c) x) l ys hs) (sym at) read in
       let alike = bare-same (items_of hs) (items_of d.marked) same ∙ ap erase_all items in
-      let kept : Finished covers_done (ReadsAs only_items hook Heads) (scope listed_model (buffer_of f.start)) ts ys (only_items hs) =
+      let kept : Finished covers_done (ReadsAs only_items hook Heads) (scope listed_model (buffer_of f.start)) ts ys
+      (only_items hs) =
       record {
-        read = record { marked = hs; read = subst (λ z. Reads hook Heads z ts ys hs) (sym f.stands) whole; same = refl };
+        read = record {
+          marked = hs;
+          read = subst (λ z. Reads hook Heads z ts ys hs) (sym f.stands) whole;
+          same =
+              refl;
+        };
         covers = subst (λ z. covers_done z (only_items hs) ≡ true) (sym f.stands)
             (ap (λ b. not x.pedantic || b)
             (ap none_left (kept-items hs) ∙ same-done (all_unmarked (items_of hs)) (param_patterns fg cg kg w) alike)
@@ -188,8 +211,10 @@ module _ {H F C K : Type 0} {fg : Ghosts F} {cg : Ghosts C} {kg : Ghosts K} wher
   pub fresh : {P : Parser TokensInput H F C K fg cg kg → Parser TokensInput H F C K fg cg kg → Type 0}
       {q : Parser TokensInput H F C K fg cg kg}
       {n : ℕ} {p : Parser TokensInput H F C K fg cg kg}
-      (input : TokensInput) (ts : List TokenAndSpan) (c : Context) (x : Syntax) (v : EsVersion) (o : Parser TokensInput H F C K fg cg kg)
-      → listed_state input ≡ new_state ts c x v → buffer_of o ≡ buffer.fresh input (last_position (buffer_of o)) → has_failed o ≡ false
+      (input : TokensInput) (ts : List TokenAndSpan) (c : Context) (x : Syntax) (v : EsVersion)
+      (o : Parser TokensInput H F C K fg cg kg)
+      → listed_state input ≡ new_state ts c x v → buffer_of o ≡ buffer.fresh input (last_position (buffer_of o))
+      → has_failed o ≡ false
       → p ≡ with_bound n o → P p q → Fresh P c x (plain_list ts) q
   fresh {p = p} input ts c x v o is unread ran bounded call =
       let at = last_position (buffer_of o) in

@@ -15,11 +15,13 @@ pub not_both : {b : Bool} → b ≡ true → b ≡ false → ⊥
 not_both t f = let e : true ≡ false = sym t ∙ f in cc
 
 -- a parser that ran has failed where it answers out of memory
-pub failing : {T : Type 0} {was is f : Bool} (a r : Result T Error) → was ≡ false → f ≡ was → r ≡ a → is ≡ (f || wants_memory a) → is ≡ wants_memory r
+pub failing : {T : Type 0} {was is f : Bool} (a r : Result T Error) → was ≡ false → f ≡ was → r ≡ a
+    → is ≡ (f || wants_memory a) → is ≡ wants_memory r
 failing a r runs same e h = h ∙ ap (λ v. v || wants_memory a) (same ∙ runs) ∙ ap (λ v. wants_memory v) (sym e)
 
 module _ {S H F C K T : Type 0} {fg : Ghosts F} {cg : Ghosts C} {kg : Ghosts K} where
-  pub called-again : {Effect : Buffer S → Result T Error → Buffer S → Type 0} {p : Parser S H F C K fg cg kg} {e : Error} → (has_failed p ≡ true) × (e ≡ parser_failed (previous (buffer_of p))) → Called Effect p (Err e) p
+  pub called-again : {Effect : Buffer S → Result T Error → Buffer S → Type 0} {p : Parser S H F C K fg cg kg}
+      {e : Error} → (has_failed p ≡ true) × (e ≡ parser_failed (previous (buffer_of p))) → Called Effect p (Err e) p
   called-again h = record {
     again = λ failed. (refl, ap (λ x. Err x) h.1);
     effect = λ runs. absurd (not_both h.0 runs);
@@ -28,8 +30,10 @@ module _ {S H F C K T : Type 0} {fg : Ghosts F} {cg : Ghosts C} {kg : Ghosts K} 
     fails = λ runs. absurd (not_both h.0 runs);
   }
 
-  pub called : {Effect : Buffer S → Result T Error → Buffer S → Type 0} {p q : Parser S H F C K fg cg kg} {b : Buffer S} {f : Bool} (a r : Result T Error) → has_failed p ≡ false → f ≡ has_failed p →
-      r ≡ a → buffer_of q ≡ b → nodes_of q ≡ nodes_of p → commas_of q ≡ commas_of p → has_failed q ≡ (f || wants_memory a) → Effect (buffer_of p) a b → Called Effect p r q
+  pub called : {Effect : Buffer S → Result T Error → Buffer S → Type 0} {p q : Parser S H F C K fg cg kg} {b : Buffer S}
+      {f : Bool} (a r : Result T Error) → has_failed p ≡ false → f ≡ has_failed p →
+      r ≡ a → buffer_of q ≡ b → nodes_of q ≡ nodes_of p → commas_of q ≡ commas_of p
+      → has_failed q ≡ (f || wants_memory a) → Effect (buffer_of p) a b → Called Effect p r q
   called a r runs same e buffer nodes commas fails done = record {
     again = λ failed. absurd (not_both failed runs);
     effect = λ w. rw (e, buffer) done;
@@ -38,8 +42,11 @@ module _ {S H F C K T : Type 0} {fg : Ghosts F} {cg : Ghosts C} {kg : Ghosts K} 
     fails = λ w. failing a r runs same e fails;
   }
 
-module _ {S H T F C K : Type 0} {fg : Ghosts F} {cg : Ghosts C} {kg : Ghosts K} {model : Model S} {sure : Bool} {hook : Hook F C K} {answer : Answer T F C K fg cg kg} {s : Symbol} where
-  pub promised-again : {p : Parser S H F C K fg cg kg} {e : Error} → (has_failed p ≡ true) × (e ≡ parser_failed (previous (buffer_of p))) → answer.leaves (nodes_of p) (Err e) (nodes_of p) → Promised model sure hook answer s p (Err e) p
+module _ {S H T F C K : Type 0} {fg : Ghosts F} {cg : Ghosts C} {kg : Ghosts K} {model : Model S} {sure : Bool}
+    {hook : Hook F C K} {answer : Answer T F C K fg cg kg} {s : Symbol} where
+  pub promised-again : {p : Parser S H F C K fg cg kg} {e : Error}
+      → (has_failed p ≡ true) × (e ≡ parser_failed (previous (buffer_of p)))
+      → answer.leaves (nodes_of p) (Err e) (nodes_of p) → Promised model sure hook answer s p (Err e) p
   promised-again h leaves = record {
     again = λ failed. (refl, ap (λ x. Err x) h.1);
     reads = λ runs. absurd (not_both h.0 runs);
@@ -55,13 +62,17 @@ module _ {S H T F C K : Type 0} {fg : Ghosts F} {cg : Ghosts C} {kg : Ghosts K} 
   }
 
   -- the buffer, the nodes and the commas before the parser remembers that it is out of memory
-  pub promised : {p q : Parser S H F C K fg cg kg} {f : Bool} (b : Buffer S) (ns : Nodes F C K fg cg kg) (cs : TrailingCommas) (a r : Result T Error) → has_failed p ≡ false → f ≡ has_failed p →
-      r ≡ a → buffer_of q ≡ b → nodes_of q ≡ ns → commas_of q ≡ cs → has_failed q ≡ (f || wants_memory a) → Meets model sure (answer.derives hook s) (answer.tree ns) s (buffer_of p) a b
-      → MatchResult a (λ x. RemembersAll model (answer.marked hook s) answer.strip (answer.tree ns x) (buffer_of p) b (commas_of p) cs) (λ x. x.kind ≢ OutOfMemory → cs ≡ commas_of p)
+  pub promised : {p q : Parser S H F C K fg cg kg} {f : Bool} (b : Buffer S) (ns : Nodes F C K fg cg kg)
+      (cs : TrailingCommas) (a r : Result T Error) → has_failed p ≡ false → f ≡ has_failed p →
+      r ≡ a → buffer_of q ≡ b → nodes_of q ≡ ns → commas_of q ≡ cs → has_failed q ≡ (f || wants_memory a)
+      → Meets model sure (answer.derives hook s) (answer.tree ns) s (buffer_of p) a b
+      → MatchResult a (λ x. RemembersAll model (answer.marked hook s) answer.strip (answer.tree ns x) (buffer_of p) b
+      (commas_of p) cs) (λ x. x.kind ≢ OutOfMemory → cs ≡ commas_of p)
       → answer.leaves (nodes_of p) a ns → Promised model sure hook answer s p r q
   promised {p} {q} b ns cs a r runs same e buffer nodes commas fails done remembers leaves =
       let left : answer.leaves (nodes_of p) r (nodes_of q) = rw (e, nodes) leaves in
-      let meets : Meets model sure (answer.derives hook s) (answer.tree (nodes_of q)) s (buffer_of p) r (buffer_of q) = rw (e, buffer, nodes) done in
+      let meets : Meets model sure (answer.derives hook s) (answer.tree (nodes_of q)) s (buffer_of p) r (buffer_of q) =
+      rw (e, buffer, nodes) done in
       record {
         again = λ failed. absurd (not_both failed runs);
         reads = λ w. meets.reads;

@@ -38,13 +38,15 @@ module _ {S : Type 0} {model : Model S} (laws : Laws model) where
     none_found true e h k = h e
     none_found false e h k = k e
 
-    some_found : (s : Span) (ss : List Span) → RecordsAll model (cover_faults (s ∷ ss)) b c → recorded model b < recorded model c
+    some_found : (s : Span) (ss : List Span) → RecordsAll model (cover_faults (s ∷ ss)) b c
+        → recorded model b < recorded model c
     some_found s ss (d, r, more) =
         let first = one_more r in
         let others = not_fewer (cover_faults ss) d c more in
         omega arith
 
-    all_told : (names : List Span) (well : Bool) → well ≡ no_places names → (is_silent (state_of model b) ≡ true → c ≡ b)
+    all_told : (names : List Span) (well : Bool) → well ≡ no_places names
+        → (is_silent (state_of model b) ≡ true → c ≡ b)
         → (is_silent (state_of model b) ≡ false → RecordsAll model (cover_faults names) b c)
         → ReadSome model b c → Lives model b c → ChecksCovers model well b c
     all_told [] well e silent records read lives =
@@ -60,7 +62,8 @@ module _ {S : Type 0} {model : Model S} (laws : Laws model) where
       silent = silent;
     }
 
-  pub covers-checked : (names : List Span) (well : Bool) (b c : Buffer S) (r : Result (Unit {0}) Error) → well ≡ no_places names
+  pub covers-checked : (names : List Span) (well : Bool) (b c : Buffer S) (r : Result (Unit {0}) Error)
+      → well ≡ no_places names
       → (is_silent (state_of model b) ≡ true → IsOk r × (c ≡ b))
       → (is_silent (state_of model b) ≡ false → OnOk r (RecordsAll model (cover_faults names) b c))
       → IfErr r (λ e. (xs : List TokenAndSpan) × Read model b xs c × (e ≡ no_memory (last_position c)))

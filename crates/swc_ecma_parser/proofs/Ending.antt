@@ -7,6 +7,9 @@ use Rattle.swc_steps.specs.Parsing.{Looks}
 use Rattle.swc_ecma_parser.specs.Calls.{SeesEnd}
 
 module _ {S : Type 0} {model : Model S} where
-  pub sees_end : {b c : Buffer S} (r : Result Bool Error) → Looks model b r c → IfOk r (λ v. v ≡ true → (current c ≡ None) × ((state_of model c).ended ≡ true)) →
-      IfOk r (λ v. v ≡ false → IsSome (current c)) → IfErr r (λ e. (e ≡ no_memory (last_position c)) × Looked model b c × ((state_of model c).failed ≡ true)) → SeesEnd model b r c
+  pub sees_end : {b c : Buffer S} (r : Result Bool Error) → Looks model b r c
+      → IfOk r (λ v. v ≡ true → (current c ≡ None) × ((state_of model c).ended ≡ true)) →
+      IfOk r (λ v. v ≡ false → IsSome (current c)) → IfErr r
+      (λ e. (e ≡ no_memory (last_position c)) × Looked model b c × ((state_of model c).failed ≡ true))
+      → SeesEnd model b r c
   sees_end r looks end token refused = record { looks = looks; end = end; token = token; refused = refused }

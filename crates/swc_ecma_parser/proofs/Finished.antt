@@ -1,4 +1,5 @@
--- Readings that are finished: no cover name is left in what they give, where the syntax is pedantic. From an answer that was looked
+-- Readings that are finished: no cover name is left in what they give, where the syntax is pedantic. From an answer
+-- that was looked
 -- through for such names to what is promised of it.
 use Rattle.std.proofs.Common.{◌≡◌, ◌≢◌, ℕ, Bool, true, false, not, ◌||◌, if◌then◌else◌, List, [], ◌∷◌, Some, None, Result, Ok, Err, IfOk, OnOk, MatchResult, refl, sym, ap, subst, ◌∙◌}
 use Rattle.swc_context.specs.{declared.error.Error.Error, declared.error.SyntaxError.TheVariants.OutOfMemory, declared.span.Span.Span}
@@ -87,7 +88,8 @@ module _ {F C K : Type 0} {derives : Derivation (Tree F C K)} where
     privates = λ c xs ys t d y. all.privates c xs ys t d.read y;
   }
 
-module _ {A : Type 0} {derives : Derivation A} {f g : Reader A} (same : (c : Scope) (ts : List TokenAndSpan) → g c ts ≡ f c ts) where
+module _ {A : Type 0} {derives : Derivation A} {f g : Reader A}
+    (same : (c : Scope) (ts : List TokenAndSpan) → g c ts ≡ f c ts) where
   sound_along : IsSound derives f → IsSound derives g
   sound_along is = record { sound = λ c ts ys t h. is.sound c ts ys t (sym (same c ts) ∙ h); cut = is.cut }
 
@@ -108,16 +110,19 @@ module _ {F C K : Type 0} (strip : Tree F C K → Tree F C K) (f : Reader (Tree 
   checked-sound is = sound_along strip_checked (finished-sound covers_done is)
 
   pub checked-complete : {derives : Derivation (Tree F C K)} {stops : List TokenAndSpan → Type 0}
-      → IsComplete derives stops (stripped strip f) → IsComplete (Finished covers_done derives) stops (stripped strip (checked strip f))
+      → IsComplete derives stops (stripped strip f) → IsComplete (Finished covers_done derives) stops
+      (stripped strip (checked strip f))
   checked-complete is = complete_along strip_checked (finished-complete covers_done is)
 
 module _ {S F C K T : Type 0} (model : Model S) (sure : Bool) (hook : Hook F C K)
     {fun_at : F → Span} {class_at : C → Span} {block_at : K → Span} (laws : LawfulHook fun_at class_at block_at hook)
     (view : T → Tree F C K) where
   -- what is left of what was looked through
-  pub meets-checked : (strip : Tree F C K → Tree F C K) (s : Symbol) (derives : Derivation (Tree F C K)) (f : Reader (Tree F C K))
+  pub meets-checked : (strip : Tree F C K → Tree F C K) (s : Symbol) (derives : Derivation (Tree F C K))
+      (f : Reader (Tree F C K))
       → IsSound derives (stripped strip f) → IsComplete derives (EndsAt s) (stripped strip f) → Well derives
-      → (b : Buffer S) (r : Result T Error) (c : Buffer S) → Parses model sure view (stripped strip (checked strip f)) b r c
+      → (b : Buffer S) (r : Result T Error) (c : Buffer S)
+      → Parses model sure view (stripped strip (checked strip f)) b r c
       → Meets model sure (Finished covers_done derives) view s b r c
   meets-checked strip s derives f sounds completes wells =
       meets model sure hook laws view s (Finished covers_done derives) (stripped strip (checked strip f))
@@ -131,7 +136,8 @@ module _ {S F C K T : Type 0} (model : Model S) (sure : Bool) (hook : Hook F C K
       meets-checked unmarked s (grammar.ReadsUnmarked hook s) (run hook (at s)) (is_sound_bare hook laws s)
       (is_complete_bare hook s stops.stop) (well_bare hook s)
 
-  pub meets-as-checked : {strip : Tree F C K → Tree F C K} → Leaves strip → {s : Symbol} → PrivatesLeft hook strip s → Stopping s
+  pub meets-as-checked : {strip : Tree F C K → Tree F C K} → Leaves strip → {s : Symbol} → PrivatesLeft hook strip s
+      → Stopping s
       → (b : Buffer S) (r : Result T Error) (c : Buffer S)
       → Parses model sure view (stripped strip (checked strip (run hook (at s)))) b r c
       → Meets model sure (Finished covers_done (ReadsAs strip hook s)) view s b r c
@@ -144,35 +150,43 @@ module _ {S F C K T : Type 0} (model : Model S) (sure : Bool) (hook : Hook F C K
       → Parses model sure view (checked (λ t. t) (run hook (at s))) b r c
       → Meets model sure (Finished covers_done (grammar.Reads hook s)) view s b r c
   meets-number-checked {s} stops =
-      meets model sure hook laws view s (Finished covers_done (grammar.Reads hook s)) (checked (λ t. t) (run hook (at s)))
-      (finished-sound covers_done (is_sound hook laws s)) (finished-complete covers_done (is_complete hook s stops.stop))
+      meets model sure hook laws view s (Finished covers_done (grammar.Reads hook s))
+      (checked (λ t. t) (run hook (at s)))
+      (finished-sound covers_done (is_sound hook laws s))
+      (finished-complete covers_done (is_complete hook s stops.stop))
       (finished-well covers_done (well hook s))
 
-module _ {S F C K X T : Type 0} {fg : Ghosts F} {cg : Ghosts C} {kg : Ghosts K} (model : Model S) (sure : Bool) (hook : Hook F C K)
+module _ {S F C K X T : Type 0} {fg : Ghosts F} {cg : Ghosts C} {kg : Ghosts K} (model : Model S) (sure : Bool)
+    (hook : Hook F C K)
     (laws : LawfulHook fg.place cg.place kg.place hook) (s : Symbol) where
   -- the commas that were remembered are those of what is derived, finished or not
-  pub recalled-checked : (strip : Tree F C K → Tree F C K) (ns : Nodes F C K fg cg kg) (by : X → Tree F C K) (bare_by : X → Tree F C K)
+  pub recalled-checked : (strip : Tree F C K → Tree F C K) (ns : Nodes F C K fg cg kg) (by : X → Tree F C K)
+      (bare_by : X → Tree F C K)
       (view : T → Tree F C K) (parts : X → List Part)
       → (b c : Buffer S) (answer : Result X Error) (r : Result T Error) (old new : TrailingCommas)
       → Parses model sure by (checked strip (run hook (at s))) b answer c
       → ((x : X) → strip (by x) ≡ bare_by x) → ((x : X) → commas_in (by x) ≡ part_commas (tree_at ns) (parts x))
-      → MatchResult answer (λ x. MatchResult r (λ t. view t ≡ bare_by x) (λ e. e ≡ no_memory (last_position c))) (λ e. r ≡ Err e)
+      → MatchResult answer (λ x. MatchResult r (λ t. view t ≡ bare_by x) (λ e. e ≡ no_memory (last_position c)))
+      (λ e. r ≡ Err e)
       → MatchResult answer (λ x. OnOk r (Recalls (part_commas (tree_at ns) (parts x)) old new)) (λ e. new ≡ old)
-      → MatchResult r (λ t. RemembersAll model (grammar.Reads hook s) strip (view t) b c old new) (λ e. e.kind ≢ OutOfMemory → new ≡ old)
+      → MatchResult r (λ t. RemembersAll model (grammar.Reads hook s) strip (view t) b c old new)
+      (λ e. e.kind ≢ OutOfMemory → new ≡ old)
   recalled-checked strip =
       recalled-by model sure (grammar.Reads hook s) (checked strip (run hook (at s)))
       (finished-derives (λ c t. covers_done c (strip t)) (is_sound hook laws s)) strip
 
 -- ---- the look through an answer
 
-module _ {S A X : Type 0} (model : Model S) (sure : Bool) (done : Scope → A → Bool) (f : Reader A) (by : X → A) (well : X → Bool) where
+module _ {S A X : Type 0} (model : Model S) (sure : Bool) (done : Scope → A → Bool) (f : Reader A) (by : X → A)
+    (well : X → Bool) where
   pub finished-parses : (b c d : Buffer S) (answer r : Result X Error) → Parses model sure by f b answer c
       → ChecksAnswer model well c answer r d → ((x : X) → well x ≡ done (scope model c) (by x))
       → Parses model sure by (finished done f) b r d
   finished-parses b c d (Ok x) (Ok y) h (same, checks) fits =
       subst (λ v. Heard model sure (finished done f) (by v) b d) (sym same)
       (heard_more (λ k p. if done k p.0 then Some p else None) (λ k ts. refl) h
-      (on_checked_in {f = λ k ts. if done k (by x) then Some (by x, ts) else None} {g = give (by x)} (well x) checks.checks
+      (on_checked_in {f = λ k ts. if done k (by x) then Some (by x, ts) else None} {g = give (by x)}
+      (well x) checks.checks
       (λ ts w. ap (λ v. if v then Some (by x, ts) else None) (sym (fits x) ∙ w))
       (λ ts w. ap (λ v. if v then Some (by x, ts) else None) (sym (fits x) ∙ w))))
   finished-parses b c d (Ok x) (Err e) h forgoes fits = unheard_memory (forgoes_later h.on.leads forgoes)
@@ -185,7 +199,8 @@ module _ {S A X : Type 0} (model : Model S) (sure : Bool) (done : Scope → A �
 
 module _ {S X : Type 0} (model : Model S) (well : X → Bool) (b c : Buffer S) where
   -- what holds of an answer holds of what is left of it
-  pub checked-holds : (P : X → Type 0) (answer r : Result X Error) → ChecksAnswer model well b answer r c → IfOk answer P → IfOk r P
+  pub checked-holds : (P : X → Type 0) (answer r : Result X Error) → ChecksAnswer model well b answer r c
+      → IfOk answer P → IfOk r P
   checked-holds P (Ok x) (Ok y) h p = subst P (sym h.0) p
   checked-holds P answer (Err e) h p = tt
   checked-holds P (Err e) (Ok y) h p = let e = h.0 in absurd cc
@@ -201,16 +216,20 @@ module _ {F C K : Type 0} where
       by_left true h = let n = nowhere t h in absurd cc
       by_left false h = sym h
 
-  pub parts-told : (c : Scope) (tree : ℕ → Tree F C K) (ps : List Part) (t : Tree F C K) → covers_left t ≡ parts_covers_left tree ps
+  pub parts-told : (c : Scope) (tree : ℕ → Tree F C K) (ps : List Part) (t : Tree F C K)
+      → covers_left t ≡ parts_covers_left tree ps
       → parts_done c tree ps ≡ covers_done c t
   parts-told c tree ps t e = ap (λ b. not c.syntax.pedantic || b) (none_told t (parts_covers_left tree ps) e)
 
   -- also without the marks of commas
-  pub parts-told-bare : (c : Scope) (tree : ℕ → Tree F C K) (ps : List Part) (t : Tree F C K) → covers_left t ≡ parts_covers_left tree ps
+  pub parts-told-bare : (c : Scope) (tree : ℕ → Tree F C K) (ps : List Part) (t : Tree F C K)
+      → covers_left t ≡ parts_covers_left tree ps
       → parts_done c tree ps ≡ covers_done c (unmarked t)
-  parts-told-bare c tree ps t e = parts-told c tree ps t e ∙ ap (λ b. not c.syntax.pedantic || b) (sym (covers-unmarked t))
+  parts-told-bare c tree ps t e = parts-told c tree ps t e ∙ ap (λ b. not c.syntax.pedantic || b)
+      (sym (covers-unmarked t))
 
-module _ {S F C K : Type 0} {fg : Ghosts F} {cg : Ghosts C} {kg : Ghosts K} (model : Model S) (sure : Bool) (f : Reader (Tree F C K))
+module _ {S F C K : Type 0} {fg : Ghosts F} {cg : Ghosts C} {kg : Ghosts K} (model : Model S) (sure : Bool)
+    (f : Reader (Tree F C K))
     (ns : Nodes F C K fg cg kg) (b c d : Buffer S) where
   -- of the tree of an expression whose number is answered, in boxes
   pub expr-boxes-checked : (answer r : Result ExprId Error) → Parses model sure (tree_of ns) f b answer c
@@ -221,10 +240,12 @@ module _ {S F C K : Type 0} {fg : Ghosts F} {cg : Ghosts C} {kg : Ghosts K} (mod
       (λ e. parts-told-bare (scope model c) (tree_at ns) (one_expr e) (tree_of ns e) (expr-left (tree_at ns) e))
 
   -- and of arguments, of which the items alone are left
-  pub args-checked : (answer r : Result (Listed (ExprOrSpread ExprId)) Error) → Parses model sure (args_at ns) f b answer c
+  pub args-checked : (answer r : Result (Listed (ExprOrSpread ExprId)) Error)
+      → Parses model sure (args_at ns) f b answer c
       → ChecksAnswer model (λ l. parts_done (scope model c) (tree_at ns) (args_parts l.items)) c answer r d
       → Parses model sure (args_at ns) (checked only_items f) b r d
   args-checked answer r h checks =
       finished-parses model sure (λ k t. covers_done k (only_items t)) f (args_at ns) _ b c d answer r h checks
-      (λ l. parts-told-bare (scope model c) (tree_at ns) (args_parts l.items) (args_tree (λ (e : ExprId). tree_at ns e.0) l.items)
+      (λ l. parts-told-bare (scope model c) (tree_at ns) (args_parts l.items)
+      (args_tree (λ (e : ExprId). tree_at ns e.0) l.items)
       (args-left (tree_at ns) l.items))

@@ -1,4 +1,5 @@
--- The expression in the head of a `for` (ECMA-262, 14.7.4 and 14.7.5), by what the context says of `for await`: from what is
+-- The expression in the head of a `for` (ECMA-262, 14.7.4 and 14.7.5), by what the context says of `for await`: from
+-- what is
 -- read to what is promised.
 use Rattle.std.proofs.Common.{◌≡◌, Bool, true, false, List, Some, Result, Err, ap, ◌∙◌}
 use Rattle.std.specs.{declared.alloc.Global.Global, declared.boxed.Box.Box}
@@ -74,11 +75,14 @@ module _ {F C K : Type 0} {fun_at : F → Span} {class_at : C → Span} {block_a
   prefix-marked = finished-derives (λ c t. covers_done c (unmarked t)) marks
 
 module _ {S F C K T : Type 0} (model : Model S) (sure : Bool) (hook : Hook F C K) where
-  pub meets-prefix : {fun_at : F → Span} {class_at : C → Span} {block_at : K → Span} → LawfulHook fun_at class_at block_at hook
+  pub meets-prefix : {fun_at : F → Span} {class_at : C → Span} {block_at : K → Span}
+      → LawfulHook fun_at class_at block_at hook
       → (view : T → Tree F C K) (b : Buffer S) (r : Result T Error) (c : Buffer S)
-      → Parses model sure view (bare (checked_prefix hook)) b r c → Meets model sure (ReadsPrefix hook Expr) view Expr b r c
+      → Parses model sure view (bare (checked_prefix hook)) b r c
+      → Meets model sure (ReadsPrefix hook Expr) view Expr b r c
   meets-prefix laws view =
-      meets-checked model sure hook laws view unmarked Expr (Derived hook) (own_head_expr hook) (sounds hook laws) (completes hook)
+      meets-checked model sure hook laws view unmarked Expr (Derived hook) (own_head_expr hook) (sounds hook laws)
+      (completes hook)
       (wells hook)
 
   pub prefix-words : (view : T → Tree F C K) (b : Buffer S) (r : Result T Error) (c : Buffer S)
@@ -88,7 +92,8 @@ module _ {S F C K T : Type 0} (model : Model S) (sure : Bool) (hook : Hook F C K
       complete model sure (ReadsPrefix hook Expr) view (bare (checked_prefix hook)) y HeadStops
       (checked-complete unmarked (own_head_expr hook) (up_to_words hook)) b r c h
 
-module _ {S H F C K : Type 0} {fg : Ghosts F} {cg : Ghosts C} {kg : Ghosts K} {model : Model S} {sure : Bool} {hook : Hook F C K} where
+module _ {S H F C K : Type 0} {fg : Ghosts F} {cg : Ghosts C} {kg : Ghosts K} {model : Model S} {sure : Bool}
+    {hook : Hook F C K} where
   pub prefix-again : {p : Parser S H F C K fg cg kg} {e : Error}
       → (has_failed p ≡ true) × (e ≡ parser_failed (previous (buffer_of p))) → SameNodes (nodes_of p) (nodes_of p)
       → PromisedPrefix model sure hook p (Err e) p
@@ -96,8 +101,9 @@ module _ {S H F C K : Type 0} {fg : Ghosts F} {cg : Ghosts C} {kg : Ghosts K} {m
 
   -- the buffer before the parser remembers that it is out of memory
   pub words-of : (p q : Parser S H F C K fg cg kg) {b : Buffer S} {a r : Result (Box (ExprOf F C K) Global) Error}
-      → (sure ≡ true → Complete model (ReadsPrefix hook Expr) (tree_by fg.place cg.place kg.place) HeadStops (buffer_of p) a b)
-      → r ≡ a → buffer_of q ≡ b
-      → has_failed p ≡ false → sure ≡ true
-      → Complete model (ReadsPrefix hook Expr) (tree_by fg.place cg.place kg.place) HeadStops (buffer_of p) r (buffer_of q)
+      → (sure ≡ true → Complete model (ReadsPrefix hook Expr) (tree_by fg.place cg.place kg.place) HeadStops
+      (buffer_of p) a b)
+      → r ≡ a → buffer_of q ≡ b → has_failed p ≡ false → sure ≡ true
+      → Complete model (ReadsPrefix hook Expr) (tree_by fg.place cg.place kg.place) HeadStops (buffer_of p) r
+      (buffer_of q)
   words-of p q h e buffer runs y = rw (e, buffer) (h y)

@@ -105,7 +105,8 @@ each-fits (Some t) h = by_token t.token h
 
 -- ---- what the steps of the code read
 
-module _ {S F C K : Type 0} {fg : Ghosts F} {cg : Ghosts C} {kg : Ghosts K} {model : Model S} {sure : Bool} (hook : Hook F C K)
+module _ {S F C K : Type 0} {fg : Ghosts F} {cg : Ghosts C} {kg : Ghosts K} {model : Model S} {sure : Bool}
+    (hook : Hook F C K)
     (lawful : LawfulHook fg.place cg.place kg.place hook) {ns : Nodes F C K fg cg kg} (e : ExprId)
     (from : From 0 ns (expr_part e)) (is_await : Bool) {b c : Buffer S}
     (h : Heard model sure (head_expr hook is_await) (tree_of ns e) b c) where
@@ -125,13 +126,17 @@ module _ {S F C K : Type 0} {fg : Ghosts F} {cg : Ghosts C} {kg : Ghosts K} {mod
   tail-unheard u = steps.unheard_after on_tail u
 
   module _ {d : Buffer S} (look : Here model c d) where
-    on_expr : at_token is_each_word (seen d) ≡ false → On model sure (tail_made (tree_of ns e)) (give (for_expr (tree_of ns e))) c d
+    on_expr : at_token is_each_word (seen d) ≡ false → On model sure (tail_made (tree_of ns e))
+        (give (for_expr (tree_of ns e))) c d
     on_expr n = steps.on_seen look (λ x ts same at.
-        ap (λ v. if v then made (tree_of ns e) x ts else Some (for_expr (tree_of ns e), ts)) (sees_first ts ∙ ap (λ o. at_token is_each_word o) at ∙ n))
+        ap (λ v. if v then made (tree_of ns e) x ts else Some (for_expr (tree_of ns e), ts))
+        (sees_first ts ∙ ap (λ o. at_token is_each_word o) at ∙ n))
 
-    on_target : at_token is_each_word (seen d) ≡ true → On model sure (tail_made (tree_of ns e)) (made (tree_of ns e)) c d
+    on_target : at_token is_each_word (seen d) ≡ true → On model sure (tail_made (tree_of ns e))
+        (made (tree_of ns e)) c d
     on_target n = steps.on_seen look (λ x ts same at.
-        ap (λ v. if v then made (tree_of ns e) x ts else Some (for_expr (tree_of ns e), ts)) (sees_first ts ∙ ap (λ o. at_token is_each_word o) at ∙ n))
+        ap (λ v. if v then made (tree_of ns e) x ts else Some (for_expr (tree_of ns e), ts))
+        (sees_first ts ∙ ap (λ o. at_token is_each_word o) at ∙ n))
 
     pub heard-expr : at_token is_each_word (seen d) ≡ false
         → Heard model sure (for_head hook is_await) (for_expr (tree_of ns e)) b d
@@ -206,9 +211,12 @@ pub record DerivesAs {F C K : Type 0} (hook : Hook F C K) (is_await : Bool) (der
   -- up to where a head may stop, all that is derived is read
   pub complete : (c : Scope) (ts ys : List TokenAndSpan) (h : ForHead F C K) → derives c ts ys h → HeadStops ys
       → stripped strip (read_head hook is_await strip) c ts ≡ Some (h, ys)
-  pub grouped : (c : Scope) (ts ys : List TokenAndSpan) (h : ForHead F C K) → derives c ts ys h → is_grouped (head_tree h) ≡ true
-  pub valid : (c : Scope) (ts ys : List TokenAndSpan) (h : ForHead F C K) → derives c ts ys h → is_valid (head_tree h) ≡ true
-  pub privates : (c : Scope) (ts ys : List TokenAndSpan) (h : ForHead F C K) → derives c ts ys h → c.syntax.pedantic ≡ true
+  pub grouped : (c : Scope) (ts ys : List TokenAndSpan) (h : ForHead F C K) → derives c ts ys h
+      → is_grouped (head_tree h) ≡ true
+  pub valid : (c : Scope) (ts ys : List TokenAndSpan) (h : ForHead F C K) → derives c ts ys h
+      → is_valid (head_tree h) ≡ true
+  pub privates : (c : Scope) (ts ys : List TokenAndSpan) (h : ForHead F C K) → derives c ts ys h
+      → c.syntax.pedantic ≡ true
       → privates_ok false (head_tree h) ≡ true
   -- which of the two it is stays
   pub which : (h : ForHead F C K) → is_for_target (strip h) ≡ is_for_target h
@@ -231,14 +239,17 @@ module _ {F C K : Type 0} (hook : Hook F C K) (is_await : Bool) where
   which_bare (for_expr e) = refl
 
   -- in an expression that becomes a pattern private names are where they were, as in one that becomes an element
-  target_placed : (m : Role) (e p : Tree F C K) → as_pat m e ≡ Some p → privates_ok false e ≡ true → privates_ok false p ≡ true
+  target_placed : (m : Role) (e p : Tree F C K) → as_pat m e ≡ Some p → privates_ok false e ≡ true
+      → privates_ok false p ≡ true
   target_placed m e p h y =
       (both (privates_ok false p) true
       (elements-fit m None (cons (node item no_span (cons e nil)) nil) (cons p nil) (rw h refl) (rw y refl))).0
 
-  placed : (h : ForHead F C K) {c : Scope} {ts ys : List TokenAndSpan} → ReadsHead hook is_await c ts ys h → c.syntax.pedantic ≡ true
+  placed : (h : ForHead F C K) {c : Scope} {ts ys : List TokenAndSpan} → ReadsHead hook is_await c ts ys h
+      → c.syntax.pedantic ≡ true
       → privates_ok false (head_tree h) ≡ true
-  placed (for_target p) {c} (target-head {e = e} d none pattern word) y = target_placed (target c.context.strict) e p pattern (privates d y)
+  placed (for_target p) {c} (target-head {e = e} d none pattern word) y =
+      target_placed (target c.context.strict) e p pattern (privates d y)
   placed (for_expr e) (expr-head d word) y = privates d y
 
   placed_bare : {c : Scope} {ts ys : List TokenAndSpan} {h : ForHead F C K} → ReadsHeadUnmarked hook is_await c ts ys h
@@ -253,7 +264,8 @@ module _ {F C K : Type 0} (hook : Hook F C K) (is_await : Bool) where
     into = λ c xs ys m d w. record { read = record { marked = m; read = d; same = refl }; covers = w };
     complete = λ c ts ys h d e.
         ap (λ o. o >>= (λ p. Some (unmarked_head p.0, p.1)))
-        (finished-into (λ v. head_done c (unmarked_head v)) (for_head hook is_await c ts) d.read.marked ys (head-front hook d.read.read e)
+        (finished-into (λ v. head_done c (unmarked_head v)) (for_head hook is_await c ts) d.read.marked ys
+        (head-front hook d.read.read e)
         (ap (λ v. head_done c v) d.read.same ∙ d.covers))
         ∙ ap (λ v. Some (v, ys)) d.read.same;
     grouped = λ c ts ys h d. grouped_bare d.read;
@@ -274,15 +286,19 @@ module _ {F C K : Type 0} (hook : Hook F C K) (is_await : Bool) where
     which = λ h. refl;
   }
 
-module _ {S F C K : Type 0} {fun_at : F → Span} {class_at : C → Span} {block_at : K → Span} {model : Model S} {sure : Bool}
-    (hook : Hook F C K) (laws : LawfulHook fun_at class_at block_at hook) (is_await : Bool) (strip : ForHead F C K → ForHead F C K)
-    {marked : ForHead F C K} {b c : Buffer S} (h : Heard model sure (read_head hook is_await strip) marked b c) (loud : Loud model b)
+module _ {S F C K : Type 0} {fun_at : F → Span} {class_at : C → Span} {block_at : K → Span} {model : Model S}
+    {sure : Bool}
+    (hook : Hook F C K) (laws : LawfulHook fun_at class_at block_at hook) (is_await : Bool)
+    (strip : ForHead F C K → ForHead F C K)
+    {marked : ForHead F C K} {b c : Buffer S} (h : Heard model sure (read_head hook is_await strip) marked b c)
+    (loud : Loud model b)
     (same : Unmarred model b c) where
   front_read : (ys : List TokenAndSpan) → Future model c ys
       → (for_head hook is_await (scope model b) (h.on.leads.taken ++ ys) ≡ Some (marked, ys))
       × (head_done (scope model b) (strip marked) ≡ true)
   front_read ys fut =
-      finished-from (λ v. head_done (scope model b) (strip v)) (for_head hook is_await (scope model b) (h.on.leads.taken ++ ys))
+      finished-from (λ v. head_done (scope model b) (strip v))
+      (for_head hook is_await (scope model b) (h.on.leads.taken ++ ys))
       marked ys (h.on.clean loud (ap length same) ys fut)
 
   front : (ys : List TokenAndSpan) → Future model c ys
@@ -310,7 +326,8 @@ module _ {S F C K : Type 0} {fun_at : F → Span} {class_at : C → Span} {block
       read = h.on.leads.read;
       front = λ ys fut. into_left (h.on.leads.taken ++ ys) ys (front ys fut) (front_read ys fut).1;
       alone = λ ys fut.
-          into_left (h.on.leads.taken ++ next ys) (next ys) (head-next h.on.leads.taken ys (front ys fut)) (front_read ys fut).1;
+          into_left (h.on.leads.taken ++ next ys) (next ys) (head-next h.on.leads.taken ys (front ys fut))
+          (front_read ys fut).1;
     }
 
     good_left : (is_grouped (head_tree left) ≡ true) × (is_valid (head_tree left) ≡ true)
@@ -333,24 +350,30 @@ module _ {F C K : Type 0} (f : ℕ → Tree F C K) where
   head_left (number.Target p) = pat-left f p
   head_left (number.Expr e) = expr-left f e
 
-module _ {S F C K : Type 0} {fg : Ghosts F} {cg : Ghosts C} {kg : Ghosts K} (model : Model S) (sure : Bool) (hook : Hook F C K)
+module _ {S F C K : Type 0} {fg : Ghosts F} {cg : Ghosts C} {kg : Ghosts K} (model : Model S) (sure : Bool)
+    (hook : Hook F C K)
     (is_await : Bool) (ns : Nodes F C K fg cg kg) (b c d : Buffer S) where
   abbrev well_head : ForHeadId → Bool
   well_head h = parts_done (scope model c) (tree_at ns) (for_head_parts h)
 
-  module _ (answer r : Result ForHeadId Error) (reads : Parses model sure (for_head_at ns) (for_head hook is_await) b answer c)
+  module _ (answer r : Result ForHeadId Error) (reads : Parses model sure (for_head_at ns)
+      (for_head hook is_await) b answer c)
       (checks : ChecksAnswer model well_head c answer r d) where
     pub head-boxes-checked : Parses model sure (for_head_at ns) (read_head hook is_await (λ h. unmarked_head h)) b r d
     head-boxes-checked =
-        finished-parses model sure (λ k h. head_done k (unmarked_head h)) (for_head hook is_await) (for_head_at ns) well_head b c d
+        finished-parses model sure (λ k h. head_done k (unmarked_head h)) (for_head hook is_await)
+        (for_head_at ns) well_head b c d
         answer r reads checks
-        (λ h. parts-told-bare (scope model c) (tree_at ns) (for_head_parts h) (head_tree (for_head_at ns h)) (head_left (tree_at ns) h)
+        (λ h. parts-told-bare (scope model c) (tree_at ns) (for_head_parts h) (head_tree (for_head_at ns h))
+        (head_left (tree_at ns) h)
         ∙ ap (λ t. covers_done (scope model c) t) (sym (tree_bare (for_head_at ns h))))
 
     pub head-checked : Parses model sure (for_head_at ns) (read_head hook is_await (λ h. h)) b r d
     head-checked =
-        finished-parses model sure head_done (for_head hook is_await) (for_head_at ns) well_head b c d answer r reads checks
-        (λ h. parts-told (scope model c) (tree_at ns) (for_head_parts h) (head_tree (for_head_at ns h)) (head_left (tree_at ns) h))
+        finished-parses model sure head_done (for_head hook is_await)
+        (for_head_at ns) well_head b c d answer r reads checks
+        (λ h. parts-told (scope model c) (tree_at ns) (for_head_parts h) (head_tree (for_head_at ns h))
+        (head_left (tree_at ns) h))
 
   -- Where no fault was recorded nothing was done, so the token after the head is the one that it was told by.
   still : (h : ForHeadId) → Leads model b c → ChecksCovers model (well_head h) c d
@@ -364,19 +387,24 @@ module _ {S F C K : Type 0} {fg : Ghosts F} {cg : Ghosts C} {kg : Ghosts K} (mod
         where
           by_silent : (v : Bool) → is_silent (state_of model c) ≡ v → d ≡ c
           by_silent true k = checks.silent k
-          by_silent false k = let n = checks.checks.notes e k in let m = more_recorded leads in absurd (omega (arith, n, m, same))
+          by_silent false k = let n = checks.checks.notes e k in let m = more_recorded leads in
+              absurd (omega (arith, n, m, same))
 
       by_flag : (v : Bool) → (scope model b).syntax.pedantic ≡ v → d ≡ c
       by_flag true e = by_well (well_head h) refl (ap length (quiet e))
       by_flag false e =
           checks.still (ap (λ x. not x.syntax.pedantic || no_places (parts_covers_left (tree_at ns) (for_head_parts h)))
-          (read_scope leads.laws leads.read) ∙ ap (λ v. not v || no_places (parts_covers_left (tree_at ns) (for_head_parts h))) e)
+          (read_scope leads.laws leads.read) ∙ ap (λ v.
+          not v || no_places (parts_covers_left (tree_at ns) (for_head_parts h))) e)
 
-  pub head-told : (answer r : Result ForHeadId Error) → Parses model sure (for_head_at ns) (for_head hook is_await) b answer c
+  pub head-told : (answer r : Result ForHeadId Error) → Parses model sure (for_head_at ns)
+      (for_head hook is_await) b answer c
       → ChecksAnswer model well_head c answer r d → IfOk answer (λ h. is_target_id h ≡ at_token is_each_word (seen c))
-      → IfOk r (λ h. ((scope model b).syntax.pedantic ≡ true → Unmarred model b d) → is_target_id h ≡ at_token is_each_word (seen d))
+      → IfOk r (λ h. ((scope model b).syntax.pedantic ≡ true → Unmarred model b d)
+      → is_target_id h ≡ at_token is_each_word (seen d))
   head-told (Ok x) (Ok y) h (same, checks) q = λ quiet.
-      ap (λ v. is_target_id v) same ∙ q ∙ ap (λ v. at_token is_each_word (seen v)) (sym (still x h.on.leads checks quiet))
+      ap (λ v. is_target_id v) same ∙ q ∙ ap (λ v. at_token is_each_word (seen v))
+      (sym (still x h.on.leads checks quiet))
   head-told (Err e) (Ok y) h (same, stays) q = absurd cc
   head-told answer (Err e) h checks q = tt
 
@@ -396,7 +424,8 @@ module _ {S F C K T : Type 0} (model : Model S) (derives : Derivation (ForHead F
       of_answer (Ok x) q = (sym q.0, q.1)
       of_answer (Err e) q = tt
 
-module _ {S T F C K : Type 0} {fg : Ghosts F} {cg : Ghosts C} {kg : Ghosts K} (model : Model S) (sure : Bool) (hook : Hook F C K)
+module _ {S T F C K : Type 0} {fg : Ghosts F} {cg : Ghosts C} {kg : Ghosts K} (model : Model S) (sure : Bool)
+    (hook : Hook F C K)
     (laws : LawfulHook fg.place cg.place kg.place hook) (is_await : Bool) (derives : Derivation (ForHead F C K))
     (strip : ForHead F C K → ForHead F C K) (by : DerivesAs hook is_await derives strip) (view : T → ForHead F C K)
     (ns : Nodes F C K fg cg kg) (b c : Buffer S) where
@@ -406,9 +435,11 @@ module _ {S T F C K : Type 0} {fg : Ghosts F} {cg : Ghosts C} {kg : Ghosts K} (m
       (λ x. MatchResult r (λ t. view t ≡ strip (for_head_at ns x)) (λ e. e ≡ no_memory (last_position c)))
       (λ e. r ≡ Err e)
 
-  told : (P : Type 0) (answer : Result ForHeadId Error) (r : Result T Error) (w : Bool) → IfOk answer (λ h. P → is_target_id h ≡ w)
+  told : (P : Type 0) (answer : Result ForHeadId Error) (r : Result T Error) (w : Bool)
+      → IfOk answer (λ h. P → is_target_id h ≡ w)
       → StandsFor answer r → IfOk r (λ t. P → is_for_target (view t) ≡ w)
-  told P (Ok x) (Ok t) w q m = λ p. ap (λ v. is_for_target v) m ∙ by.which (for_head_at ns x) ∙ head_which (tree_at ns) x ∙ q p
+  told P (Ok x) (Ok t) w q m = λ p. ap (λ v. is_for_target v) m ∙ by.which (for_head_at ns x) ∙ head_which
+      (tree_at ns) x ∙ q p
   told P (Err e) (Ok t) w q m = absurd cc
   told P answer (Err e) w q m = tt
 
@@ -443,8 +474,10 @@ module _ {S T F C K : Type 0} {fg : Ghosts F} {cg : Ghosts C} {kg : Ghosts K} (m
   -- the commas of its literals
   commas : (answer : Result ForHeadId Error) (r : Result T Error) → Read answer → StandsFor answer r
       → (old new : TrailingCommas)
-      → MatchResult answer (λ x. OnOk r (Recalls (part_commas (tree_at ns) (for_head_parts x)) old new)) (λ e. new ≡ old)
-      → MatchResult r (λ t. RemembersHead model hook is_await strip (view t) b c old new) (λ e. e.kind ≢ OutOfMemory → new ≡ old)
+      → MatchResult answer (λ x. OnOk r (Recalls (part_commas (tree_at ns) (for_head_parts x)) old new))
+      (λ e. new ≡ old)
+      → MatchResult r (λ t. RemembersHead model hook is_await strip (view t) b c old new)
+      (λ e. e.kind ≢ OutOfMemory → new ≡ old)
   commas (Ok x) (Ok t) h m old new q = record {
     marked = for_head_at ns x;
     same = sym m;
@@ -458,7 +491,8 @@ module _ {S T F C K : Type 0} {fg : Ghosts F} {cg : Ghosts C} {kg : Ghosts K} (m
   module _ (answer : Result ForHeadId Error) (r : Result T Error) (reads : Read answer) (to : StandsFor answer r) where
     left_reads : Parses model sure view (stripped strip (read_head hook is_await strip)) b r c
     left_reads =
-        moved-as model sure (read_head hook is_await strip) (for_head_at ns) (λ x. strip (for_head_at ns x)) view strip b c answer r
+        moved-as model sure (read_head hook is_await strip) (for_head_at ns)
+        (λ x. strip (for_head_at ns x)) view strip b c answer r
         reads (λ x. refl) to
 
     all : sure ≡ true → Complete model derives view HeadStops b r c
@@ -467,11 +501,11 @@ module _ {S T F C K : Type 0} {fg : Ghosts F} {cg : Ghosts C} {kg : Ghosts K} (m
         (record { complete = λ x ts ys t d e. by.complete x ts ys t d e }) b r c left_reads
 
     pub head-promised : IfOk answer (λ h. ((scope model b).syntax.pedantic ≡ true → Unmarred model b c)
-        → is_target_id h ≡ at_token is_each_word (seen c))
-        → HeadPromise model sure derives view b r c
+        → is_target_id h ≡ at_token is_each_word (seen c)) → HeadPromise model sure derives view b r c
     head-promised which = record {
       reads = consumes_of model sure view (stripped strip (read_head hook is_await strip)) b c r left_reads;
-      which = told ((scope model b).syntax.pedantic ≡ true → Unmarred model b c) answer r (at_token is_each_word (seen c)) which to;
+      which = told ((scope model b).syntax.pedantic ≡ true → Unmarred model b c) answer r
+          (at_token is_each_word (seen c)) which to;
       sound = derived_by answer r reads to;
       complete = all;
       one_head = λ y. one model derives view b r c (all y);
@@ -481,35 +515,43 @@ module _ {S T F C K : Type 0} {fg : Ghosts F} {cg : Ghosts C} {kg : Ghosts K} (m
     }
 
     pub head-recalled : (old new : TrailingCommas)
-        → MatchResult answer (λ x. OnOk r (Recalls (part_commas (tree_at ns) (for_head_parts x)) old new)) (λ e. new ≡ old)
-        → MatchResult r (λ t. RemembersHead model hook is_await strip (view t) b c old new) (λ e. e.kind ≢ OutOfMemory → new ≡ old)
+        → MatchResult answer (λ x. OnOk r (Recalls (part_commas (tree_at ns) (for_head_parts x)) old new))
+        (λ e. new ≡ old)
+        → MatchResult r (λ t. RemembersHead model hook is_await strip (view t) b c old new)
+        (λ e. e.kind ≢ OutOfMemory → new ≡ old)
     head-recalled = commas answer r reads to
 
 module _ {F C K : Type 0} {fg : Ghosts F} {cg : Ghosts C} {kg : Ghosts K} where
   -- what was moved into boxes
-  pub head-moved : (ns : Nodes F C K fg cg kg) (at : BytePos) (answer : Result ForHeadId Error) (r : Result (HeadOf F C K) Error)
+  pub head-moved : (ns : Nodes F C K fg cg kg) (at : BytePos) (answer : Result ForHeadId Error)
+      (r : Result (HeadOf F C K) Error)
       → MatchResult answer
-      (λ x. MatchResult r (λ t. coded (boxed_head fg.place cg.place kg.place t) ≡ coded (head_by (bare_at ns) x)) (λ e. e ≡ no_memory at))
+      (λ x. MatchResult r (λ t. coded (boxed_head fg.place cg.place kg.place t) ≡ coded (head_by (bare_at ns) x))
+      (λ e. e ≡ no_memory at))
+      (λ e. r ≡ Err e) → MatchResult answer
+      (λ x. MatchResult r (λ t. boxed_head fg.place cg.place kg.place t ≡ unmarked_head (for_head_at ns x))
+      (λ e. e ≡ no_memory at))
       (λ e. r ≡ Err e)
-      → MatchResult answer
-      (λ x. MatchResult r (λ t. boxed_head fg.place cg.place kg.place t ≡ unmarked_head (for_head_at ns x)) (λ e. e ≡ no_memory at))
-      (λ e. r ≡ Err e)
-  head-moved ns at (Ok x) (Ok t) m = decoded (boxed_head fg.place cg.place kg.place t) (head_by (bare_at ns) x) m ∙ sym (head_bare (tree_at ns) x)
+  head-moved ns at (Ok x) (Ok t) m = decoded (boxed_head fg.place cg.place kg.place t) (head_by (bare_at ns) x) m ∙ sym
+      (head_bare (tree_at ns) x)
   head-moved ns at (Ok x) (Err e) m = m
   head-moved ns at (Err e) r m = m
 
   -- what was kept among the nodes
   pub head-kept : (ms ns : Nodes F C K fg cg kg) (at : BytePos) (k : ℕ) (answer r : Result ForHeadId Error)
       → Kept at answer r → MatchResult r (λ x. ns ≡ ms) (λ e. CutTo k ms ns)
-      → MatchResult answer (λ x. MatchResult r (λ v. for_head_at ns v ≡ for_head_at ms x) (λ e. e ≡ no_memory at)) (λ e. r ≡ Err e)
+      → MatchResult answer (λ x. MatchResult r (λ v. for_head_at ns v ≡ for_head_at ms x) (λ e. e ≡ no_memory at))
+      (λ e. r ≡ Err e)
   head-kept ms ns at k (Ok x) (Ok y) same e = ap (λ v. for_head_at v y) e ∙ ap (λ v. for_head_at ms v) same
   head-kept ms ns at k (Ok x) (Err e) same cut = same
   head-kept ms ns at k (Err x) r same e = same
 
-module _ {S H T F C K : Type 0} {fg : Ghosts F} {cg : Ghosts C} {kg : Ghosts K} {model : Model S} {sure : Bool} {hook : Hook F C K}
+module _ {S H T F C K : Type 0} {fg : Ghosts F} {cg : Ghosts C} {kg : Ghosts K} {model : Model S} {sure : Bool}
+    {hook : Hook F C K}
     {answer : HeadAnswer T F C K fg cg kg} {is_await : Bool} where
   pub head-again : {p : Parser S H F C K fg cg kg} {e : Error}
-      → (has_failed p ≡ true) × (e ≡ parser_failed (previous (buffer_of p))) → answer.leaves (nodes_of p) (Err e) (nodes_of p)
+      → (has_failed p ≡ true) × (e ≡ parser_failed (previous (buffer_of p)))
+      → answer.leaves (nodes_of p) (Err e) (nodes_of p)
       → PromisedHead model sure hook answer is_await p (Err e) p
   head-again h same = record {
     again = λ failed. (refl, ap (λ x. Err x) h.1);
@@ -520,15 +562,18 @@ module _ {S H T F C K : Type 0} {fg : Ghosts F} {cg : Ghosts C} {kg : Ghosts K} 
   }
 
   -- the buffer, the nodes and the commas before the parser remembers that it is out of memory
-  pub promised-head : {p q : Parser S H F C K fg cg kg} {f : Bool} (b : Buffer S) (ns : Nodes F C K fg cg kg) (cs : TrailingCommas)
+  pub promised-head : {p q : Parser S H F C K fg cg kg} {f : Bool} (b : Buffer S) (ns : Nodes F C K fg cg kg)
+      (cs : TrailingCommas)
       (a r : Result T Error) → has_failed p ≡ false → f ≡ has_failed p → r ≡ a → buffer_of q ≡ b → nodes_of q ≡ ns
       → commas_of q ≡ cs → has_failed q ≡ (f || wants_memory a)
       → HeadPromise model sure (answer.derives hook is_await) (answer.head ns) (buffer_of p) a b
-      → MatchResult a (λ t. RemembersHead model hook is_await answer.strip (answer.head ns t) (buffer_of p) b (commas_of p) cs)
+      → MatchResult a (λ t. RemembersHead model hook is_await answer.strip (answer.head ns t) (buffer_of p) b
+      (commas_of p) cs)
       (λ e. e.kind ≢ OutOfMemory → cs ≡ commas_of p)
       → answer.leaves (nodes_of p) a ns → PromisedHead model sure hook answer is_await p r q
   promised-head {p} {q} b ns cs a r runs same e buffer nodes commas fails done remembers kept =
-      let promise : HeadPromise model sure (answer.derives hook is_await) (answer.head (nodes_of q)) (buffer_of p) r (buffer_of q) =
+      let promise : HeadPromise model sure (answer.derives hook is_await) (answer.head (nodes_of q)) (buffer_of p) r
+      (buffer_of q) =
       rw (e, buffer, nodes) done in
       let left : answer.leaves (nodes_of p) r (nodes_of q) = rw (e, nodes) kept in
       record {

@@ -44,7 +44,8 @@ module _ {F C K : Type 0} where
   held_pats f [] = refl
   held_pats f (x ∷ xs) = ap (cons (f x.pat)) (held_pats f xs)
 
-  same_pats : {X Y : Type 0} (f : X → Tree F C K) (g : Y → Tree F C K) (xs : Vec (Param X) Global) (ys : Vec (Param Y) Global)
+  same_pats : {X Y : Type 0} (f : X → Tree F C K) (g : Y → Tree F C K) (xs : Vec (Param X) Global)
+      (ys : Vec (Param Y) Global)
       → params_tree f xs ≡ params_tree g ys → trees (map (λ p. f p.pat) xs.items) ≡ trees (map (λ p. g p.pat) ys.items)
   same_pats f g xs ys e = sym (held_pats f xs.items) ∙ ap (λ t. first_parts (items_of t)) e ∙ held_pats g ys.items
 
@@ -119,7 +120,8 @@ module _ {F C K : Type 0} where
   close_done pats c [] w = let n = unclosed_end pats c in rw n refl
   close_done pats c (a ∷ us) w = by_first (is_rparen a.token) refl
     where
-      by_first : (v : Bool) → is_rparen a.token ≡ v → (params_close pats c (a ∷ us) >>= if_done c) ≡ params_close pats c (a ∷ us)
+      by_first : (v : Bool) → is_rparen a.token ≡ v → (params_close pats c (a ∷ us) >>= if_done c) ≡ params_close pats c
+          (a ∷ us)
       by_first true e =
           ap (λ o. o >>= if_done c) (closes pats c a us e)
           ∙ ap (λ b. if b then Some (listed None a.span pats, us) else None) w
@@ -138,15 +140,19 @@ module _ {F C K : Type 0} where
       by_first false e = ap (λ o. o >>= if_done c) (unclosed pats c a us e)
 
 module _ {S F C K : Type 0} {model : Model S} {sure : Bool} (hook : Hook F C K) where
-  params_checked : (pats : Trees F C K) (well : Bool) {b c d : Buffer S} → On model sure (run hook (at Params)) (params_close pats) b c
-      → Checks model well c d → well ≡ pats_done (scope model c) pats → On model sure (read_params hook) (params_close pats) b d
+  params_checked : (pats : Trees F C K) (well : Bool) {b c d : Buffer S}
+      → On model sure (run hook (at Params)) (params_close pats) b c
+      → Checks model well c d → well ≡ pats_done (scope model c) pats
+      → On model sure (read_params hook) (params_close pats) b d
   params_checked pats well {c = c} on checks fits =
       on_then
       (on_within_call {g = λ x ts. params_close pats x ts >>= if_done x} if_done (λ x ts. refl) (λ x ts. refl) on)
       (on_checked_in {f = λ x ts. params_close pats x ts >>= if_done x} {g = params_close pats} well checks
-      (λ ts w. close_done pats (scope model c) ts (sym fits ∙ w)) (λ ts w. close_undone pats (scope model c) ts (sym fits ∙ w)))
+      (λ ts w. close_done pats (scope model c) ts (sym fits ∙ w))
+      (λ ts w. close_undone pats (scope model c) ts (sym fits ∙ w)))
 
-module _ {S F C K : Type 0} {fg : Ghosts F} {cg : Ghosts C} {kg : Ghosts K} (model : Model S) (sure : Bool) (hook : Hook F C K)
+module _ {S F C K : Type 0} {fg : Ghosts F} {cg : Ghosts C} {kg : Ghosts K} (model : Model S) (sure : Bool)
+    (hook : Hook F C K)
     (ns : Nodes F C K fg cg kg) (b c d : Buffer S) where
   told : (x : Vec (Param PatId) Global)
       → parts_done (scope model c) (tree_at ns) (flat param_parts x.items) ≡ pats_done (scope model c) (params_at ns x)
@@ -173,8 +179,7 @@ module _ {S F C K : Type 0} {fg : Ghosts F} {cg : Ghosts C} {kg : Ghosts K} (mod
   -- and each of them is read by itself
   pub params-alone : (answer r : Result (Vec (Param PatId) Global) Error)
       → MatchResult answer (λ x. On model sure (run hook (at Params)) (params_close (params_at ns x)) b c)
-      (λ e. Unheard model sure (run hook (at Params)) b e c)
-      → (Loud model b → recorded model c ≡ recorded model b
+      (λ e. Unheard model sure (run hook (at Params)) b e c) → (Loud model b → recorded model c ≡ recorded model b
       → IfOk answer (λ x. AllReadAlone hook (scope model b) (params_at ns x)))
       → ChecksAnswer model (λ x. parts_done (scope model c) (tree_at ns) (flat param_parts x.items)) c answer r d
       → Loud model b → recorded model d ≡ recorded model b
@@ -188,13 +193,18 @@ module _ {S F C K : Type 0} {fg : Ghosts F} {cg : Ghosts C} {kg : Ghosts K} (mod
   params-alone (Err e) (Err x) u each (same, stays) l n = tt
 
 -- What derives parameters, beside the trees with their marks of commas: trees that `strip` leaves of them.
-pub record Derives {F C K : Type 0} (hook : Hook F C K) (derives : Derivation (Tree F C K)) (strip : Trees F C K → Trees F C K) : Type 0 where
-  pub into : (c : Scope) (xs ys : List TokenAndSpan) (s : Span) (m : Trees F C K) → Reads hook Params c xs ys (listed None s m)
+pub record Derives {F C K : Type 0} (hook : Hook F C K) (derives : Derivation (Tree F C K))
+    (strip : Trees F C K → Trees F C K) : Type 0 where
+  pub into : (c : Scope) (xs ys : List TokenAndSpan) (s : Span) (m : Trees F C K)
+      → Reads hook Params c xs ys (listed None s m)
       → items_done c (listed None s m) ≡ true → derives c xs ys (listed None s (strip m))
   pub marked : (c : Scope) (xs ys : List TokenAndSpan) (t : Tree F C K) → derives c xs ys t → Tree F C K
-  pub read : (c : Scope) (xs ys : List TokenAndSpan) (t : Tree F C K) (d : derives c xs ys t) → Reads hook Params c xs ys (marked c xs ys t d)
-  pub covers : (c : Scope) (xs ys : List TokenAndSpan) (t : Tree F C K) (d : derives c xs ys t) → items_done c (marked c xs ys t d) ≡ true
-  pub list : (c : Scope) (xs ys : List TokenAndSpan) (t : Tree F C K) (d : derives c xs ys t) (s : Span) (m : Trees F C K)
+  pub read : (c : Scope) (xs ys : List TokenAndSpan) (t : Tree F C K) (d : derives c xs ys t)
+      → Reads hook Params c xs ys (marked c xs ys t d)
+  pub covers : (c : Scope) (xs ys : List TokenAndSpan) (t : Tree F C K) (d : derives c xs ys t)
+      → items_done c (marked c xs ys t d) ≡ true
+  pub list : (c : Scope) (xs ys : List TokenAndSpan) (t : Tree F C K) (d : derives c xs ys t) (s : Span)
+      (m : Trees F C K)
       → marked c xs ys t d ≡ listed None s m → t ≡ listed None s (strip m)
   pub grouped : (m : Trees F C K) → are_grouped (strip m) ≡ are_grouped m
   pub valid : (m : Trees F C K) → are_valid (strip m) ≡ are_valid m
@@ -222,7 +232,8 @@ derives-bare hook = record {
   binds = λ m. all-same-binds any m;
 }
 
-pub derives-marked : {F C K : Type 0} (hook : Hook F C K) → Derives hook (Finished items_done (Reads hook Params)) (λ ts. ts)
+pub derives-marked : {F C K : Type 0} (hook : Hook F C K)
+    → Derives hook (Finished items_done (Reads hook Params)) (λ ts. ts)
 derives-marked hook = record {
   into = λ c xs ys s m d w. record { read = d; covers = w };
   marked = λ c xs ys t d. t;
@@ -236,7 +247,8 @@ derives-marked hook = record {
 }
 
 -- What a reading of parameters does and answers, from one state of the buffer and of the commas to another.
-pub record MeetsParams {S F C K T : Type 0} (model : Model S) (sure : Bool) (hook : Hook F C K) (derives : Derivation (Tree F C K))
+pub record MeetsParams {S F C K T : Type 0} (model : Model S) (sure : Bool) (hook : Hook F C K)
+    (derives : Derivation (Tree F C K))
     (strip : Trees F C K → Trees F C K) (view : T → Trees F C K) (b : Buffer S) (r : Result T Error) (c : Buffer S)
     (old new : TrailingCommas) : Type 0 where
   pub acts : Acts model b r c
@@ -250,9 +262,11 @@ pub record MeetsParams {S F C K T : Type 0} (model : Model S) (sure : Bool) (hoo
   pub privates : Loud model b → (scope model b).syntax.pedantic ≡ true
       → IfOk r (λ v. Unmarred model b c → all_privates_ok false false (view v) ≡ true)
   pub binds : Loud model b → IfOk r (λ v. Unmarred model b c → all_bind_names any (view v) ≡ true)
-  pub commas : MatchResult r (λ v. RemembersParams model hook strip (view v) b c old new) (λ e. e.kind ≢ OutOfMemory → new ≡ old)
+  pub commas : MatchResult r (λ v. RemembersParams model hook strip (view v) b c old new)
+      (λ e. e.kind ≢ OutOfMemory → new ≡ old)
 
-module _ {S F C K : Type 0} {fun_at : F → Span} {class_at : C → Span} {block_at : K → Span} (model : Model S) (sure : Bool)
+module _ {S F C K : Type 0} {fun_at : F → Span} {class_at : C → Span} {block_at : K → Span} (model : Model S)
+    (sure : Bool)
     (hook : Hook F C K) (laws : LawfulHook fun_at class_at block_at hook) (marked : Trees F C K) (b c : Buffer S)
     (on : On model sure (read_params hook) (params_close marked) b c) where
   front_read : Loud model b → Unmarred model b c → (t : TokenAndSpan) (ys : List TokenAndSpan) → Future model c (t ∷ ys)
@@ -263,28 +277,40 @@ module _ {S F C K : Type 0} {fun_at : F → Span} {class_at : C → Span} {block
       finished-from (items_done (scope model b)) (run hook (at Params) (scope model b) (on.leads.taken ++ t ∷ ys))
       (listed None t.span marked) ys (on.clean l (ap length same) (t ∷ ys) fut ∙ closes marked (scope model c) t ys h)
 
-  front : Loud model b → Unmarred model b c → (t : TokenAndSpan) (ys : List TokenAndSpan) → Future model c (t ∷ ys) → is_rparen t.token ≡ true
+  front : Loud model b → Unmarred model b c → (t : TokenAndSpan) (ys : List TokenAndSpan) → Future model c (t ∷ ys)
+      → is_rparen t.token ≡ true
       → Reads hook Params (scope model b) (on.leads.taken ++ t ∷ ys) ys (listed None t.span marked)
   front l same t ys fut h =
       clean.sound hook laws Params (scope model b) (on.leads.taken ++ t ∷ ys) (listed None t.span marked, ys)
       (front_read l same t ys fut h).0
 
-  whole : Loud model b → Unmarred model b c → (t : TokenAndSpan) (ys : List TokenAndSpan) → Future model c (t ∷ ys) → is_rparen t.token ≡ true
+  whole : Loud model b → Unmarred model b c → (t : TokenAndSpan) (ys : List TokenAndSpan) → Future model c (t ∷ ys)
+      → is_rparen t.token ≡ true
       → Reads hook Params (scope model b) (on.leads.taken ++ t ∷ []) [] (listed None t.span marked)
   whole l same t ys fut h =
       cut-append (on.leads.taken ++ t ∷ []) ys
-      (subst (λ v. Reads hook Params (scope model b) v ys (listed None t.span marked)) (sym (append_assoc on.leads.taken (t ∷ []) ys))
+      (subst (λ v. Reads hook Params (scope model b) v ys (listed None t.span marked))
+      (sym (append_assoc on.leads.taken (t ∷ []) ys))
       (front l same t ys fut h))
 
   derived : Loud model b → Unmarred model b c → DerivesParams model (Reads hook Params) marked b c
-  derived l same = record { consumed = on.leads.taken; read = on.leads.read; front = front l same; whole = whole l same }
+  derived l same = record {
+    consumed = on.leads.taken;
+    read = on.leads.read;
+    front = front l same;
+    whole =
+        whole l same;
+  }
 
   module _ (derives : Derivation (Tree F C K)) (strip : Trees F C K → Trees F C K) (by : Derives hook derives strip)
       (pats : Trees F C K) (strips : strip marked ≡ pats) where
-    stripped_of : (xs ys : List TokenAndSpan) (t : TokenAndSpan) → Reads hook Params (scope model b) xs ys (listed None t.span marked)
-        → items_done (scope model b) (listed None t.span marked) ≡ true → derives (scope model b) xs ys (listed None t.span pats)
+    stripped_of : (xs ys : List TokenAndSpan) (t : TokenAndSpan)
+        → Reads hook Params (scope model b) xs ys (listed None t.span marked)
+        → items_done (scope model b) (listed None t.span marked) ≡ true
+        → derives (scope model b) xs ys (listed None t.span pats)
     stripped_of xs ys t d w =
-        subst (λ v. derives (scope model b) xs ys (listed None t.span v)) strips (by.into (scope model b) xs ys t.span marked d w)
+        subst (λ v. derives (scope model b) xs ys (listed None t.span v)) strips
+        (by.into (scope model b) xs ys t.span marked d w)
 
     derived_as : Loud model b → Unmarred model b c → DerivesParams model derives pats b c
     derived_as l same = record {
@@ -306,14 +332,17 @@ module _ {S F C K : Type 0} {fun_at : F → Span} {class_at : C → Span} {block
         finished-into (items_done (scope model b)) (run hook (at Params) (scope model b) ts) m ys
         (clean_all.complete hook (by.read (scope model b) ts ys t d) tt) (by.covers (scope model b) ts ys t d) in
         let w = Known-after laws b c on.leads.taken ts on.leads.read.took k in
-        let counted : recorded model c ≡ recorded model b = as_many on.leads.read.errors (λ lt. let f0 = on.faulty y l lt ts k in cc) in
+        let counted : recorded model c ≡ recorded model b =
+        as_many on.leads.read.errors (λ lt. let f0 = on.faulty y l lt ts k in cc) in
         let got = on.clean l counted w.0 (Known-Future laws c w.0 w.1) in
-        let found = closed_from marked (scope model c) w.0 m ys (sym got ∙ ap (λ v. read_params hook (scope model b) v) (sym w.2) ∙ e) in (
+        let found = closed_from marked (scope model c) w.0 m ys
+        (sym got ∙ ap (λ v. read_params hook (scope model b) v) (sym w.2) ∙ e) in (
           record {
             close = found.close;
             is = found.is;
             known = subst (λ v. Known model c v) found.begins w.1;
-            list = by.list (scope model b) ts ys t d found.close.span marked found.list ∙ ap (λ v. listed None found.close.span v) strips;
+            list = by.list (scope model b) ts ys t d found.close.span marked found.list ∙ ap
+                (λ v. listed None found.close.span v) strips;
           },
           same_faults on.leads.read.errors counted,
         )
@@ -332,7 +361,8 @@ module _ {S F C K : Type 0} {fun_at : F → Span} {class_at : C → Span} {block
           by.list x own [] u d t.span marked is ∙ ap (λ v. listed None t.span v) strips;
     }
 
-    module _ (alone : Loud model b → recorded model c ≡ recorded model b → AllReadAlone hook (scope model b) marked) where
+    module _ (alone : Loud model b → recorded model c ≡ recorded model b
+        → AllReadAlone hook (scope model b) marked) where
       fine_pats : Loud model b → Unmarred model b c → AllFine (scope model b).syntax.pedantic marked
       fine_pats l same = all-fine hook laws (scope model b) marked (alone l (ap length same))
 
@@ -350,21 +380,24 @@ module _ {S F C K : Type 0} {fun_at : F → Span} {class_at : C → Span} {block
       bound_pats : Loud model b → Unmarred model b c → all_bind_names any pats ≡ true
       bound_pats l same = ap (λ v. all_bind_names any v) (sym strips) ∙ by.binds marked ∙ (fine_pats l same).binds
 
-module _ {S F C K T : Type 0} {fg : Ghosts F} {cg : Ghosts C} {kg : Ghosts K} (model : Model S) (sure : Bool) (hook : Hook F C K)
-    (laws : LawfulHook fg.place cg.place kg.place hook) (derives : Derivation (Tree F C K)) (strip : Trees F C K → Trees F C K)
-    (by : Derives hook derives strip) (view : T → Trees F C K) (ns : Nodes F C K fg cg kg) (b c : Buffer S) (old new : TrailingCommas) where
+module _ {S F C K T : Type 0} {fg : Ghosts F} {cg : Ghosts C} {kg : Ghosts K} (model : Model S) (sure : Bool)
+    (hook : Hook F C K)
+    (laws : LawfulHook fg.place cg.place kg.place hook) (derives : Derivation (Tree F C K))
+    (strip : Trees F C K → Trees F C K)
+    (by : Derives hook derives strip) (view : T → Trees F C K) (ns : Nodes F C K fg cg kg) (b c : Buffer S)
+    (old new : TrailingCommas) where
   -- the answer stands for what the numbers stood for, as `strip` leaves it, or memory ran out
   abbrev pub StandsFor : Result (Vec (Param PatId) Global) Error → Result T Error → Type 0
   StandsFor answer r = MatchResult answer
-      (λ x. MatchResult r (λ v. strip (params_at ns x) ≡ view v) (λ e. e ≡ no_memory (last_position c))) (λ e. r ≡ Err e)
+      (λ x. MatchResult r (λ v. strip (params_at ns x) ≡ view v) (λ e. e ≡ no_memory (last_position c)))
+      (λ e. r ≡ Err e)
 
   pub meets-params : (answer : Result (Vec (Param PatId) Global) Error) (r : Result T Error)
       → MatchResult answer (λ x. On model sure (read_params hook) (params_close (params_at ns x)) b c)
-      (λ e. Unheard model sure (read_params hook) b e c)
-      → (Loud model b → recorded model c ≡ recorded model b
-      → IfOk answer (λ x. AllReadAlone hook (scope model b) (params_at ns x)))
-      → StandsFor answer r
-      → MatchResult answer (λ x. OnOk r (Recalls (part_commas (tree_at ns) (flat param_parts x.items)) old new)) (λ e. new ≡ old)
+      (λ e. Unheard model sure (read_params hook) b e c) → (Loud model b → recorded model c ≡ recorded model b
+      → IfOk answer (λ x. AllReadAlone hook (scope model b) (params_at ns x))) → StandsFor answer r
+      → MatchResult answer (λ x. OnOk r (Recalls (part_commas (tree_at ns) (flat param_parts x.items)) old new))
+      (λ e. new ≡ old)
       → MeetsParams model sure hook derives strip view b r c old new
   meets-params (Ok x) (Ok v) on alone strips q =
       let pats = params_at ns x in
@@ -396,35 +429,36 @@ module _ {S F C K T : Type 0} {fg : Ghosts F} {cg : Ghosts C} {kg : Ghosts K} (m
     commas = λ n. absurd (n (ap (λ v. v.kind) m));
   }
   meets-params (Err e) (Ok v) u alone m q = absurd cc
-  meets-params (Err e) (Err x) u alone m q = subst (λ w. MeetsParams model sure hook derives strip view b w c old new) (sym m) (record {
-    acts = u.refuses;
-    sound = λ l. tt;
-    complete = λ y l ts ys t k d.
-        memory e.kind (λ n.
-        let f0 = u.none n y l ts k in
-        let f1 =
-        finished-into (items_done (scope model b)) (run hook (at Params) (scope model b) ts) (by.marked (scope model b) ts ys t d) ys
-        (clean_all.complete hook (by.read (scope model b) ts ys t d) tt) (by.covers (scope model b) ts ys t d) in
-        cc);
-    one_tree = λ l. tt;
-    grouped = λ l. tt;
-    valid = λ l. tt;
-    privates = λ l y. tt;
-    binds = λ l. tt;
-    commas = λ n. q;
-  })
+  meets-params (Err e) (Err x) u alone m q = subst (λ w. MeetsParams model sure hook derives strip view b w c old new)
+      (sym m) (record {
+        acts = u.refuses;
+        sound = λ l. tt;
+        complete = λ y l ts ys t k d.
+            memory e.kind (λ n.
+            let f0 = u.none n y l ts k in
+            let f1 =
+            finished-into (items_done (scope model b)) (run hook (at Params) (scope model b) ts)
+            (by.marked (scope model b) ts ys t d) ys
+            (clean_all.complete hook (by.read (scope model b) ts ys t d) tt) (by.covers (scope model b) ts ys t d) in
+            cc);
+        one_tree = λ l. tt;
+        grouped = λ l. tt;
+        valid = λ l. tt;
+        privates = λ l y. tt;
+        binds = λ l. tt;
+        commas = λ n. q;
+      })
 
 module _ {F C K : Type 0} {fg : Ghosts F} {cg : Ghosts C} {kg : Ghosts K} where
   -- what was moved into boxes
   pub params-moved : (ns : Nodes F C K fg cg kg) (last : BytePos) (answer : Result (Vec (Param PatId) Global) Error)
-      (r : Result (Vec (Param (PatOf F C K)) Global) Error)
-      → MatchResult answer
+      (r : Result (Vec (Param (PatOf F C K)) Global) Error) → MatchResult answer
       (λ x. MatchResult r
       (λ v. params_tree (pat_tree F C K fg.place cg.place kg.place) v ≡ params_tree (λ (p : PatId). bare_at ns p.0) x)
       (λ e. e ≡ no_memory last))
-      (λ e. r ≡ Err e)
-      → MatchResult answer
-      (λ x. MatchResult r (λ v. all_unmarked (params_at ns x) ≡ pats_of fg.place cg.place kg.place v) (λ e. e ≡ no_memory last))
+      (λ e. r ≡ Err e) → MatchResult answer
+      (λ x. MatchResult r (λ v. all_unmarked (params_at ns x) ≡ pats_of fg.place cg.place kg.place v)
+      (λ e. e ≡ no_memory last))
       (λ e. r ≡ Err e)
   params-moved ns last (Ok x) (Ok v) e =
       unmarked_pats (tree_at ns) x.items
@@ -433,9 +467,11 @@ module _ {F C K : Type 0} {fg : Ghosts F} {cg : Ghosts C} {kg : Ghosts K} where
   params-moved ns last (Err e) r m = m
 
   -- what was kept among the nodes
-  pub params-kept : (ms ns : Nodes F C K fg cg kg) (last : BytePos) (k : ℕ) (answer r : Result (Vec (Param PatId) Global) Error)
+  pub params-kept : (ms ns : Nodes F C K fg cg kg) (last : BytePos) (k : ℕ)
+      (answer r : Result (Vec (Param PatId) Global) Error)
       → Kept last answer r → MatchResult r (λ x. ns ≡ ms) (λ e. CutTo k ms ns)
-      → MatchResult answer (λ x. MatchResult r (λ v. params_at ms x ≡ params_at ns v) (λ e. e ≡ no_memory last)) (λ e. r ≡ Err e)
+      → MatchResult answer (λ x. MatchResult r (λ v. params_at ms x ≡ params_at ns v) (λ e. e ≡ no_memory last))
+      (λ e. r ≡ Err e)
   params-kept ms ns last k (Ok x) (Ok y) same e = ap (λ v. params_at ms v) (sym same) ∙ ap (λ v. params_at v y) (sym e)
   params-kept ms ns last k (Ok x) (Err e) same cut = same
   params-kept ms ns last k (Err x) r same e = same
@@ -445,9 +481,11 @@ module _ {F C K : Type 0} {fg : Ghosts F} {cg : Ghosts C} {kg : Ghosts K} where
   params-apart ns k (Ok x) h = h.0
   params-apart ns k (Err e) h = tt
 
-module _ {S H T F C K : Type 0} {fg : Ghosts F} {cg : Ghosts C} {kg : Ghosts K} {model : Model S} {sure : Bool} {hook : Hook F C K}
+module _ {S H T F C K : Type 0} {fg : Ghosts F} {cg : Ghosts C} {kg : Ghosts K} {model : Model S} {sure : Bool}
+    {hook : Hook F C K}
     {answer : ParamsAnswer T F C K fg cg kg} where
-  pub params-again : {p : Parser S H F C K fg cg kg} {e : Error} → (has_failed p ≡ true) × (e ≡ parser_failed (previous (buffer_of p)))
+  pub params-again : {p : Parser S H F C K fg cg kg} {e : Error}
+      → (has_failed p ≡ true) × (e ≡ parser_failed (previous (buffer_of p)))
       → answer.leaves (nodes_of p) (Err e) (nodes_of p) → PromisedParams model sure hook answer p (Err e) p
   params-again h same = record {
     again = λ failed. (refl, ap (λ x. Err x) h.1);
@@ -465,13 +503,16 @@ module _ {S H T F C K : Type 0} {fg : Ghosts F} {cg : Ghosts C} {kg : Ghosts K} 
   }
 
   -- the buffer, the nodes and the commas before the parser remembers that it is out of memory
-  pub promised-params : {p q : Parser S H F C K fg cg kg} {f : Bool} (b : Buffer S) (ns : Nodes F C K fg cg kg) (cs : TrailingCommas)
+  pub promised-params : {p q : Parser S H F C K fg cg kg} {f : Bool} (b : Buffer S) (ns : Nodes F C K fg cg kg)
+      (cs : TrailingCommas)
       (a r : Result T Error) → has_failed p ≡ false → f ≡ has_failed p →
       r ≡ a → buffer_of q ≡ b → nodes_of q ≡ ns → commas_of q ≡ cs → has_failed q ≡ (f || wants_memory a)
-      → MeetsParams model sure hook (answer.derives hook Params) answer.strip (answer.pats ns) (buffer_of p) a b (commas_of p) cs
+      → MeetsParams model sure hook (answer.derives hook Params) answer.strip (answer.pats ns) (buffer_of p) a b
+      (commas_of p) cs
       → answer.leaves (nodes_of p) a ns → PromisedParams model sure hook answer p r q
   promised-params {p} {q} b ns cs a r runs same e buffer nodes commas fails done kept =
-      let meets : MeetsParams model sure hook (answer.derives hook Params) answer.strip (answer.pats (nodes_of q)) (buffer_of p) r (buffer_of q)
+      let meets : MeetsParams model sure hook (answer.derives hook Params) answer.strip (answer.pats (nodes_of q))
+      (buffer_of p) r (buffer_of q)
       (commas_of p) (commas_of q) = rw (e, buffer, nodes, commas) done in
       record {
         again = λ failed. absurd (not_both failed runs);

@@ -10,8 +10,10 @@ use Rattle.swc_steps.proofs.Steps.{consumes_of}
 use Rattle.swc_ecma_parser.specs.Promise.{Anywhere, HookReads, ReadsBody}
 use Rattle.swc_ecma_parser.proofs.Top.{IsSound, IsComplete, complete, sound}
 
-module _ {V : Type 0} {place : V → Span} {starts : List TokenAndSpan → Bool} (reads : Reading V) (laws : IsReading place starts reads) where
-  cut_own : (c : Scope) (own ys : List TokenAndSpan) (v : V) → ReadsBody reads c (own ++ ys) ys v → ReadsBody reads c own [] v
+module _ {V : Type 0} {place : V → Span} {starts : List TokenAndSpan → Bool} (reads : Reading V)
+    (laws : IsReading place starts reads) where
+  cut_own : (c : Scope) (own ys : List TokenAndSpan) (v : V) → ReadsBody reads c (own ++ ys) ys v
+      → ReadsBody reads c own [] v
   cut_own c own ys v d =
       let o = laws.owns c.context (own ++ ys) v ys d in
       let same : own ≡ o.own = append_cancel_right own o.own ys o.list in
@@ -29,6 +31,7 @@ module _ {V : Type 0} {place : V → Span} {starts : List TokenAndSpan → Bool}
   hook-reads model sure b r c h less = record {
     consumes = consumes_of model sure (λ (v : V). v) (by_hook reads) b c r h;
     sound = sound model sure (ReadsBody reads) (λ (v : V). v) (by_hook reads) body_sound b r c h;
-    complete = λ y. complete model sure (ReadsBody reads) (λ (v : V). v) (by_hook reads) y Anywhere body_complete b r c h;
+    complete = λ y. complete model sure (ReadsBody reads) (λ (v : V). v)
+        (by_hook reads) y Anywhere body_complete b r c h;
     less = less;
   }

@@ -74,7 +74,8 @@ module _ {F C K : Type 0} (at : ℕ → Tree F C K) where
   args-left xs = args_names true at xs ∙ due-left (args_parts xs)
 
   pub pats-left : (ps : List PatId)
-      → covers_left (node args no_span (trees (map (λ (p : PatId). at p.0) ps))) ≡ parts_covers_left at (flat one_pat ps)
+      → covers_left (node args no_span (trees (map (λ (p : PatId). at p.0) ps))) ≡ parts_covers_left at
+      (flat one_pat ps)
   pats-left ps = listed true at (λ (p : PatId). at p.0) one_pat (pat_same true at) ps ∙ due-left (flat one_pat ps)
 
 -- ---- what a walk begins with, among nodes

@@ -17,7 +17,8 @@ module _ {F C K : Type 0} (b : Bool) (at : ℕ → Tree F C K) where
   pub names-append : (ts us : List Task) → names_due b at (ts ++ us) ≡ names_due b at ts ++ names_due b at us
   names-append [] us = refl
   names-append (t ∷ ts) us =
-      ap (λ v. names_of b at t ++ v) (names-append ts us) ∙ sym (append_assoc (names_of b at t) (names_due b at ts) (names_due b at us))
+      ap (λ v. names_of b at t ++ v) (names-append ts us) ∙ sym
+      (append_assoc (names_of b at t) (names_due b at ts) (names_due b at us))
 
   abbrev names_by : List Part → List Span
   names_by ps = names_due b at (part_dues ps)
@@ -33,7 +34,8 @@ module _ {F C K : Type 0} (b : Bool) (at : ℕ → Tree F C K) where
   both ps qs x y d e = ap (λ v. v ++ y) d ∙ ap (λ v. names_by ps ++ v) e ∙ sym (part_append ps qs)
 
   -- lists of parts
-  pub listed : {X : Type 0} (f : X → Tree F C K) (parts : X → List Part) → ((x : X) → covers_by b (f x) ≡ names_by (parts x))
+  pub listed : {X : Type 0} (f : X → Tree F C K) (parts : X → List Part)
+      → ((x : X) → covers_by b (f x) ≡ names_by (parts x))
       → (xs : List X) → covers_by_of_all b (trees (map f xs)) ≡ names_by (flat parts xs)
   listed f parts same [] = refl
   listed f parts same (x ∷ xs) = both (parts x) (flat parts xs) _ _ (same x) (listed f parts same xs)
@@ -44,7 +46,8 @@ module _ {F C K : Type 0} (b : Bool) (at : ℕ → Tree F C K) where
   texts f parts same [] xs = listed f parts same xs
   texts f parts same (q ∷ qs) xs = texts f parts same qs xs
 
-  module _ {X : Type 0} (f : X → Tree F C K) (parts : X → List Part) (same : (x : X) → covers_by b (f x) ≡ names_by (parts x)) where
+  module _ {X : Type 0} (f : X → Tree F C K) (parts : X → List Part)
+      (same : (x : X) → covers_by b (f x) ≡ names_by (parts x)) where
     if_there : (o : Option X) → covers_by b (or_hole f o) ≡ names_by (if_some parts o)
     if_there None = refl
     if_there (Some x) = same x
@@ -102,7 +105,8 @@ module _ {F C K : Type 0} (b : Bool) (at : ℕ → Tree F C K) where
   pub tpl_names : (t : Tpl ExprId) → covers_by b (tpl_tree expr t) ≡ names_by (flat one_expr t.exprs.items)
   tpl_names t = texts expr one_expr expr_same t.quasis.items t.exprs.items
 
-  args_if : (o : Option (Vec (ExprOrSpread ExprId) Global)) → covers_by b (or_hole (args_tree expr) o) ≡ names_by (if_some args_parts o)
+  args_if : (o : Option (Vec (ExprOrSpread ExprId) Global))
+      → covers_by b (or_hole (args_tree expr) o) ≡ names_by (if_some args_parts o)
   args_if = if_there (args_tree expr) args_parts args_names
 
   body_names : (block_at : K → Span) (x : BlockStmtOrExpr ExprId K)
@@ -120,8 +124,10 @@ module _ {F C K : Type 0} (b : Bool) (at : ℕ → Tree F C K) where
       → covers_by b (function_tree block_at pat x) ≡ names_by (flat param_parts x.params.items)
   function_names block_at x = listed (param_tree pat) param_parts (λ p. refl) x.params.items
 
-module _ {F C K : Type 0} (fun_at : F → Span) (class_at : C → Span) (block_at : K → Span) (b : Bool) (at : ℕ → Tree F C K) where
-  target_names : (t : TargetNode) → covers_by b (target_of fun_at class_at block_at at t) ≡ covers_by b (at (target_part t).at)
+module _ {F C K : Type 0} (fun_at : F → Span) (class_at : C → Span) (block_at : K → Span) (b : Bool)
+    (at : ℕ → Tree F C K) where
+  target_names : (t : TargetNode) → covers_by b (target_of fun_at class_at block_at at t) ≡ covers_by b
+      (at (target_part t).at)
   target_names (target.Simple e) = refl
   target_names (target.Pat p) = refl
 
@@ -131,7 +137,8 @@ module _ {F C K : Type 0} (fun_at : F → Span) (class_at : C → Span) (block_a
   prop_names (prop.KeyValue s k v) = both b at (key_parts k) (one_expr v) _ _ (key_names b at k) refl
   prop_names (prop.Assign p) = refl
   prop_names (prop.Method k f) =
-      both b at (key_parts k) (flat param_parts f.params.items) _ _ (key_names b at k) (append-nil _ ∙ function_names b at block_at f)
+      both b at (key_parts k) (flat param_parts f.params.items) _ _ (key_names b at k)
+      (append-nil _ ∙ function_names b at block_at f)
   prop_names (prop.Getter s k body) = append-nil _ ∙ key_names b at k
   prop_names (prop.Setter s k p body) = both b at (key_parts k) (one_pat p) _ _ (key_names b at k) refl
 
@@ -151,13 +158,16 @@ module _ {F C K : Type 0} (fun_at : F → Span) (class_at : C → Span) (block_a
   elem_names (elem.Item p) = part_names p
   elem_names (elem.Rest s d p) = append-nil _ ∙ part_names p
 
-  pub pat_prop_names : (p : PatPropNode) → covers_by b (pat_prop_of fun_at class_at block_at at p) ≡ names_by b at (pat_prop_parts p)
+  pub pat_prop_names : (p : PatPropNode) → covers_by b (pat_prop_of fun_at class_at block_at at p) ≡ names_by b at
+      (pat_prop_parts p)
   pat_prop_names (pat_prop.KeyValue s k v) =
       both b at (key_parts k) (part_parts v) _ _ (key_names b at k) (append-nil _ ∙ part_names v)
-  pat_prop_names (pat_prop.Assign s k v) = append-nil _ ∙ if_there b at (λ (e : ExprId). at e.0) one_expr (expr_same b at) v
+  pat_prop_names (pat_prop.Assign s k v) = append-nil _ ∙ if_there b at (λ (e : ExprId). at e.0) one_expr
+      (expr_same b at) v
   pat_prop_names (pat_prop.Rest s d p) = append-nil _ ∙ part_names p
 
-  node_names : (x : Node F C K) → covers_by b (marked_tree fun_at class_at block_at at x) ≡ names_due b at (node_dues b x)
+  node_names : (x : Node F C K) → covers_by b (marked_tree fun_at class_at block_at at x) ≡ names_due b at
+      (node_dues b x)
   node_names (n.Array s elems comma) =
       listed b at (or_hole (item_tree (λ (e : ExprId). at e.0))) (if_some item_parts)
       (if_there b at (item_tree (λ (e : ExprId). at e.0)) item_parts (an_item b at)) elems.items
@@ -166,7 +176,8 @@ module _ {F C K : Type 0} (fun_at : F → Span) (class_at : C → Span) (block_a
   node_names (n.Seq s es) = listed b at (λ (e : ExprId). at e.0) one_expr (expr_same b at) es.items
   node_names (n.Member m) = ap (λ v. covers_by b (at m.obj.0) ++ v) (append-nil _ ∙ member_names b at m.prop)
   node_names (n.SuperProp p) = append-nil _ ∙ super_names b at p.prop
-  node_names (n.Call s c xs) = both b at (callee_parts c) (args_parts xs) _ _ (callee_names b at c) (items b at xs.items)
+  node_names (n.Call s c xs) = both b at (callee_parts c) (args_parts xs) _ _ (callee_names b at c)
+      (items b at xs.items)
   node_names (n.New s c xs) = ap (λ v. covers_by b (at c.0) ++ v) (append-nil _ ∙ args_if b at xs)
   node_names (n.OptChain c) = append-nil _ ∙ base_names b at c.base.value
   node_names (n.Tpl t) = tpl_names b at t
@@ -175,7 +186,8 @@ module _ {F C K : Type 0} (fun_at : F → Span) (class_at : C → Span) (block_a
   node_names (n.PatArray s elems) =
       listed b at (or_hole (pat_elem_of at)) (if_some pat_elem_part)
       (if_there b at (pat_elem_of at) pat_elem_part elem_names) elems.items
-  node_names (n.PatObject s props) = listed b at (pat_prop_of fun_at class_at block_at at) pat_prop_parts pat_prop_names props.items
+  node_names (n.PatObject s props) = listed b at (pat_prop_of fun_at class_at block_at at) pat_prop_parts pat_prop_names
+      props.items
   node_names (n.PatAssign s l r) = both b at (part_parts l) (one_expr r) _ _ (part_names l) refl
   node_names (n.Arrow s ps body a) =
       entered b at b _ _ (both b at (flat one_pat ps.items) (body_parts body.value) _ _
@@ -196,7 +208,8 @@ module _ {F C K : Type 0} (b : Bool) (at by : ℕ → Tree F C K) where
   entered_same true ps h = parts_same ps h
   entered_same false ps h = refl
 
-  prop_same : (p : PropNode K) → SameTrees at by (prop_parts p) → names_due b at (prop_dues p) ≡ names_due b by (prop_dues p)
+  prop_same : (p : PropNode K) → SameTrees at by (prop_parts p)
+      → names_due b at (prop_dues p) ≡ names_due b by (prop_dues p)
   prop_same (prop.Assign p) h = refl
   prop_same p h = parts_same (prop_parts p) h
 
@@ -205,11 +218,14 @@ module _ {F C K : Type 0} (b : Bool) (at by : ℕ → Tree F C K) where
   props_same [] h = refl
   props_same (p ∷ ps) h =
       names-append b at (prop_dues p) (flat prop_dues ps)
-      ∙ ap (λ v. v ++ names_due b at (flat prop_dues ps)) (prop_same p (same-front at by (prop_parts p) (flat prop_parts ps) h))
-      ∙ ap (λ v. names_due b by (prop_dues p) ++ v) (props_same ps (same-back at by (prop_parts p) (flat prop_parts ps) h))
+      ∙ ap (λ v. v ++ names_due b at (flat prop_dues ps))
+      (prop_same p (same-front at by (prop_parts p) (flat prop_parts ps) h))
+      ∙ ap (λ v. names_due b by (prop_dues p) ++ v) (props_same ps
+      (same-back at by (prop_parts p) (flat prop_parts ps) h))
       ∙ sym (names-append b by (prop_dues p) (flat prop_dues ps))
 
-  node_same : (x : Node F C K) → SameTrees at by (slots x) → names_due b at (node_dues b x) ≡ names_due b by (node_dues b x)
+  node_same : (x : Node F C K) → SameTrees at by (slots x)
+      → names_due b at (node_dues b x) ≡ names_due b by (node_dues b x)
   node_same (n.Object s props comma) h = props_same props.items h
   node_same (n.Arrow s ps body a) h = entered_same b _ h
   node_same x h = parts_same (slots x) h

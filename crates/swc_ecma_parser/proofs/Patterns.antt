@@ -57,7 +57,8 @@ module _ {S F C K T : Type 0} (model : Model S) (hook : Hook F C K) (view : T �
   bound_of derives all b (Err e) c h = λ l. tt
 
   -- of a node, of a tree in boxes, and of an element as either
-  pub bound-marked : (b : Buffer S) (r : Result T Error) (c : Buffer S) → Sound model (Finished covers_done (Reads hook Pat)) view b r c
+  pub bound-marked : (b : Buffer S) (r : Result T Error) (c : Buffer S)
+      → Sound model (Finished covers_done (Reads hook Pat)) view b r c
       → Bound model view b r c
   bound-marked = bound_of (Finished covers_done (Reads hook Pat)) (λ c xs ys t d. pattern-binds hook d.read)
 
@@ -71,10 +72,12 @@ module _ {S F C K T : Type 0} (model : Model S) (hook : Hook F C K) (view : T �
 
   pub bound-element : (b : Buffer S) (r : Result T Error) (c : Buffer S)
       → Sound model (Finished covers_done (ReadsUnmarked hook Element)) view b r c → Bound model view b r c
-  bound-element = bound_of (Finished covers_done (ReadsUnmarked hook Element)) (λ c xs ys t d. element_bare hook c xs ys t d.read)
+  bound-element = bound_of (Finished covers_done (ReadsUnmarked hook Element))
+      (λ c xs ys t d. element_bare hook c xs ys t d.read)
 
   -- of a property of an object pattern, or a rest
-  pub bound-prop : (b : Buffer S) (r : Result T Error) (c : Buffer S) → Sound model (PropOrRest (ReadsUnmarked hook)) view b r c
+  pub bound-prop : (b : Buffer S) (r : Result T Error) (c : Buffer S)
+      → Sound model (PropOrRest (ReadsUnmarked hook)) view b r c
       → BoundAsProp model view b r c
   bound-prop b (Ok x) c h = λ l same. let d = h l same in prop_bare hook (scope model b) d.consumed [] (view x) d.whole
   bound-prop b (Err e) c h = λ l. tt
@@ -106,7 +109,8 @@ module _ {F C K : Type 0} (hook : Hook F C K) where
   item_rest c a us h = ap (λ o. o >>= (λ p. pat_prop_by hook p.0 c p.1)) (eaten_takes is_dots c a us h)
 
   -- what is derived is read
-  prop_read : (c : Scope) (ts ys : List TokenAndSpan) (t : Tree F C K) → Reads hook PatProp c ts ys t → EndsAt PatProp ys
+  prop_read : (c : Scope) (ts ys : List TokenAndSpan) (t : Tree F C K) → Reads hook PatProp c ts ys t
+      → EndsAt PatProp ys
       → pat_prop_item hook c ts ≡ Some (t, ys)
   prop_read c ts ys t d e = item_prop c ts (key_first ts (begins d)) ∙ clean_all.complete hook d (stops-pat-prop c e)
 
@@ -115,14 +119,16 @@ module _ {F C K : Type 0} (hook : Hook F C K) where
   rest_read c ts ys t (by pat-rest (took {a = a} (held h (part d gave)))) =
       item_rest c a _ h ∙ ap (λ o. o >>= (λ p. Some (rest_node a.span p.0, p.1))) (clean_all.complete hook d tt)
 
-  bare_read : (c : Scope) (ts ys : List TokenAndSpan) (m t : Tree F C K) → pat_prop_item hook c ts ≡ Some (m, ys) → unmarked m ≡ t
+  bare_read : (c : Scope) (ts ys : List TokenAndSpan) (m t : Tree F C K) → pat_prop_item hook c ts ≡ Some (m, ys)
+      → unmarked m ≡ t
       → bare (pat_prop_item hook) c ts ≡ Some (t, ys)
   bare_read c ts ys m t e same = ap (λ o. o >>= (λ p. Some (unmarked p.0, p.1))) e ∙ ap (λ v. Some (v, ys)) same
 
   either_complete : IsComplete (PropOrRest (ReadsUnmarked hook)) (EndsAt PatProp) (bare (pat_prop_item hook))
   either_complete = record { complete = λ c ts ys t d e. either c ts ys t d e }
     where
-      either : (c : Scope) (ts ys : List TokenAndSpan) (t : Tree F C K) → PropOrRest (ReadsUnmarked hook) c ts ys t → EndsAt PatProp ys
+      either : (c : Scope) (ts ys : List TokenAndSpan) (t : Tree F C K) → PropOrRest (ReadsUnmarked hook) c ts ys t
+          → EndsAt PatProp ys
           → bare (pat_prop_item hook) c ts ≡ Some (t, ys)
       either c ts ys t (as-prop d) e = bare_read c ts ys d.marked t (prop_read c ts ys d.marked d.read e) d.same
       either c ts ys t (as-rest d) e = bare_read c ts ys d.marked t (rest_read c ts ys d.marked d.read) d.same
@@ -139,11 +145,13 @@ module _ {F C K : Type 0} (hook : Hook F C K) where
     privates = λ c xs ys t d y. all_placed c xs ys t d y;
   }
     where
-      all_grouped : (c : Scope) (xs ys : List TokenAndSpan) (t : Tree F C K) → PropOrRest (ReadsUnmarked hook) c xs ys t → is_grouped t ≡ true
+      all_grouped : (c : Scope) (xs ys : List TokenAndSpan) (t : Tree F C K) → PropOrRest (ReadsUnmarked hook) c xs ys t
+          → is_grouped t ≡ true
       all_grouped c xs ys t (as-prop d) = (well_bare hook PatProp).grouped c xs ys t d
       all_grouped c xs ys t (as-rest d) = (well_bare hook Rest).grouped c xs ys t d
 
-      all_valid : (c : Scope) (xs ys : List TokenAndSpan) (t : Tree F C K) → PropOrRest (ReadsUnmarked hook) c xs ys t → is_valid t ≡ true
+      all_valid : (c : Scope) (xs ys : List TokenAndSpan) (t : Tree F C K) → PropOrRest (ReadsUnmarked hook) c xs ys t
+          → is_valid t ≡ true
       all_valid c xs ys t (as-prop d) = (well_bare hook PatProp).valid c xs ys t d
       all_valid c xs ys t (as-rest d) = (well_bare hook Rest).valid c xs ys t d
 
@@ -162,7 +170,8 @@ module _ {F C K : Type 0} {fun_at : F → Span} {class_at : C → Span} {block_a
   rest_derived : (c : Scope) (a : TokenAndSpan) (us ys : List TokenAndSpan) (t : Tree F C K) → is_dots a.token ≡ true
       → pat_prop_item hook c (a ∷ us) ≡ Some (t, ys) → PropOrRest (Reads hook) c (a ∷ us) ys t
   rest_derived c a us ys t y h =
-      let (m, e, same) = stripped_from (rest_node a.span) (run hook (at Pat) c us) t ys (sym (item_rest hook c a us y) ∙ h) in
+      let (m, e, same) = stripped_from (rest_node a.span) (run hook (at Pat) c us) t ys
+      (sym (item_rest hook c a us y) ∙ h) in
       subst (λ v. PropOrRest (Reads hook) c (a ∷ us) ys v) same
       (as-rest (by pat-rest (took (held y (part (clean.sound hook laws Pat c us (m, ys) e) gave)))))
 
@@ -181,17 +190,33 @@ module _ {F C K : Type 0} {fun_at : F → Span} {class_at : C → Span} {block_a
   either_cut c own ys t (as-rest d) = as-rest (cut-append own ys d)
 
   pub either-sound : IsSound (PropOrRest (Reads hook)) (pat_prop_item hook)
-  either-sound = record { sound = λ c ts ys t h. either_derived c ts ys t h; cut = λ c own ys t d. either_cut c own ys t d }
+  either-sound = record {
+    sound = λ c ts ys t h. either_derived c ts ys t h;
+    cut =
+        λ c own ys t d. either_cut c own ys t d;
+  }
 
-  bare_as : (c : Scope) (xs ys : List TokenAndSpan) (m t : Tree F C K) → unmarked m ≡ t → PropOrRest (Reads hook) c xs ys m
+  bare_as : (c : Scope) (xs ys : List TokenAndSpan) (m t : Tree F C K) → unmarked m ≡ t
+      → PropOrRest (Reads hook) c xs ys m
       → PropOrRest (ReadsUnmarked hook) c xs ys t
   bare_as c xs ys m t same (as-prop d) = as-prop (record { marked = m; read = d; same = same })
   bare_as c xs ys m t same (as-rest d) = as-rest (record { marked = m; read = d; same = same })
 
-  cut_bare : (c : Scope) (own ys : List TokenAndSpan) (t : Tree F C K) → PropOrRest (ReadsUnmarked hook) c (own ++ ys) ys t
+  cut_bare : (c : Scope) (own ys : List TokenAndSpan) (t : Tree F C K)
+      → PropOrRest (ReadsUnmarked hook) c (own ++ ys) ys t
       → PropOrRest (ReadsUnmarked hook) c own [] t
-  cut_bare c own ys t (as-prop d) = as-prop (record { marked = d.marked; read = cut-append own ys d.read; same = d.same })
-  cut_bare c own ys t (as-rest d) = as-rest (record { marked = d.marked; read = cut-append own ys d.read; same = d.same })
+  cut_bare c own ys t (as-prop d) = as-prop (record {
+    marked = d.marked;
+    read = cut-append own ys d.read;
+    same =
+        d.same;
+  })
+  cut_bare c own ys t (as-rest d) = as-rest (record {
+    marked = d.marked;
+    read = cut-append own ys d.read;
+    same =
+        d.same;
+  })
 
   either_bare : IsSound (PropOrRest (ReadsUnmarked hook)) (bare (pat_prop_item hook))
   either_bare = record {
@@ -202,20 +227,26 @@ module _ {F C K : Type 0} {fun_at : F → Span} {class_at : C → Span} {block_a
   }
 
   module _ {S T : Type 0} (model : Model S) (sure : Bool) (view : T → Tree F C K) where
-    pub meets-pat-prop : (b : Buffer S) (r : Result T Error) (c : Buffer S) → Parses model sure view (bare (pat_prop_item hook)) b r c
+    pub meets-pat-prop : (b : Buffer S) (r : Result T Error) (c : Buffer S)
+        → Parses model sure view (bare (pat_prop_item hook)) b r c
         → Meets model sure (PropOrRest (ReadsUnmarked hook)) view PatProp b r c
     meets-pat-prop =
-        meets model sure hook laws view PatProp (PropOrRest (ReadsUnmarked hook)) (bare (pat_prop_item hook)) either_bare
+        meets model sure hook laws view PatProp (PropOrRest (ReadsUnmarked hook))
+        (bare (pat_prop_item hook)) either_bare
         (either_complete hook) (either_well hook)
 
     -- a rest that is derived is answered, whatever follows
-    pub rest-answered : (b : Buffer S) (r : Result T Error) (c : Buffer S) → Parses model sure view (bare (pat_prop_item hook)) b r c
+    pub rest-answered : (b : Buffer S) (r : Result T Error) (c : Buffer S)
+        → Parses model sure view (bare (pat_prop_item hook)) b r c
         → sure ≡ true → Complete model (ReadsUnmarked hook Rest) view Anywhere b r c
     rest-answered b r c h y =
-        complete model sure (ReadsUnmarked hook Rest) view (bare (pat_prop_item hook)) y Anywhere (rest_complete hook) b r c h
+        complete model sure (ReadsUnmarked hook Rest) view (bare (pat_prop_item hook)) y Anywhere
+        (rest_complete hook) b r c h
 
-module _ {S H F C K : Type 0} {fg : Ghosts F} {cg : Ghosts C} {kg : Ghosts K} {model : Model S} {sure : Bool} {hook : Hook F C K} where
-  pub pat-prop-again : {p : Parser S H F C K fg cg kg} {e : Error} → (has_failed p ≡ true) × (e ≡ parser_failed (previous (buffer_of p)))
+module _ {S H F C K : Type 0} {fg : Ghosts F} {cg : Ghosts C} {kg : Ghosts K} {model : Model S} {sure : Bool}
+    {hook : Hook F C K} where
+  pub pat-prop-again : {p : Parser S H F C K fg cg kg} {e : Error}
+      → (has_failed p ≡ true) × (e ≡ parser_failed (previous (buffer_of p)))
       → SameNodes (nodes_of p) (nodes_of p) → PromisedPatProp model sure hook p (Err e) p
   pat-prop-again h same = record {
     promised = promised-again h same;
@@ -223,14 +254,16 @@ module _ {S H F C K : Type 0} {fg : Ghosts F} {cg : Ghosts C} {kg : Ghosts K} {m
     binds = λ runs. absurd (not_both h.0 runs);
   }
 
-  pub promised-pat-prop : {p q : Parser S H F C K fg cg kg} (b : Buffer S) (a : Result (ObjectPatProp F C K) Error) {r : Result (ObjectPatProp F C K) Error}
-      → r ≡ a → buffer_of q ≡ b → Promised model sure hook pat_prop_in_boxes PatProp p r q
-      → (sure ≡ true
-      → Complete model (ReadsUnmarked hook Rest) (pat_prop_tree F C K fg.place cg.place kg.place) Anywhere (buffer_of p) a b)
+  pub promised-pat-prop : {p q : Parser S H F C K fg cg kg} (b : Buffer S) (a : Result (ObjectPatProp F C K) Error)
+      {r : Result (ObjectPatProp F C K) Error}
+      → r ≡ a → buffer_of q ≡ b → Promised model sure hook pat_prop_in_boxes PatProp p r q → (sure ≡ true
+      → Complete model (ReadsUnmarked hook Rest) (pat_prop_tree F C K fg.place cg.place kg.place) Anywhere
+      (buffer_of p) a b)
       → PromisedPatProp model sure hook p r q
   promised-pat-prop {p} {q} b a {r} e buffer h k = record {
     promised = h;
     rest = λ w. rw (e, buffer) k;
     binds = λ w.
-        bound-prop model hook (pat_prop_tree F C K fg.place cg.place kg.place) (buffer_of p) r (buffer_of q) (h.sound w);
+        bound-prop model hook (pat_prop_tree F C K fg.place cg.place kg.place) (buffer_of p) r (buffer_of q)
+        (h.sound w);
   }

@@ -9,15 +9,18 @@ use Rattle.swc_laws.proofs.{PedanticTrees.all-privates-unmarked, Privates.privat
 use Rattle.swc_ecma_parser.specs.Promise.{items_and_comma, keep_items, only_items}
 
 module _ {F C K : Type 0} where
-  only_placed : (t : Tree F C K) → all_privates_ok false false (items_of t) ≡ true → privates_ok false (only_items t) ≡ true
+  only_placed : (t : Tree F C K) → all_privates_ok false false (items_of t) ≡ true
+      → privates_ok false (only_items t) ≡ true
   only_placed (node k s ts) h = all-privates-unmarked false false ts ∙ h
 
-  comma_placed : (t : Tree F C K) → all_privates_ok false false (items_of t) ≡ true → privates_ok false (items_and_comma t) ≡ true
+  comma_placed : (t : Tree F C K) → all_privates_ok false false (items_of t) ≡ true
+      → privates_ok false (items_and_comma t) ≡ true
   comma_placed (node k s ts) h = all-privates-unmarked false false ts ∙ h
 
 -- in what is derived as the symbol, as `strip` leaves it
 abbrev pub PrivatesLeft : {F C K : Type 0} → Hook F C K → (Tree F C K → Tree F C K) → Symbol → Type 0
-PrivatesLeft {F} {C} {K} hook strip s = (c : Scope) (xs ys : List TokenAndSpan) (t : Tree F C K) → Reads hook s c xs ys t
+PrivatesLeft {F} {C} {K} hook strip s = (c : Scope) (xs ys : List TokenAndSpan) (t : Tree F C K)
+    → Reads hook s c xs ys t
     → c.syntax.pedantic ≡ true → privates_ok false (strip t) ≡ true
 
 module _ {F C K : Type 0} (hook : Hook F C K) where

@@ -59,8 +59,7 @@ heads-are c (Some qs) ps h = ap (λ v. Some v) (sym (from-if (heads_ok c qs) qs 
 module _ {F C K : Type 0} {fg : Ghosts F} {cg : Ghosts C} {kg : Ghosts K} where
   -- nodes that there were stay while others are put after them, marked and changed
   kept-through : {ns ms ls qs : Nodes F C K fg cg kg} {j : ℕ} {m : Marker} → Grows ns ms → Marks m (count ns) ms ls
-      → count ns ≤ j → KeptTo j ls qs
-      → KeptTo (count ns) ns qs
+      → count ns ≤ j → KeptTo j ls qs → KeptTo (count ns) ns qs
   kept-through {ns} {ms} {ls} {qs} {j} g w le k = record {
     kept =
         sym (take-take (count ns) j qs.nodes.items le) ∙ ap (take (count ns)) k.kept

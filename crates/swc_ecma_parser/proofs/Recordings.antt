@@ -27,19 +27,23 @@ no_token (Some t) h = ap (λ x. token_if x t) h
 module _ {S : Type 0} {model : Model S} (laws : Laws model) where
   pub loud-later : {b c : Buffer S} {xs : List TokenAndSpan} → Read model b xs c → is_silent (state_of model b) ≡ false
       → is_silent (state_of model c) ≡ false
-  loud-later {b} {c} r l = let syntax = (laws.gave b.iter c.iter r.took.given r.took.gave).syntax in rw (r.context, syntax) l
+  loud-later {b} {c} r l = let syntax = (laws.gave b.iter c.iter r.took.given r.took.gave).syntax in
+      rw (r.context, syntax) l
 
   pub appends-none : (b : Buffer S) → Appends model [] b b
   appends-none b = record { read = Read-same laws b; errors = sym (append-nil _); waiting = refl }
 
   -- one fault was recorded where no error token is current, and further ones after it
-  module _ (b c d : Buffer S) (e : Error) (es : List Error) (r : Recorded model b e c) (none : error_here (current r.here) ≡ None) where
+  module _ (b c d : Buffer S) (e : Error) (es : List Error) (r : Recorded model b e c)
+      (none : error_here (current r.here) ≡ None) where
     nothing_read : Read model b [] c
     nothing_read =
         let P : List TokenAndSpan → Type 0 = λ ts. Read model b ts c in
-        subst P (no_token (current r.here) none) (Read-late laws b r.here c (error_token (current r.here)) r.looked.look.read r.read)
+        subst P (no_token (current r.here) none) (Read-late laws b r.here c
+        (error_token (current r.here)) r.looked.look.read r.read)
 
-    appended : (state_of model r.here).errors ≡ (state_of model b).errors → (state_of model r.here).waiting ≡ (state_of model b).waiting
+    appended : (state_of model r.here).errors ≡ (state_of model b).errors
+        → (state_of model r.here).waiting ≡ (state_of model b).waiting
         → Appends model es c d → Appends model (e ∷ es) b d
     appended errors waiting a = record {
       read = Read-late laws b c d [] nothing_read a.read;
@@ -77,9 +81,11 @@ module _ {S : Type 0} {model : Model S} (laws : Laws model) where
       let P : List TokenAndSpan → Type 0 = λ us. Known model c us in
       subst P (sym after.2) after.1
 
-  pub appends-listed : (es : List Error) (b d : Buffer S) (ts : List TokenAndSpan) → RecordsAll model es b d → Known model b ts
+  pub appends-listed : (es : List Error) (b d : Buffer S) (ts : List TokenAndSpan) → RecordsAll model es b d
+      → Known model b ts
       → begins_fit ts ≡ true → Appends model es b d
-  appends-listed [] b d ts h k fit = let P : Buffer S → Type 0 = λ x. Appends model [] b x in subst P (sym h) (appends-none b)
+  appends-listed [] b d ts h k fit = let P : Buffer S → Type 0 = λ x. Appends model [] b x in
+      subst P (sym h) (appends-none b)
   appends-listed (e ∷ es) b d ts h k fit =
       let c = h.0 in let r : Recorded model b e c = h.1 in
       let none = fit_listed (current r.here) r.here ts refl (known_later r.looked.look.read k) fit in
@@ -97,8 +103,10 @@ module _ {S : Type 0} (model : Model S) where
     pub read : ReadSome model b c
     pub lives : Lives model b c
     pub kept : is_fit (current b) ≡ true → current c ≡ current b
-    pub recorded : is_silent (state_of model b) ≡ false → (d : Buffer S) → RecordsAll model rest c d → RecordsAll model all b d
-    pub appends : is_silent (state_of model b) ≡ false → is_fit (current b) ≡ true → (d : Buffer S) → Appends model rest c d → Appends model all b d
+    pub recorded : is_silent (state_of model b) ≡ false → (d : Buffer S) → RecordsAll model rest c d
+        → RecordsAll model all b d
+    pub appends : is_silent (state_of model b) ≡ false → is_fit (current b) ≡ true → (d : Buffer S)
+        → Appends model rest c d → Appends model all b d
 
 -- of places, none is left after the last; and before it one, and then the others
 pub none-left : (ss : List Span) (i : ℕ) → length ss ≤ i → cover_faults (drop i ss) ≡ []
@@ -114,7 +122,8 @@ more-left ss i d s lt at =
 module _ {S : Type 0} {model : Model S} (laws : Laws model) where
   -- the source didn't fail where nothing was done, nor where a fault was recorded
   living : {c d : Buffer S} {e : Error} (silent : Bool) → is_silent (state_of model c) ≡ silent
-      → (is_silent (state_of model c) ≡ true → d ≡ c) → (is_silent (state_of model c) ≡ false → Recorded model c e d) → Lives model c d
+      → (is_silent (state_of model c) ≡ true → d ≡ c) → (is_silent (state_of model c) ≡ false → Recorded model c e d)
+      → Lives model c d
   living {c} true is same now = let P : Buffer S → Type 0 = λ x. Lives model c x in subst P (sym (same is)) (λ f. f)
   living false is same now = (now is).lives
 
@@ -145,7 +154,8 @@ module _ {S : Type 0} {model : Model S} (laws : Laws model) where
           m.recorded l x (subst P (sym is) (d, now (m.loud l), h));
       appends = λ l f x a.
           let P : List Error → Type 0 = λ es. Appends model es c x in
-          m.appends l f x (subst P (sym is) (appends-fit laws c d x e rest (now (m.loud l)) (ap is_fit (m.kept f) ∙ f) a));
+          m.appends l f x (subst P (sym is) (appends-fit laws c d x e rest (now (m.loud l))
+          (ap is_fit (m.kept f) ∙ f) a));
     }
 
     -- none is left
@@ -160,7 +170,8 @@ module _ {S : Type 0} {model : Model S} (laws : Laws model) where
           let P : List Error → Type 0 = λ es. Appends model es c c in
           m.appends l f c (subst P (sym none) (appends-none laws c))
 
-      pub all-listed : is_silent (state_of model b) ≡ false → (ts : List TokenAndSpan) → Known model b ts → begins_fit ts ≡ true
+      pub all-listed : is_silent (state_of model b) ≡ false → (ts : List TokenAndSpan) → Known model b ts
+          → begins_fit ts ≡ true
           → Appends model all b c
       all-listed l ts k fit = appends-listed laws all b c ts (all-recorded l) k fit
 

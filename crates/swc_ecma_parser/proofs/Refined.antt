@@ -29,8 +29,7 @@ pub record MeetsRefinement {S T A : Type 0} (model : Model S) (valid : Bool) (pa
 
 -- where no fault was recorded, there is a pattern
 pattern-there : {A : Type 0} (strip : A → A) (o : Option A) (becomes v : A) → (is_some o ≡ false → ⊥) → ((m : A)
-    → o ≡ Some m → m ≡ becomes)
-    → v ≡ strip becomes → MatchOption o ⊥ (λ m. v ≡ strip m)
+    → o ≡ Some m → m ≡ becomes) → v ≡ strip becomes → MatchOption o ⊥ (λ m. v ≡ strip m)
 pattern-there strip None becomes v there is e = there refl
 pattern-there strip (Some m) becomes v there is e = e ∙ ap strip (sym (is m refl))
 
@@ -44,8 +43,7 @@ module _ {S H A X T F C K : Type 0} {fg : Ghosts F} {cg : Ghosts C} {kg : Ghosts
   pub meets-refinement : (answer : Result X Error) (r : Result T Error)
       → Recasts model valid pattern becomes of parts p answer q
       → MatchResult answer (λ x. MatchResult r (λ t. view t ≡ strip (of (nodes_of q) x)) (λ e. e
-      ≡ no_memory (last_position (buffer_of q)))) (λ e. r ≡ Err e)
-      → Meets r
+      ≡ no_memory (last_position (buffer_of q)))) (λ e. r ≡ Err e) → Meets r
   meets-refinement (Ok x) (Ok t) w m =
       let h = w.checks in
       let seen : view t ≡ strip becomes = m ∙ ap strip w.stands in
@@ -91,8 +89,7 @@ whichever P Q R (Ok x) h f g = f x h
 whichever P Q R (Err e) h f g = g e h
 
 pub of-answer : {X : Type 0} (P : X → Type 0) (Q : Error → Type 0) (T : X → Type 0) (r : Result X Error)
-    → MatchResult r P Q
-    → ((x : X) → P x → T x) → IfOk r T
+    → MatchResult r P Q → ((x : X) → P x → T x) → IfOk r T
 of-answer P Q T (Ok x) h f = f x h
 of-answer P Q T (Err e) h f = tt
 
@@ -162,8 +159,7 @@ module _ {F C K : Type 0} where
   -- the trees of patterns in boxes, by those of their numbers
   pub moved-pats : {P : Type 0} (M : Error → Type 0) (view : P → Tree F C K) (at : ℕ
       → Tree F C K) (answer : Result (Vec PatId Global) Error)
-      (r : Result (Vec P Global) Error)
-      → MatchResult answer (λ x. MatchResult r (λ t. pats_tree view t
+      (r : Result (Vec P Global) Error) → MatchResult answer (λ x. MatchResult r (λ t. pats_tree view t
       ≡ pats_tree (λ (i : PatId). unmarked (at i.0)) x) M) (λ e. r ≡ Err e)
       → MatchResult answer (λ x. MatchResult r (λ t. trees (map view t.items)
       ≡ all_unmarked (trees (map (λ (i : PatId). at i.0) x.items))) M) (λ e. r ≡ Err e)

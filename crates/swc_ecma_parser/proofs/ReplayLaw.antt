@@ -51,8 +51,7 @@ never-lost false b h = refl
 module _ {S : Type 0} (model : Model S) where
   -- A look for the end found none left: nothing is held, and the source runs.
   none-held : (b c : Buffer (Capturing S)) → Here (capturing_model model) b c → current c ≡ None → held c ≡ []
-  none-held b c here none =
-      ap (λ o. given_one o ++ given_one c.next) none ∙ ap given_one (here.looked.end none).0
+  none-held b c here none = ap (λ o. given_one o ++ given_one c.next) none ∙ ap given_one (here.looked.end none).0
 
   runs-on : (b c : Buffer (Capturing S)) → Here (capturing_model model) b c → held c ≡ []
       → either_failed (has_lost (source c)) (model.state (within (source c))).failed ≡ false
@@ -101,13 +100,16 @@ module _ {S H F C K : Type 0} {fg : Ghosts F} {cg : Ghosts C} {kg : Ghosts K} {m
   all-read s t b m p from new clear d here last ended =
       let c = buffer_of p in
       let none = none-held model m c here last in
-      let lost = never-lost (has_lost (source c)) (model.state (within (source c))).failed (runs-on model m c here none) in
+      let lost = never-lost (has_lost (source c)) (model.state (within (source c))).failed
+      (runs-on model m c here none) in
       let r = Read-still (capturing_laws laws) b m c d.consumed d.read here.looked.look.read in
       record {
         consumed = d.consumed;
-        gave = subst (λ x. model.gives x d.consumed (within (source c))) from (given-all model b c d.consumed new none lost r.took);
+        gave = subst (λ x. model.gives x d.consumed (within (source c))) from
+            (given-all model b c d.consumed new none lost r.took);
         ended = ended;
-        derived = subst (λ x. Finished covers_done (ReadsUnmarked hook Expr) (scope_at (model.state x)) d.consumed [] t) from d.whole;
+        derived = subst (λ x. Finished covers_done (ReadsUnmarked hook Expr) (scope_at (model.state x)) d.consumed [] t)
+            from d.whole;
         kept = kept-all model b c d.consumed new clear none r.took;
         context = r.context ∙ ap (λ x. (model.state x).context) from;
       }
@@ -135,15 +137,18 @@ module _ {S H F C K : Type 0} {fg : Ghosts F} {cg : Ghosts C} {kg : Ghosts K} {m
 module _ {H F C K : Type 0} {fg : Ghosts F} {cg : Ghosts C} {kg : Ghosts K} where
   again-answered : (start q : Parser TokensInput H F C K fg cg kg) (again : Result (Box (ExprOf F C K) Global) Error)
       (t : Tree F C K) → faults start ≡ []
-      → MatchResult again (λ e. (boxed fg cg kg e ≡ t) × Left q [] × (faults q ≡ faults start)) (λ e. e.kind ≡ OutOfMemory)
+      → MatchResult again (λ e. (boxed fg cg kg e ≡ t) × Left q [] × (faults q ≡ faults start))
+      (λ e. e.kind ≡ OutOfMemory)
       → ReadAgain t again q
   again-answered start q (Ok e) t clean (same, left, quiet) = (same, left, quiet ∙ clean)
   again-answered start q (Err e) t clean h = h
 
-  again-read : {sure : Bool} {hook : Hook F C K} (again : Result (Box (ExprOf F C K) Global) Error) (c : Context) (x : Syntax) (ts : List TokenAndSpan)
+  again-read : {sure : Bool} {hook : Hook F C K} (again : Result (Box (ExprOf F C K) Global) Error) (c : Context)
+      (x : Syntax) (ts : List TokenAndSpan)
       {q : Parser TokensInput H F C K fg cg kg}
       → Fresh (λ a b. Promised listed_model sure hook in_boxes Expr a again b) c x ts q → IsHeeded c x → sure ≡ true
-      → (t : Tree F C K) → Finished covers_done (ReadsUnmarked hook Expr) (scope_of (view c) x) ts [] t → ReadAgain t again q
+      → (t : Tree F C K) → Finished covers_done (ReadsUnmarked hook Expr) (scope_of (view c) x) ts [] t
+      → ReadAgain t again q
   again-read {hook = hook} again c x ts {q} g heeded y t d =
       let here : Finished covers_done (ReadsUnmarked hook Expr) (scope listed_model (buffer_of g.start)) ts [] t =
       subst (λ k. Finished covers_done (ReadsUnmarked hook Expr) k ts [] t) (sym g.stands) d in
@@ -155,7 +160,8 @@ module _ {S H F C K : Type 0} {fg : Ghosts F} {cg : Ghosts C} {kg : Ghosts K} {m
   -- a tree that is derived from what is kept is the one that was read, and so it is read again
   kept-read : (s : S) (t : Tree F C K) (again : Result (Box (ExprOf F C K) Global) Error) (xs : List TokenAndSpan)
       {q : Parser TokensInput H F C K fg cg kg}
-      → Fresh (λ a b. Promised listed_model sure hook in_boxes Expr a again b) (model.state s).context (model.state s).syntax (kept_of xs) q
+      → Fresh (λ a b. Promised listed_model sure hook in_boxes Expr a again b) (model.state s).context
+      (model.state s).syntax (kept_of xs) q
       → IsHeeded (model.state s).context (model.state s).syntax → sure ≡ true
       → Finished covers_done (ReadsUnmarked hook Expr) (scope_at (model.state s)) xs [] t
       → {m : Tree F C K} → Reads hook Expr (scope_at (model.state s)) xs [] m
@@ -167,7 +173,8 @@ module _ {S H F C K : Type 0} {fg : Ghosts F} {cg : Ghosts C} {kg : Ghosts K} {m
       (record { read = record { marked = m; read = k; same = ap unmarked one ∙ d.read.same }; covers = d.covers })
 
   replayed : {p r : Parser (Capturing S) H F C K fg cg kg} {q : Parser TokensInput H F C K fg cg kg} (s : S)
-      (t : Tree F C K) (again : Result (Box (ExprOf F C K) Global) Error) (tokens : List TokenAndSpan) (c : Context) (x : Syntax)
+      (t : Tree F C K) (again : Result (Box (ExprOf F C K) Global) Error) (tokens : List TokenAndSpan) (c : Context)
+      (x : Syntax)
       → IsHeeded (model.state s).context (model.state s).syntax → ReadAll laws hook s t p
       → HandsOut model tokens c x p r
       → Fresh (λ a b. Promised listed_model sure hook in_boxes Expr a again b) c x (plain_list tokens) q
@@ -192,11 +199,13 @@ module _ {S H F C K : Type 0} {fg : Ghosts F} {cg : Ghosts C} {kg : Ghosts K} {m
         joined = λ y order {m} d j. kept-read s t again a.consumed g3 heeded y a.derived d
             (replay hook lawful replays Expr (scope_at (model.state s)) a.consumed m d order j);
         wanted = λ y order closes w. kept-read s t again a.consumed g3 heeded y a.derived a.derived.read.read
-            (replay-wanted hook lawful replays Expr closes (scope_at (model.state s)) a.consumed a.derived.read.marked a.derived.read.read
+            (replay-wanted hook lawful replays Expr closes
+            (scope_at (model.state s)) a.consumed a.derived.read.marked a.derived.read.read
             order w);
       }
 
-  pub replay-law : {sure0 : Bool} {p r : Parser (Capturing S) H F C K fg cg kg} {q : Parser TokensInput H F C K fg cg kg} (s : S)
+  pub replay-law : {sure0 : Bool} {p r : Parser (Capturing S) H F C K fg cg kg}
+      {q : Parser TokensInput H F C K fg cg kg} (s : S)
       (first : Result (Box (ExprOf F C K) Global) Error) (at_end : Result Bool Error)
       (again : Result (Box (ExprOf F C K) Global) Error) (tokens : List TokenAndSpan) (c : Context) (x : Syntax)
       → ReadsKeeping model sure0 hook s first at_end p → HandsOut model tokens c x p r
@@ -205,6 +214,7 @@ module _ {S H F C K : Type 0} {fg : Ghosts F} {cg : Ghosts C} {kg : Ghosts K} {m
   replay-law s (Err e) at_end again tokens c x f o g = λ heeded. tt
   replay-law {sure0} {p} {r} s (Ok e) at_end again tokens c x f o g = λ heeded. λ end clean.
       let all = subst (λ v. ReadsKeeping model sure0 hook s (Ok e) v p) end f in
-      let same : (state_of (capturing_model model) (buffer_of r)).errors ≡ (state_of (capturing_model model) (buffer_of p)).errors =
+      let same : (state_of (capturing_model model) (buffer_of r)).errors ≡ (state_of (capturing_model model)
+      (buffer_of p)).errors =
       ap (λ z. (model.state z).errors) o.stays in
       replayed s (boxed fg cg kg e) again tokens c x heeded (read-all laws hook s e p all heeded (sym same ∙ clean)) o g

@@ -26,7 +26,8 @@ module _ {F C K : Type 0} where
       last-alone (e ∷ es) = ap (λ v. e ∷ v) (last-alone es)
   before-more (t ∷ (v ∷ vs)) u =
       ap (λ es. earlier_faults (rest_at t) ++ es) (before-more (v ∷ vs) u)
-      ∙ sym (append_assoc (earlier_faults (rest_at t)) (faults_before (trees (v ∷ vs))) (earlier_faults (last_rest (trees (v ∷ vs)))))
+      ∙ sym (append_assoc (earlier_faults (rest_at t)) (faults_before (trees (v ∷ vs)))
+      (earlier_faults (last_rest (trees (v ∷ vs)))))
 
 -- From b to c the faults of all rests but the last property were recorded; `last` is that, if it is a rest.
 pub record RestsNoted {S F C K : Type 0} (model : Model S) (ts : Trees F C K) (last : Option RestProp) (b c : Buffer S)
@@ -54,15 +55,24 @@ module _ {S X F C K : Type 0} (model : Model S) (tree : X → Tree F C K) where
         is = is ∙ sym (ap (λ v. last_rest (trees v)) more ∙ last-more ts (tree x));
       }
 
-  later-noted : {T : Type 0} (es fs : List Error) (o : Option Error) (b c d : Buffer S) (r : Result T Error) → Leads model b c
+  later-noted : {T : Type 0} (es fs : List Error) (o : Option Error) (b c d : Buffer S) (r : Result T Error)
+      → Leads model b c
       → NotesAll model es b c → Judges model fs o c r d → Judges model (es ++ fs) o b r d
   later-noted es fs o b c d (Ok t) leads h k = (k.0, notes-then model leads h k.1)
   later-noted es fs o b c d (Err e) leads h k = λ n.
       let w = k n in
-      record { fault = w.fault; is = w.is; noted = w.noted; notes = notes-then model leads h w.notes; refused = w.refused }
+      record {
+        fault = w.fault;
+        is = w.is;
+        noted = w.noted;
+        notes = notes-then model leads h w.notes;
+        refused =
+            w.refused;
+      }
 
   -- once the last one was checked too
-  pub noted-all : {T : Type 0} (xs ys : List X) (i : ℕ) {last : Option RestProp} (b c d : Buffer S) (comma : Option Span)
+  pub noted-all : {T : Type 0} (xs ys : List X) (i : ℕ) {last : Option RestProp} (b c d : Buffer S)
+      (comma : Option Span)
       (r : Result T Error) → xs ≡ ys → length xs ≤ i → Leads model b c
       → RestsNoted model (trees (map tree (take i xs))) last b c
       → Judges model (last_faults last comma) (last_refused last) c r d
@@ -71,6 +81,8 @@ module _ {S X F C K : Type 0} (model : Model S) (tree : X → Tree F C K) where
       let all : take i xs ≡ ys = take_all i xs le ∙ same in
       let whole = trees (map tree (take i xs)) in
       let ended : Judges model (rests_faults whole comma) (rests_refused whole) b r d =
-      later-noted (faults_before whole) (last_faults (last_rest whole) comma) (rests_refused whole) b c d r leads s.notes
+      later-noted (faults_before whole) (last_faults (last_rest whole) comma)
+      (rests_refused whole) b c d r leads s.notes
       (subst (λ o. Judges model (last_faults o comma) (last_refused o) c r d) s.is h) in
-      subst (λ v. Judges model (rests_faults (trees (map tree v)) comma) (rests_refused (trees (map tree v))) b r d) all ended
+      subst (λ v. Judges model (rests_faults (trees (map tree v)) comma) (rests_refused (trees (map tree v))) b r d)
+      all ended

@@ -38,7 +38,8 @@ module _ {F C K : Type 0} (at : ℕ → Seat F C K) where
   entered_most true ps = part_most ps
   entered_most false ps = omega arith
 
-  prop_most : (p : PropNode K) (lo hi : ℕ) → chain at lo (prop_parts p) hi ≡ true → steps (prop_dues p) ≤ parts_steps (prop_parts p)
+  prop_most : (p : PropNode K) (lo hi : ℕ) → chain at lo (prop_parts p) hi ≡ true
+      → steps (prop_dues p) ≤ parts_steps (prop_parts p)
   prop_most (prop.Assign p) lo hi h =
       let first = (fitting at lo (expr_part p.value) (both_true h).0).first in
       let one = sum_by-cons (steps_of at) (note p.span) [] in
@@ -55,17 +56,20 @@ module _ {F C K : Type 0} (at : ℕ → Seat F C K) where
       let rest = props_most ps 0 hi (chain-second at lo (prop_parts p) qs hi h) in
       let left = sum_by-append (steps_of at) (prop_dues p) (flat prop_dues ps) in
       let right : parts_steps (prop_parts p ++ qs) ≡ parts_steps (prop_parts p) + parts_steps qs =
-      ap (sum_by (weight at)) (ats-append (prop_parts p) qs) ∙ sum_by-append (weight at) (ats (prop_parts p)) (ats qs) in
+      ap (sum_by (weight at)) (ats-append (prop_parts p) qs) ∙ sum_by-append (weight at) (ats (prop_parts p))
+      (ats qs) in
       omega arith
 
-  node_most : (b : Bool) (x : Node F C K) (hi : ℕ) → chain at 0 (slots x) hi ≡ true → steps (node_dues b x) ≤ parts_steps (slots x)
+  node_most : (b : Bool) (x : Node F C K) (hi : ℕ) → chain at 0 (slots x) hi ≡ true
+      → steps (node_dues b x) ≤ parts_steps (slots x)
   node_most b (n.Object s props comma) hi h = props_most props.items 0 hi h
   node_most b (n.Arrow s ps body a) hi h = entered_most b (flat one_pat ps.items ++ body_parts body.value)
   node_most b x hi h = part_most (slots x)
 
   -- ---- and goes through nodes that there are
 
-  pub part_within : (ps : List Part) (lo hi more : ℕ) → hi ≤ more → chain at lo ps hi ≡ true → All (is_within more) (part_dues ps)
+  pub part_within : (ps : List Part) (lo hi more : ℕ) → hi ≤ more → chain at lo ps hi ≡ true
+      → All (is_within more) (part_dues ps)
   part_within [] lo hi more le h = All-nil (is_within more)
   part_within (p ∷ ps) lo hi more le h =
       let b : (fits at lo p ≡ true) × (chain at (suc p.at) ps hi ≡ true) = both_true h in
@@ -92,12 +96,14 @@ module _ {F C K : Type 0} (at : ℕ → Seat F C K) where
       let under = floor-under at 0 qs hi second in
       let low : floor at hi qs ≤ more = omega arith in
       All-append (is_within more) (prop_dues p) (flat prop_dues ps)
-      (prop_within p lo (floor at hi qs) more low (chain-first at lo (prop_parts p) qs hi h)) (props_within ps 0 hi more le second)
+      (prop_within p lo (floor at hi qs) more low (chain-first at lo (prop_parts p) qs hi h))
+      (props_within ps 0 hi more le second)
 
   node_within : (b : Bool) (x : Node F C K) (hi more : ℕ) → hi ≤ more → chain at 0 (slots x) hi ≡ true
       → All (is_within more) (node_dues b x)
   node_within b (n.Object s props comma) hi more le h = props_within props.items 0 hi more le h
-  node_within b (n.Arrow s ps body a) hi more le h = entered_within b (flat one_pat ps.items ++ body_parts body.value) 0 hi more le h
+  node_within b (n.Arrow s ps body a) hi more le h = entered_within b
+      (flat one_pat ps.items ++ body_parts body.value) 0 hi more le h
   node_within b x hi more le h = part_within (slots x) 0 hi more le h
 
 -- what is due last is taken
@@ -116,7 +122,8 @@ module _ {F C K : Type 0} (in_arrows : Bool) (at : ℕ → Tree F C K) where
       → named ds ++ reverse found ≡ all → names ≡ all
   found-all found d e rest = e ∙ sym (ap (λ v. named v ++ reverse found) d) ∙ rest
 
-module _ {F C K : Type 0} {fg : Ghosts F} {cg : Ghosts C} {kg : Ghosts K} (ns : Nodes F C K fg cg kg) (in_arrows : Bool) (a b : List Task) where
+module _ {F C K : Type 0} {fg : Ghosts F} {cg : Ghosts C} {kg : Ghosts K} (ns : Nodes F C K fg cg kg) (in_arrows : Bool)
+    (a b : List Task) where
   abbrev P : Task → Type 0
   P = is_within (count ns)
 
@@ -129,7 +136,8 @@ module _ {F C K : Type 0} {fg : Ghosts F} {cg : Ghosts C} {kg : Ghosts K} (ns : 
     pub noted-within : AreWithin ns a → AreWithin ns b
     noted-within all = (All-pop P a b (Some (note s)) taken all).0
 
-    pub noted-names : (found more all : List Span) → more ≡ found ++ s ∷ [] → by a ++ reverse found ≡ all → by b ++ reverse more ≡ all
+    pub noted-names : (found more all : List Span) → more ≡ found ++ s ∷ [] → by a ++ reverse found ≡ all
+        → by b ++ reverse more ≡ all
     noted-names found more all e rest =
         ap (λ v. by b ++ reverse v) e ∙ ap (λ v. by b ++ v) (reverse-append found (s ∷ []))
         ∙ sym (append_assoc (by b) (s ∷ []) (reverse found))
@@ -155,7 +163,8 @@ module _ {F C K : Type 0} {fg : Ghosts F} {cg : Ghosts C} {kg : Ghosts K} (ns : 
           let below = last-below in
           let new : steps_left ns r ≡ steps_left ns b + steps_left ns (node_dues in_arrows x) =
           ap (steps_left ns) put ∙ sum_by-append w b (node_dues in_arrows x) in
-          let old : steps_left ns a ≡ steps_left ns b + weight (seat_at ns) i = ap (steps_left ns) taken ∙ sum_by_push w b (go i) in
+          let old : steps_left ns a ≡ steps_left ns b + weight (seat_at ns) i =
+          ap (steps_left ns) taken ∙ sum_by_push w b (go i) in
           let most = node_most (seat_at ns) in_arrows x i (stood-parts stood below) in
           let less = parts_lighter ns i x stood below in
           omega arith

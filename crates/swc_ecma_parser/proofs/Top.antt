@@ -27,7 +27,8 @@ pub record IsSound {A : Type 0} (derives : Derivation A) (f : Reader A) : Type 0
   pub cut : (c : Scope) (own ys : List TokenAndSpan) (t : A) → derives c (own ++ ys) ys t → derives c own [] t
 
 -- what a reading of a symbol does and answers, from one state of the buffer to another
-pub record Meets {S F C K T : Type 0} (model : Model S) (sure : Bool) (derives : Derivation (Tree F C K)) (view : T → Tree F C K) (s : Symbol) (b : Buffer S) (r : Result T Error) (c : Buffer S) : Type 0 where
+pub record Meets {S F C K T : Type 0} (model : Model S) (sure : Bool) (derives : Derivation (Tree F C K))
+    (view : T → Tree F C K) (s : Symbol) (b : Buffer S) (r : Result T Error) (c : Buffer S) : Type 0 where
   pub reads : Consumes model b r c
   pub sound : Sound model derives view b r c
   pub complete : sure ≡ true → Complete model derives view (EndsAt s) b r c
@@ -37,7 +38,8 @@ pub record Meets {S F C K T : Type 0} (model : Model S) (sure : Bool) (derives :
   pub privates : PrivatesPlaced model view b r c
 
 -- It reads what is derived, up to where a reading may stop.
-pub record IsComplete {A : Type 0} (derives : Derivation A) (stops : List TokenAndSpan → Type 0) (f : Reader A) : Type 0 where
+pub record IsComplete {A : Type 0} (derives : Derivation A) (stops : List TokenAndSpan → Type 0)
+    (f : Reader A) : Type 0 where
   pub complete : (c : Scope) (ts ys : List TokenAndSpan) (t : A) → derives c ts ys t → stops ys → f c ts ≡ Some (t, ys)
 
 pub parts : {A B : Type 0} (p q : A × B) → Some p ≡ Some q → (p.0 ≡ q.0) × (p.1 ≡ q.1)
@@ -52,15 +54,19 @@ abbrev pub stripped : {A : Type 0} → (A → A) → Reader A → Reader A
 stripped strip f c ts = f c ts >>= (λ p. Some (strip p.0, p.1))
 
 pub stripped_from : {A : Type 0} (strip : A → A) (o : Out A) (t : A) (ys : List TokenAndSpan)
-    → (o >>= (λ p. Some (strip p.0, p.1))) ≡ Some (t, ys)
-    → (m : A) × (o ≡ Some (m, ys)) × (strip m ≡ t)
+    → (o >>= (λ p. Some (strip p.0, p.1))) ≡ Some (t, ys) → (m : A) × (o ≡ Some (m, ys)) × (strip m ≡ t)
 stripped_from strip None t ys h = absurd cc
-stripped_from strip (Some p) t ys h = let q = parts (strip p.0, p.1) (t, ys) h in (p.0, ap (λ v. Some (p.0, v)) q.1, q.0)
+stripped_from strip (Some p) t ys h = let q = parts (strip p.0, p.1) (t, ys) h in
+    (p.0, ap (λ v. Some (p.0, v)) q.1, q.0)
 
 module _ {F C K : Type 0} {fun_at : F → Span} {class_at : C → Span} {block_at : K → Span} (hook : Hook F C K)
     (laws : LawfulHook fun_at class_at block_at hook) where
   pub is_sound : (s : Symbol) → IsSound (grammar.Reads hook s) (run hook (at s))
-  is_sound s = record { sound = λ c ts ys t h. clean.sound hook laws s c ts (t, ys) h; cut = λ c own ys t d. cut-append own ys d }
+  is_sound s = record {
+    sound = λ c ts ys t h. clean.sound hook laws s c ts (t, ys) h;
+    cut =
+        λ c own ys t d. cut-append own ys d;
+  }
 
   pub is_sound_bare : (s : Symbol) → IsSound (grammar.ReadsUnmarked hook s) (bare (run hook (at s)))
   is_sound_bare s = record {
@@ -69,7 +75,8 @@ module _ {F C K : Type 0} {fun_at : F → Span} {class_at : C → Span} {block_a
     cut = λ c own ys t d. record { marked = d.marked; read = cut-append own ys d.read; same = d.same };
   }
 
-  pub is_sound_as : (strip : Tree F C K → Tree F C K) (s : Symbol) → IsSound (ReadsAs strip hook s) (stripped strip (run hook (at s)))
+  pub is_sound_as : (strip : Tree F C K → Tree F C K) (s : Symbol)
+      → IsSound (ReadsAs strip hook s) (stripped strip (run hook (at s)))
   is_sound_as strip s = record {
     sound = λ c ts ys t h. let (m, e, same) = stripped_from strip (run hook (at s) c ts) t ys h in
         record { marked = m; read = clean.sound hook laws s c ts (m, ys) e; same = same };
@@ -85,14 +92,17 @@ module _ {F C K : Type 0} (hook : Hook F C K) where
       → IsComplete (grammar.ReadsUnmarked hook s) (EndsAt s) (bare (run hook (at s)))
   is_complete_bare s stop = record {
     complete = λ c ts ys t d e.
-        ap (λ o. o >>= (λ p. Some (unmarked p.0, p.1))) (clean_all.complete hook d.read (stop c ys e)) ∙ ap (λ v. Some (v, ys)) d.same;
+        ap (λ o. o >>= (λ p. Some (unmarked p.0, p.1))) (clean_all.complete hook d.read (stop c ys e)) ∙ ap
+        (λ v. Some (v, ys)) d.same;
   }
 
-  pub is_complete_as : (strip : Tree F C K → Tree F C K) (s : Symbol) → ((c : Scope) (ys : List TokenAndSpan) → EndsAt s ys → Stop s c ys)
+  pub is_complete_as : (strip : Tree F C K → Tree F C K) (s : Symbol)
+      → ((c : Scope) (ys : List TokenAndSpan) → EndsAt s ys → Stop s c ys)
       → IsComplete (ReadsAs strip hook s) (EndsAt s) (stripped strip (run hook (at s)))
   is_complete_as strip s stop = record {
     complete = λ c ts ys t d e.
-        ap (λ o. o >>= (λ p. Some (strip p.0, p.1))) (clean_all.complete hook d.read (stop c ys e)) ∙ ap (λ v. Some (v, ys)) d.same;
+        ap (λ o. o >>= (λ p. Some (strip p.0, p.1))) (clean_all.complete hook d.read (stop c ys e)) ∙ ap
+        (λ v. Some (v, ys)) d.same;
   }
 
 -- what holds of each tree that is derived
@@ -166,14 +176,23 @@ memory OutOfMemory h = refl
 memory k h = absurd (h (λ e. cc))
 
 module _ {S T A : Type 0} (model : Model S) (sure : Bool) (derives : Derivation A) (view : T → A) (f : Reader A) where
-  derived : IsSound derives f → (t : A) (b c : Buffer S) → Heard model sure f t b c → Loud model b → Unmarred model b c → Derives model derives view t b c
+  derived : IsSound derives f → (t : A) (b c : Buffer S) → Heard model sure f t b c → Loud model b → Unmarred model b c
+      → Derives model derives view t b c
   derived is t b c h l same =
       let counted = ap length same in
-      let front = λ (ys : List TokenAndSpan) (fut : Future model c ys). is.sound (scope model b) (h.on.leads.taken ++ ys) ys t (h.on.clean l counted ys fut) in
+      let front = λ (ys : List TokenAndSpan) (fut : Future model c ys).
+      is.sound (scope model b) (h.on.leads.taken ++ ys) ys t (h.on.clean l counted ys fut) in
       let some = Future-some h.on.leads.laws c in
-      record { consumed = h.on.leads.taken; read = h.on.leads.read; front = front; whole = is.cut (scope model b) h.on.leads.taken some.0 t (front some.0 some.1) }
+      record {
+        consumed = h.on.leads.taken;
+        read = h.on.leads.read;
+        front = front;
+        whole =
+            is.cut (scope model b) h.on.leads.taken some.0 t (front some.0 some.1);
+      }
 
-  pub sound : IsSound derives f → (b : Buffer S) (r : Result T Error) (c : Buffer S) → Parses model sure view f b r c → Sound model derives view b r c
+  pub sound : IsSound derives f → (b : Buffer S) (r : Result T Error) (c : Buffer S) → Parses model sure view f b r c
+      → Sound model derives view b r c
   sound is b (Ok x) c h = λ l same. derived is (view x) b c h l same
   sound is b (Err e) c h = λ l. tt
 
@@ -182,27 +201,36 @@ module _ {S T A : Type 0} (model : Model S) (sure : Bool) (derives : Derivation 
       → ((c : Scope) (xs ys : List TokenAndSpan) (t : A) → derives c xs ys t → P c t)
       → (b : Buffer S) (r : Result T Error) (c : Buffer S) → Parses model sure view f b r c →
       Loud model b → IfOk r (λ x. Unmarred model b c → P (scope model b) (view x))
-  holds is P all b (Ok x) c h = λ l same. let d = derived is (view x) b c h l same in all (scope model b) d.consumed [] (view x) d.whole
+  holds is P all b (Ok x) c h = λ l same. let d = derived is (view x) b c h l same in
+      all (scope model b) d.consumed [] (view x) d.whole
   holds is P all b (Err e) c h = λ l. tt
 
   -- of a listed source: what f reads is answered
-  answered : sure ≡ true → (x : T) (b c : Buffer S) (ts ys : List TokenAndSpan) (t : A) → Heard model sure f (view x) b c → Loud model b → Known model b ts → f (scope model b) ts ≡ Some (t, ys) →
+  answered : sure ≡ true → (x : T) (b c : Buffer S) (ts ys : List TokenAndSpan) (t : A)
+      → Heard model sure f (view x) b c → Loud model b → Known model b ts → f (scope model b) ts ≡ Some (t, ys) →
       (view x ≡ t) × Known model c ys × Unmarred model b c
   answered y x b c ts ys t h l k e =
       let laws = h.on.leads.laws in
       let w = Known-after laws b c h.on.leads.taken ts h.on.leads.read.took k in
-      let counted : recorded model c ≡ recorded model b = as_many h.on.leads.read.errors (λ lt. let f0 = h.on.faulty y l lt ts k in cc) in
+      let counted : recorded model c ≡ recorded model b =
+      as_many h.on.leads.read.errors (λ lt. let f0 = h.on.faulty y l lt ts k in cc) in
       let got = h.on.clean l counted w.0 (Known-Future laws c w.0 w.1) in
       let q = parts (view x, w.0) (t, ys) (sym got ∙ ap (λ v. f (scope model b) v) (sym w.2) ∙ e) in
       (q.0, subst (λ v. Known model c v) q.1 w.1, same_faults h.on.leads.read.errors counted)
 
-  pub complete : sure ≡ true → (stops : List TokenAndSpan → Type 0) → IsComplete derives stops f → (b : Buffer S) (r : Result T Error) (c : Buffer S) → Parses model sure view f b r c → Complete model derives view stops b r c
-  complete y stops is b (Ok x) c h = λ l ts ys t k d e. answered y x b c ts ys t h l k (is.complete (scope model b) ts ys t d e)
-  complete y stops is b (Err x) c u = λ l ts ys t k d e. memory x.kind (λ n. let f0 = u.none n y l ts k in let f1 = is.complete (scope model b) ts ys t d e in cc)
+  pub complete : sure ≡ true → (stops : List TokenAndSpan → Type 0) → IsComplete derives stops f
+      → (b : Buffer S) (r : Result T Error) (c : Buffer S) → Parses model sure view f b r c
+      → Complete model derives view stops b r c
+  complete y stops is b (Ok x) c h = λ l ts ys t k d e.
+      answered y x b c ts ys t h l k (is.complete (scope model b) ts ys t d e)
+  complete y stops is b (Err x) c u = λ l ts ys t k d e. memory x.kind (λ n. let f0 = u.none n y l ts k in
+      let f1 = is.complete (scope model b) ts ys t d e in cc)
 
   -- what f reads is all that is derived
-  only : IsSound derives f → (stops : List TokenAndSpan → Type 0) → IsComplete derives stops f → (x : T) (b c : Buffer S)
-      → Heard model sure f (view x) b c → Loud model b → Unmarred model b c → DerivesOnly model derives view stops (view x) b c
+  only : IsSound derives f → (stops : List TokenAndSpan → Type 0) → IsComplete derives stops f
+      → (x : T) (b c : Buffer S)
+      → Heard model sure f (view x) b c → Loud model b → Unmarred model b c
+      → DerivesOnly model derives view stops (view x) b c
   only is stops all x b c h l same =
       let here = scope model b in
       let d = derived is (view x) b c h l same in
@@ -210,13 +238,16 @@ module _ {S T A : Type 0} (model : Model S) (sure : Bool) (derives : Derivation 
         consumed = d.consumed;
         read = d.read;
         alone = λ stop u e.
-            (parts (u, []) (view x, []) (sym (all.complete here d.consumed [] u e stop) ∙ all.complete here d.consumed [] (view x) d.whole stop)).0;
+            (parts (u, []) (view x, []) (sym (all.complete here d.consumed [] u e stop)
+            ∙ all.complete here d.consumed [] (view x) d.whole stop)).0;
         before = λ ys fut stop u e.
             (parts (u, ys) (view x, ys)
-            (sym (all.complete here (d.consumed ++ ys) ys u e stop) ∙ all.complete here (d.consumed ++ ys) ys (view x) (d.front ys fut) stop)).0;
+            (sym (all.complete here (d.consumed ++ ys) ys u e stop) ∙ all.complete here (d.consumed ++ ys) ys (view x)
+            (d.front ys fut) stop)).0;
       }
 
-  pub one_tree : IsSound derives f → (stops : List TokenAndSpan → Type 0) → IsComplete derives stops f → (b : Buffer S) (r : Result T Error) (c : Buffer S)
+  pub one_tree : IsSound derives f → (stops : List TokenAndSpan → Type 0) → IsComplete derives stops f
+      → (b : Buffer S) (r : Result T Error) (c : Buffer S)
       → Parses model sure view f b r c → OneTree model derives view stops b r c
   one_tree is stops all b (Ok x) c h = λ l same. only is stops all x b c h l same
   one_tree is stops all b (Err e) c h = λ l. tt
@@ -259,15 +290,18 @@ pub element-stops : Stopping Element
 element-stops = record { stop = λ c ys e. stops-element c e }
 
 module _ {S F C K T : Type 0} (model : Model S) (sure : Bool) (hook : Hook F C K)
-    {fun_at : F → Span} {class_at : C → Span} {block_at : K → Span} (laws : LawfulHook fun_at class_at block_at hook) (view : T → Tree F C K) where
+    {fun_at : F → Span} {class_at : C → Span} {block_at : K → Span} (laws : LawfulHook fun_at class_at block_at hook)
+    (view : T → Tree F C K) where
   privates_of : (b c : Buffer S) (r : Result T Error) → (scope model b).syntax.pedantic ≡ true
       → IfOk r (λ x. Unmarred model b c → (scope model b).syntax.pedantic ≡ true → privates_ok false (view x) ≡ true)
       → IfOk r (λ x. Unmarred model b c → privates_ok false (view x) ≡ true)
   privates_of b c (Ok x) y h = λ same. h same y
   privates_of b c (Err e) y h = tt
 
-  pub meets : (s : Symbol) (derives : Derivation (Tree F C K)) (f : Reader (Tree F C K)) → IsSound derives f → IsComplete derives (EndsAt s) f → Well derives →
-      (b : Buffer S) (r : Result T Error) (c : Buffer S) → Parses model sure view f b r c → Meets model sure derives view s b r c
+  pub meets : (s : Symbol) (derives : Derivation (Tree F C K)) (f : Reader (Tree F C K)) → IsSound derives f
+      → IsComplete derives (EndsAt s) f → Well derives →
+      (b : Buffer S) (r : Result T Error) (c : Buffer S) → Parses model sure view f b r c
+      → Meets model sure derives view s b r c
   meets s derives f is_sound is_complete all b r c h = record {
     reads = consumes_of model sure view f b c r h;
     sound = sound model sure derives view f is_sound b r c h;
@@ -282,17 +316,22 @@ module _ {S F C K T : Type 0} (model : Model S) (sure : Bool) (hook : Hook F C K
   -- of a node, and of a tree in boxes
   pub meets-by-number : {s : Symbol} → Stopping s → (b : Buffer S) (r : Result T Error) (c : Buffer S)
       → Parses model sure view (run hook (at s)) b r c → Meets model sure (grammar.Reads hook s) view s b r c
-  meets-by-number {s} stops = meets s (grammar.Reads hook s) (run hook (at s)) (is_sound hook laws s) (is_complete hook s stops.stop) (well hook s)
+  meets-by-number {s} stops = meets s (grammar.Reads hook s) (run hook (at s)) (is_sound hook laws s)
+      (is_complete hook s stops.stop) (well hook s)
 
   pub meets-in-boxes : {s : Symbol} → Stopping s → (b : Buffer S) (r : Result T Error) (c : Buffer S)
-      → Parses model sure view (bare (run hook (at s))) b r c → Meets model sure (grammar.ReadsUnmarked hook s) view s b r c
+      → Parses model sure view (bare (run hook (at s))) b r c
+      → Meets model sure (grammar.ReadsUnmarked hook s) view s b r c
   meets-in-boxes {s} stops =
-      meets s (grammar.ReadsUnmarked hook s) (bare (run hook (at s))) (is_sound_bare hook laws s) (is_complete_bare hook s stops.stop) (well_bare hook s)
+      meets s (grammar.ReadsUnmarked hook s) (bare (run hook (at s))) (is_sound_bare hook laws s)
+      (is_complete_bare hook s stops.stop) (well_bare hook s)
 
   -- of a list in boxes, as `strip` leaves it
-  pub meets-as : {strip : Tree F C K → Tree F C K} → Leaves strip → {s : Symbol} → PrivatesLeft hook strip s → Stopping s
+  pub meets-as : {strip : Tree F C K → Tree F C K} → Leaves strip → {s : Symbol} → PrivatesLeft hook strip s
+      → Stopping s
       → (b : Buffer S) (r : Result T Error) (c : Buffer S)
-      → Parses model sure view (stripped strip (run hook (at s))) b r c → Meets model sure (ReadsAs strip hook s) view s b r c
+      → Parses model sure view (stripped strip (run hook (at s))) b r c
+      → Meets model sure (ReadsAs strip hook s) view s b r c
   meets-as {strip} leaves {s} placed stops =
       meets s (ReadsAs strip hook s) (stripped strip (run hook (at s))) (is_sound_as hook laws strip s)
       (is_complete_as hook strip s stops.stop) (well_as hook leaves s placed)

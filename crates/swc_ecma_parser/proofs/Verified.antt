@@ -25,8 +25,7 @@ module _ {S : Type 0} {model : Model S} (laws : Laws model) where
       → ReadSome model b c → OnOk r (Lives model b c)
       → (is_silent (state_of model b) ≡ false → is_fit (current b) ≡ true → OnOk r (Appends model es b c))
       → (is_silent (state_of model b) ≡ false → (ts : List TokenAndSpan) → Known model b ts → begins_fit ts ≡ true
-      → OnOk r (Appends model es b c))
-      → TriesFaults model fs b r c
+      → OnOk r (Appends model es b c)) → TriesFaults model fs b r c
   faults-tried es fs b c (Ok u) same silent recorded refused read lives now listed =
       let P : List Error → Type 0 = λ gs. RecordsFaults model gs b c in
       subst P same (record {
@@ -44,7 +43,8 @@ module _ {S : Type 0} {model : Model S} (laws : Laws model) where
 module _ {S F C K : Type 0} {fg : Ghosts F} {cg : Ghosts C} {kg : Ghosts K} {model : Model S} where
   -- The faults are those of the expression that was put in, which is as it was.
   pub looked-through : (given : Tree F C K) (k : ℕ) (b c : Buffer S) (ns ms : Nodes F C K fg cg kg) (id : ExprId)
-      → Made k ns (expr_part id) given → RecordsFaults model (cover_faults (cover_names (tree_at ns id.0))) b c → ms ≡ ns
+      → Made k ns (expr_part id) given → RecordsFaults model (cover_faults (cover_names (tree_at ns id.0))) b c
+      → ms ≡ ns
       → RecordsFaults model (cover_faults (cover_names given)) b c × Made k ms (expr_part id) given
   looked-through given k b c ns ms id made faults same =
       let P : Tree F C K → Type 0 = λ t. RecordsFaults model (cover_faults (cover_names t)) b c in
@@ -54,7 +54,8 @@ module _ {S F C K : Type 0} {fg : Ghosts F} {cg : Ghosts C} {kg : Ghosts K} {mod
 -- ---- what is answered
 
 module _ {F C K : Type 0} {fg : Ghosts F} {cg : Ghosts C} {kg : Ghosts K} where
-  pub moved-given : {T : Type 0} (M : Error → Type 0) (view : T → Tree F C K) (given : Tree F C K) (k : ℕ) (ns : Nodes F C K fg cg kg)
+  pub moved-given : {T : Type 0} (M : Error → Type 0) (view : T → Tree F C K) (given : Tree F C K) (k : ℕ)
+      (ns : Nodes F C K fg cg kg)
       (answer : Result ExprId Error) (r : Result T Error) → unmarked given ≡ given
       → IfOk answer (λ id. Made k ns (expr_part id) given)
       → MatchResult answer (λ x. MatchResult r (λ t. view t ≡ bare_at ns x.0) M) (λ e. r ≡ Err e)
@@ -74,14 +75,14 @@ pub record MeetsVerification {S T F C K : Type 0} (model : Model S) (given : Tre
       → OnOk r (Appends model (cover_faults (cover_names given)) b c)
   pub silent : is_silent (state_of model b) ≡ true → OnOk r (c ≡ b)
 
-module _ {S T F C K : Type 0} (model : Model S) (given : Tree F C K) (view : T → Tree F C K) (b c : Buffer S) (at : BytePos) where
+module _ {S T F C K : Type 0} (model : Model S) (given : Tree F C K) (view : T → Tree F C K) (b c : Buffer S)
+    (at : BytePos) where
   abbrev Meets : Result T Error → Type 0
   Meets r = MeetsVerification model given view b r c
 
   pub meets-verification : (answer : Result ExprId Error) (r : Result T Error)
       → TriesFaults model (cover_faults (cover_names given)) b answer c
-      → MatchResult answer (λ x. MatchResult r (λ t. view t ≡ given) (λ e. e ≡ no_memory at)) (λ e. r ≡ Err e)
-      → Meets r
+      → MatchResult answer (λ x. MatchResult r (λ t. view t ≡ given) (λ e. e ≡ no_memory at)) (λ e. r ≡ Err e) → Meets r
   meets-verification (Ok x) (Ok t) w m = record {
     acts = w.leads;
     tree = m;
@@ -113,7 +114,8 @@ module _ {S T F C K : Type 0} (model : Model S) (given : Tree F C K) (view : T �
 module _ {S H T F C K : Type 0} {fg : Ghosts F} {cg : Ghosts C} {kg : Ghosts K} {model : Model S} {given : Tree F C K}
     {view : T → Tree F C K} where
   -- the buffer, the nodes and the commas before the parser remembers that it is out of memory
-  pub promised-verification : {p q : Parser S H F C K fg cg kg} {f : Bool} (b : Buffer S) (ns : Nodes F C K fg cg kg) (cs : TrailingCommas)
+  pub promised-verification : {p q : Parser S H F C K fg cg kg} {f : Bool} (b : Buffer S) (ns : Nodes F C K fg cg kg)
+      (cs : TrailingCommas)
       (a r : Result T Error) → has_failed p ≡ false → f ≡ has_failed p
       → r ≡ a → buffer_of q ≡ b → nodes_of q ≡ ns → commas_of q ≡ cs → has_failed q ≡ (f || wants_memory a)
       → MeetsVerification model given view (buffer_of p) a b

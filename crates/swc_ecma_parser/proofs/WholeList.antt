@@ -35,15 +35,19 @@ nil_left (x ∷ xs) ys h = cc
 
 module _ {S : Type 0} {model : Model S} (laws : Laws model) where
   -- a look over a listed source records nothing, and finds what is known
-  look_quiet : {b c : Buffer S} {ts : List TokenAndSpan} → Looked model b c → Known model b ts → (model.state (source c)).errors ≡ (model.state (source b)).errors
+  look_quiet : {b c : Buffer S} {ts : List TokenAndSpan} → Looked model b c → Known model b ts
+      → (model.state (source c)).errors ≡ (model.state (source b)).errors
   look_quiet l k = (l.look.quiet k.more k.known).0
 
   look_known : {b c : Buffer S} (ts : List TokenAndSpan) → Looked model b c → Known model b ts → Known model c ts
-  look_known {b} {c} ts l k = let w = Known-after laws b c [] ts l.look.read.took k in subst (λ v. Known model c v) (sym w.2) w.1
+  look_known {b} {c} ts l k = let w = Known-after laws b c [] ts l.look.read.took k in
+      subst (λ v. Known model c v) (sym w.2) w.1
 
   -- at the end nothing is left
-  none_left : {b c : Buffer S} (ts : List TokenAndSpan) → Looked model b c → Known model b ts → current c ≡ None → (model.state (source c)).ended ≡ true → ts ≡ []
-  none_left {b} {c} ts l k e ended = Future-end model c ts e (l.end e).0 ended (Known-Future laws c ts (look_known ts l k))
+  none_left : {b c : Buffer S} (ts : List TokenAndSpan) → Looked model b c → Known model b ts → current c ≡ None
+      → (model.state (source c)).ended ≡ true → ts ≡ []
+  none_left {b} {c} ts l k e ended = Future-end model c ts e (l.end e).0 ended
+      (Known-Future laws c ts (look_known ts l k))
 
   -- where nothing is left no token is current
   none_here : {b c : Buffer S} → Looked model b c → Known model b [] → IsSome (current c) → ⊥
@@ -51,9 +55,11 @@ module _ {S : Type 0} {model : Model S} (laws : Laws model) where
       let w = look_known [] l k in
       none_current c.cur (given_one c.next) (nil_left (held c) w.more w.begins) some
 
-module _ {S H N F C K : Type 0} {fg : Ghosts F} {cg : Ghosts C} {kg : Ghosts K} {model : Model S} {sure : Bool} {hook : Hook F C K}
+module _ {S H N F C K : Type 0} {fg : Ghosts F} {cg : Ghosts C} {kg : Ghosts K} {model : Model S} {sure : Bool}
+    {hook : Hook F C K}
     (tree : Nodes F C K fg cg kg → N → Tree F C K) (part : N → Part) (s : Symbol) (laws : Laws model) where
-  whole-sound : {p q : Parser S H F C K fg cg kg} {r : Result (N × Bool) Error} (ts : List TokenAndSpan) → Tries model sure hook tree part s p r q → has_failed p ≡ false
+  whole-sound : {p q : Parser S H F C K fg cg kg} {r : Result (N × Bool) Error} (ts : List TokenAndSpan)
+      → Tries model sure hook tree part s p r q → has_failed p ≡ false
       → Known model (buffer_of p) ts → Loud model (buffer_of p) → (model.state (source (buffer_of p))).errors ≡ []
       → IfOk r (λ x. x.1 ≡ false → (model.state (source (buffer_of q))).errors ≡ []
       → Finished covers_done (Reads hook s) (scope model (buffer_of p)) ts [] (tree (nodes_of q) x.0))
@@ -61,7 +67,8 @@ module _ {S H N F C K : Type 0} {fg : Ghosts F} {cg : Ghosts C} {kg : Ghosts K} 
       let sees = c.effect (h.fails runs) in
       let d0 = h.reads runs in
       let w = Known-after laws (buffer_of p) (buffer_of q) d0.leads.taken ts d0.leads.read.took k in
-      let same : Unmarred model (buffer_of p) (buffer_of q) = sym (look_quiet laws sees.looks.looked w.1) ∙ none ∙ sym clean in
+      let same : Unmarred model (buffer_of p) (buffer_of q) =
+      sym (look_quiet laws sees.looks.looked w.1) ∙ none ∙ sym clean in
       let d = h.sound runs loud same in
       let x = Known-after laws (buffer_of p) (buffer_of q) d.consumed ts d.read.took k in
       let end = sees.end (was_not v all) in
@@ -73,29 +80,36 @@ module _ {S H N F C K : Type 0} {fg : Ghosts F} {cg : Ghosts C} {kg : Ghosts K} 
   whole-sound ts (refused h) runs k loud clean = tt
   whole-sound ts (lost h c) runs k loud clean = tt
 
-  whole-alone : EndsAt s [] → {p q : Parser S H F C K fg cg kg} {r : Result (N × Bool) Error} (ts : List TokenAndSpan) → Tries model sure hook tree part s p r q → has_failed p ≡ false
+  whole-alone : EndsAt s [] → {p q : Parser S H F C K fg cg kg} {r : Result (N × Bool) Error} (ts : List TokenAndSpan)
+      → Tries model sure hook tree part s p r q → has_failed p ≡ false
       → Known model (buffer_of p) ts → Loud model (buffer_of p) → (model.state (source (buffer_of p))).errors ≡ []
       → IfOk r (λ x. x.1 ≡ false → (model.state (source (buffer_of q))).errors ≡ []
-      → (t : Tree F C K) → Finished covers_done (Reads hook s) (scope model (buffer_of p)) ts [] t → t ≡ tree (nodes_of q) x.0)
+      → (t : Tree F C K) → Finished covers_done (Reads hook s) (scope model (buffer_of p)) ts [] t
+      → t ≡ tree (nodes_of q) x.0)
   whole-alone stops {p} ts (tried {id = id} {v = v} {q = q} {r = r} h c) runs k loud clean = λ all none t derived.
       let sees = c.effect (h.fails runs) in
       let d0 = h.reads runs in
       let w = Known-after laws (buffer_of p) (buffer_of q) d0.leads.taken ts d0.leads.read.took k in
-      let same : Unmarred model (buffer_of p) (buffer_of q) = sym (look_quiet laws sees.looks.looked w.1) ∙ none ∙ sym clean in
+      let same : Unmarred model (buffer_of p) (buffer_of q) =
+      sym (look_quiet laws sees.looks.looked w.1) ∙ none ∙ sym clean in
       let d = h.one_tree runs loud same in
       let x = Known-after laws (buffer_of p) (buffer_of q) d.consumed ts d.read.took k in
       let end = sees.end (was_not v all) in
       let rest = none_left laws x.0 sees.looks.looked x.1 end.0 end.1 in
       let whole : ts ≡ d.consumed = x.2 ∙ ap (λ l. d.consumed ++ l) rest ∙ append-nil d.consumed in
-      let P : List TokenAndSpan → Type 0 = λ l. Finished covers_done (Reads hook s) (scope model (buffer_of p)) l [] t in
+      let P : List TokenAndSpan → Type 0 = λ l. Finished covers_done (Reads hook s)
+      (scope model (buffer_of p)) l [] t in
       d.alone stops t (subst P whole derived) ∙ ap (λ ns. tree ns id) (sym c.nodes)
   whole-alone stops ts (refused h) runs k loud clean = tt
   whole-alone stops ts (lost h c) runs k loud clean = tt
 
-  whole-complete : EndsAt s [] → {p q : Parser S H F C K fg cg kg} {r : Result (N × Bool) Error} (ts : List TokenAndSpan) (t : Tree F C K) → Tries model sure hook tree part s p r q → has_failed p ≡ false
-      → Known model (buffer_of p) ts → Loud model (buffer_of p) → (model.state (source (buffer_of p))).errors ≡ [] → sure ≡ true
+  whole-complete : EndsAt s [] → {p q : Parser S H F C K fg cg kg} {r : Result (N × Bool) Error}
+      (ts : List TokenAndSpan) (t : Tree F C K) → Tries model sure hook tree part s p r q → has_failed p ≡ false
+      → Known model (buffer_of p) ts → Loud model (buffer_of p) → (model.state (source (buffer_of p))).errors ≡ []
+      → sure ≡ true
       → Finished covers_done (Reads hook s) (scope model (buffer_of p)) ts [] t
-      → MatchResult r (λ x. (tree (nodes_of q) x.0 ≡ t) × (x.1 ≡ false) × ((model.state (source (buffer_of q))).errors ≡ [])) (λ e. e.kind ≡ OutOfMemory)
+      → MatchResult r (λ x. (tree (nodes_of q) x.0 ≡ t) × (x.1 ≡ false)
+      × ((model.state (source (buffer_of q))).errors ≡ [])) (λ e. e.kind ≡ OutOfMemory)
   whole-complete stops {p} ts t (tried {id = id} {v = true} {q = q} {r = r} h c) runs k loud clean y d =
       let sees = c.effect (h.fails runs) in
       let w = h.complete runs y loud ts [] t k d stops in
@@ -115,13 +129,16 @@ module _ (input : TokensInput) (at : BytePos) (ts : List TokenAndSpan) (c : Cont
   pub fresh-loud : listed_state input ≡ new_state ts c x v → IsHeeded c x → Loud listed_model (fresh input at)
   fresh-loud is heeded = ap (λ s. is_silent s) is ∙ heeds c.ignore_error x.early_errors heeded.0 heeded.1
 
-module _ {S H N F C K : Type 0} {fg : Ghosts F} {cg : Ghosts C} {kg : Ghosts K} {model : Model S} {sure : Bool} {hook : Hook F C K} (laws : Laws model)
+module _ {S H N F C K : Type 0} {fg : Ghosts F} {cg : Ghosts C} {kg : Ghosts K} {model : Model S} {sure : Bool}
+    {hook : Hook F C K} (laws : Laws model)
     (tree : Nodes F C K fg cg kg → N → Tree F C K) (part : N → Part) (s : Symbol) (stops : EndsAt s []) where
   -- by a new parser with a bound, over a source that nothing was asked of
-  pub headline : {n : ℕ} {p q : Parser S H F C K fg cg kg} {r : Result (N × Bool) Error} (o : Parser S H F C K fg cg kg) (input : S) (at : BytePos) (ts : List TokenAndSpan)
+  pub headline : {n : ℕ} {p q : Parser S H F C K fg cg kg} {r : Result (N × Bool) Error} (o : Parser S H F C K fg cg kg)
+      (input : S) (at : BytePos) (ts : List TokenAndSpan)
       → Lists ts (model.state input) → buffer_of o ≡ fresh input at → has_failed o ≡ false → p ≡ with_bound n o
       → IsHeeded (model.state input).context (model.state input).syntax → Tries model sure hook tree part s p r q
-      → Headline sure hook s tree (model.state input).context (model.state input).syntax ts r (nodes_of q) (model.state (source (buffer_of q))).errors
+      → Headline sure hook s tree (model.state input).context (model.state input).syntax ts r (nodes_of q)
+      (model.state (source (buffer_of q))).errors
   headline {p = p} {q = q} {r = r} o input at ts lists unread ran bounded heeded t =
       let c = (model.state input).context in
       let x = (model.state input).syntax in
@@ -131,10 +148,12 @@ module _ {S H N F C K : Type 0} {fg : Ghosts F} {cg : Ghosts C} {kg : Ghosts K} 
       let known : Known model (buffer_of p) ts = rw (new) unasked in
       let heard : Loud model (fresh input at) = heeds c.ignore_error x.early_errors heeded.0 heeded.1 in
       let loud : Loud model (buffer_of p) = rw (new) heard in
-      let clean : (model.state (source (buffer_of p))).errors ≡ [] = ap (λ b. (model.state (source b)).errors) new ∙ lists.clean in
+      let clean : (model.state (source (buffer_of p))).errors ≡ [] =
+      ap (λ b. (model.state (source b)).errors) new ∙ lists.clean in
       let same : scope model (buffer_of p) ≡ scope_of (view c) x = ap (λ b. scope model b) new in
       let S : Scope → Type 0 = λ k. IfOk r (λ y. y.1 ≡ false
-      → (model.state (source (buffer_of q))).errors ≡ [] → Finished covers_done (Reads hook s) k ts [] (tree (nodes_of q) y.0)) in
+      → (model.state (source (buffer_of q))).errors ≡ []
+      → Finished covers_done (Reads hook s) k ts [] (tree (nodes_of q) y.0)) in
       let A : Scope → Type 0 = λ k. IfOk r (λ y. y.1 ≡ false → (model.state (source (buffer_of q))).errors ≡ []
       → (e : Tree F C K) → Finished covers_done (Reads hook s) k ts [] e → e ≡ tree (nodes_of q) y.0) in
       record {
@@ -145,16 +164,23 @@ module _ {S H N F C K : Type 0} {fg : Ghosts F} {cg : Ghosts C} {kg : Ghosts K} 
       }
 
 -- of a new source, in its context and by its syntax
-pub headline-in : {N F C K : Type 0} {fg : Ghosts F} {cg : Ghosts C} {kg : Ghosts K} {sure : Bool} {hook : Hook F C K} {s : Symbol} {tree : Nodes F C K fg cg kg → N → Tree F C K}
-    {ts : List TokenAndSpan} {read : Result (N × Bool) Error} {nodes : Nodes F C K fg cg kg} {recorded : List Error} (state new : Source) → state ≡ new → Lists ts new
-    → ((us : List TokenAndSpan) → Lists us state → IsHeeded state.context state.syntax → Headline sure hook s tree state.context state.syntax us read nodes recorded)
+pub headline-in : {N F C K : Type 0} {fg : Ghosts F} {cg : Ghosts C} {kg : Ghosts K} {sure : Bool} {hook : Hook F C K}
+    {s : Symbol} {tree : Nodes F C K fg cg kg → N → Tree F C K}
+    {ts : List TokenAndSpan} {read : Result (N × Bool) Error} {nodes : Nodes F C K fg cg kg} {recorded : List Error}
+    (state new : Source) → state ≡ new → Lists ts new
+    → ((us : List TokenAndSpan) → Lists us state → IsHeeded state.context state.syntax
+    → Headline sure hook s tree state.context state.syntax us read nodes recorded)
     → IsHeeded new.context new.syntax → Headline sure hook s tree new.context new.syntax ts read nodes recorded
-headline-in {sure = sure} {hook = hook} {s = s} {tree = tree} {ts = ts} {read = read} {nodes = nodes} {recorded = recorded} state new is lists told =
-    let P : Source → Type 0 = λ v. Lists ts v → IsHeeded v.context v.syntax → Headline sure hook s tree v.context v.syntax ts read nodes recorded in
+headline-in {sure = sure} {hook = hook} {s = s} {tree = tree} {ts = ts} {read = read} {nodes = nodes}
+    {recorded = recorded} state new is lists told =
+    let P : Source → Type 0 = λ v. Lists ts v → IsHeeded v.context v.syntax
+    → Headline sure hook s tree v.context v.syntax ts read nodes recorded in
     subst P is (told ts) lists
 
 -- memory ran out
-pub headline-lost : {N F C K : Type 0} {fg : Ghosts F} {cg : Ghosts C} {kg : Ghosts K} {sure : Bool} {hook : Hook F C K} {s : Symbol} {tree : Nodes F C K fg cg kg → N → Tree F C K}
-    {c : Context} {x : Syntax} {ts : List TokenAndSpan} {nodes : Nodes F C K fg cg kg} {recorded : List Error} (e : Error) → e.kind ≡ OutOfMemory
+pub headline-lost : {N F C K : Type 0} {fg : Ghosts F} {cg : Ghosts C} {kg : Ghosts K} {sure : Bool} {hook : Hook F C K}
+    {s : Symbol} {tree : Nodes F C K fg cg kg → N → Tree F C K}
+    {c : Context} {x : Syntax} {ts : List TokenAndSpan} {nodes : Nodes F C K fg cg kg} {recorded : List Error}
+    (e : Error) → e.kind ≡ OutOfMemory
     → Headline sure hook s tree c x ts (Err e) nodes recorded
 headline-lost e m = record { sound = tt; one_tree = tt; complete = λ y t d. m }

@@ -1,4 +1,5 @@
--- The cover names of a tree: properties `name = value` of object literals (ECMA-262, 13.2.5), which no finished expression may have.
+-- The cover names of a tree: properties `name = value` of object literals (ECMA-262, 13.2.5), which no finished
+-- expression may have.
 use Rattle.std.specs.Prelude.{ℕ, Bool, true, false, List, [], ◌∷◌, ◌++◌, if◌then◌else◌}
 use Rattle.swc_context.specs.declared.span.Span.{Span}
 use Rattle.swc_ast.specs.Tree.{cover, arrow, Tree, node, Trees, nil, cons}

@@ -27,7 +27,8 @@ prop_dues p = part_dues (prop_parts p)
 
 abbrev pub node_dues : {F C K : Type 0} → Bool → Node F C K → List Task
 node_dues in_arrows (n.Object s props comma) = flat prop_dues props.items
-node_dues in_arrows (n.Arrow s ps b a) = if in_arrows then part_dues (flat one_pat ps.items ++ body_parts b.value) else []
+node_dues in_arrows (n.Arrow s ps b a) = if in_arrows then part_dues
+    (flat one_pat ps.items ++ body_parts b.value) else []
 node_dues in_arrows x = part_dues (slots x)
 
 -- the cover names that are found by it, in the order of the source

@@ -33,10 +33,13 @@ module _ {S : Type 0} (model : Model S) where
       (λ x. MatchResult r (λ y. (y ≡ x) × ChecksCovers (well x) b c) (λ e. Forgoes model b e c))
       (λ e. (r ≡ Err e) × (c ≡ b))
 
--- An answer that the parser p has read was moved out of the nodes, and those from `start` on were cut off. The parser q has failed if it
+-- An answer that the parser p has read was moved out of the nodes, and those from `start` on were cut off. The parser q
+-- has failed if it
 -- ran out of memory.
-pub record HandsOut {S H F C K X T : Type 0} {fg : Ghosts F} {cg : Ghosts C} {kg : Ghosts K} (parts : X → List Part) (start : ℕ)
-    (p : Parser S H F C K fg cg kg) (answer : Result X Error) (by : (ℕ → Tree F C K) → X → Tree F C K) (view : T → Tree F C K)
+pub record HandsOut {S H F C K X T : Type 0} {fg : Ghosts F} {cg : Ghosts C} {kg : Ghosts K} (parts : X → List Part)
+    (start : ℕ)
+    (p : Parser S H F C K fg cg kg) (answer : Result X Error) (by : (ℕ → Tree F C K) → X → Tree F C K)
+    (view : T → Tree F C K)
     (r : Result T Error) (q : Parser S H F C K fg cg kg) : Type 0 where
   pub moved : MovesOut by view p answer r
   pub commas : RemembersParts parts p answer r q
@@ -48,10 +51,12 @@ module _ {S H F C K X : Type 0} {fg : Ghosts F} {cg : Ghosts C} {kg : Ghosts K} 
     (parts : X → List Part) (start : ℕ) (p : Parser S H F C K fg cg kg) (answer : Result X Error) where
   -- An answer that the parser p has read was looked through, up to the buffer b.
   abbrev pub LooksThroughAnswer : Result X Error → Buffer S → Type 0
-  LooksThroughAnswer checked b = ChecksAnswer model (λ x. parts_done (scope model (buffer_of p)) (tree_at (nodes_of p)) (parts x))
+  LooksThroughAnswer checked b = ChecksAnswer model (λ x.
+      parts_done (scope model (buffer_of p)) (tree_at (nodes_of p)) (parts x))
       (buffer_of p) answer checked b
 
-  -- What is left of it was kept among the nodes; after a refusal those from `start` on were cut off. The parser q has failed if it ran out
+  -- What is left of it was kept among the nodes; after a refusal those from `start` on were cut off. The parser q has
+  -- failed if it ran out
   -- of memory.
   pub record KeepsChecked (r : Result X Error) (q : Parser S H F C K fg cg kg) : Type 0 where
     pub at : Buffer S
@@ -64,7 +69,8 @@ module _ {S H F C K X : Type 0} {fg : Ghosts F} {cg : Ghosts C} {kg : Ghosts K} 
     pub fails : has_failed q ≡ (has_failed p || wants_memory r)
 
   -- Or it was moved out of them.
-  pub record MovesCheckedOut {T : Type 0} (by : (ℕ → Tree F C K) → X → Tree F C K) (view : T → Tree F C K) (r : Result T Error)
+  pub record MovesCheckedOut {T : Type 0} (by : (ℕ → Tree F C K) → X → Tree F C K) (view : T → Tree F C K)
+      (r : Result T Error)
       (q : Parser S H F C K fg cg kg) : Type 0 where
     pub at : Buffer S
     pub checked : Result X Error

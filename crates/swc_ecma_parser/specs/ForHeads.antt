@@ -71,12 +71,14 @@ module _ {F C K : Type 0} {fg : Ghosts F} {cg : Ghosts C} {kg : Ghosts K} where
 
 -- ---- the promise
 
--- What a head begins with, as an expression in boxes: derived where `in` is no operator, and `async` before `of` is, in the
+-- What a head begins with, as an expression in boxes: derived where `in` is no operator, and `async` before `of` is, in
+-- the
 -- head of a `for await`, an identifier.
 abbrev pub ReadsPrefix : {F C K : Type 0} → Hook F C K → Symbol → Derivation (Tree F C K)
 ReadsPrefix hook s = Finished covers_done (λ c xs ys t. ReadsUnmarked hook s (in_own_for c) xs ys t)
 
-abbrev pub prefix_in_boxes : {F C K : Type 0} {fg : Ghosts F} {cg : Ghosts C} {kg : Ghosts K} → Answer (Box (ExprOf F C K) Global) F C K fg cg kg
+abbrev pub prefix_in_boxes : {F C K : Type 0} {fg : Ghosts F} {cg : Ghosts C} {kg : Ghosts K}
+    → Answer (Box (ExprOf F C K) Global) F C K fg cg kg
 prefix_in_boxes {fg = fg} {cg = cg} {kg = kg} = record {
   tree = λ ns e. tree_by fg.place cg.place kg.place e;
   derives = ReadsPrefix;
@@ -85,16 +87,21 @@ prefix_in_boxes {fg = fg} {cg = cg} {kg = kg} = record {
   leaves = λ ns r ms. SameNodes ns ms;
 }
 
--- What a call promises that reads such an expression, from the parser p to q, where it answers r: as any other expression is promised, and
+-- What a call promises that reads such an expression, from the parser p to q, where it answers r: as any other
+-- expression is promised, and
 -- over a listed source, with a faithful hook, also one that is derived up to `of` or `in` is answered.
-pub record PromisedPrefix {S H F C K : Type 0} {fg : Ghosts F} {cg : Ghosts C} {kg : Ghosts K} (model : Model S) (sure : Bool) (hook : Hook F C K)
-    (p : Parser S H F C K fg cg kg) (r : Result (Box (ExprOf F C K) Global) Error) (q : Parser S H F C K fg cg kg) : Type 0 where
+pub record PromisedPrefix {S H F C K : Type 0} {fg : Ghosts F} {cg : Ghosts C} {kg : Ghosts K} (model : Model S)
+    (sure : Bool) (hook : Hook F C K)
+    (p : Parser S H F C K fg cg kg) (r : Result (Box (ExprOf F C K) Global) Error)
+    (q : Parser S H F C K fg cg kg) : Type 0 where
   pub promised : Promised model sure hook prefix_in_boxes Expr p r q
   pub words : has_failed p ≡ false → sure ≡ true
-      → Complete model (ReadsPrefix hook Expr) (tree_by fg.place cg.place kg.place) HeadStops (buffer_of p) r (buffer_of q)
+      → Complete model (ReadsPrefix hook Expr) (tree_by fg.place cg.place kg.place) HeadStops (buffer_of p) r
+      (buffer_of q)
 
 module _ {S F C K : Type 0} (model : Model S) (derives : Derivation (ForHead F C K)) where
-  -- Between b and c tokens were consumed from which the head is derived: with whatever may follow, and with the next token of
+  -- Between b and c tokens were consumed from which the head is derived: with whatever may follow, and with the next
+  -- token of
   -- that alone, by which it is told which of the two it is.
   pub record DerivesHead (h : ForHead F C K) (b c : Buffer S) : Type 0 where
     pub consumed : List TokenAndSpan
@@ -102,7 +109,8 @@ module _ {S F C K : Type 0} (model : Model S) (derives : Derivation (ForHead F C
     pub front : (ys : List TokenAndSpan) → Future model c ys → derives (scope model b) (consumed ++ ys) ys h
     pub alone : (ys : List TokenAndSpan) → Future model c ys → derives (scope model b) (consumed ++ next ys) (next ys) h
 
--- How a call answers a head: which head an answer stands for, by the nodes that the parser then has; what derives such heads, finished;
+-- How a call answers a head: which head an answer stands for, by the nodes that the parser then has; what derives such
+-- heads, finished;
 -- what is left in them of a head with its marks of commas; and what becomes of the nodes.
 pub record HeadAnswer (T F C K : Type 0) (fg : Ghosts F) (cg : Ghosts C) (kg : Ghosts K) : Type 1 where
   pub head : Nodes F C K fg cg kg → T → ForHead F C K
@@ -110,7 +118,8 @@ pub record HeadAnswer (T F C K : Type 0) (fg : Ghosts F) (cg : Ghosts C) (kg : G
   pub strip : ForHead F C K → ForHead F C K
   pub leaves : Nodes F C K fg cg kg → Result T Error → Nodes F C K fg cg kg → Type 0
 
-abbrev pub head_in_boxes : {F C K : Type 0} {fg : Ghosts F} {cg : Ghosts C} {kg : Ghosts K} → HeadAnswer (HeadOf F C K) F C K fg cg kg
+abbrev pub head_in_boxes : {F C K : Type 0} {fg : Ghosts F} {cg : Ghosts C} {kg : Ghosts K}
+    → HeadAnswer (HeadOf F C K) F C K fg cg kg
 head_in_boxes {fg = fg} {cg = cg} {kg = kg} = record {
   head = λ ns h. boxed_head fg.place cg.place kg.place h;
   derives = λ hook is_await. Finished head_done (ReadsHeadUnmarked hook is_await);
@@ -118,7 +127,8 @@ head_in_boxes {fg = fg} {cg = cg} {kg = kg} = record {
   leaves = λ ns r ms. SameNodes ns ms;
 }
 
-abbrev pub head_by_number : {F C K : Type 0} {fg : Ghosts F} {cg : Ghosts C} {kg : Ghosts K} → HeadAnswer ForHeadId F C K fg cg kg
+abbrev pub head_by_number : {F C K : Type 0} {fg : Ghosts F} {cg : Ghosts C} {kg : Ghosts K}
+    → HeadAnswer ForHeadId F C K fg cg kg
 head_by_number = record {
   head = λ ns h. for_head_at ns h;
   derives = λ hook is_await. Finished head_done (ReadsHead hook is_await);
@@ -126,8 +136,10 @@ head_by_number = record {
   leaves = AddsParts for_head_parts;
 }
 
-module _ {S F C K : Type 0} (model : Model S) (hook : Hook F C K) (is_await : Bool) (strip : ForHead F C K → ForHead F C K) where
-  -- Between b and c the commas of literals were remembered, one after another, and no other: of those of a head that has its marks, of
+module _ {S F C K : Type 0} (model : Model S) (hook : Hook F C K) (is_await : Bool)
+    (strip : ForHead F C K → ForHead F C K) where
+  -- Between b and c the commas of literals were remembered, one after another, and no other: of those of a head that
+  -- has its marks, of
   -- which `strip` leaves h. Where faults are recorded at all, and none was, it is derived from the tokens consumed.
   pub record RemembersHead (h : ForHead F C K) (b c : Buffer S) (old new : TrailingCommas) : Type 0 where
     pub marked : ForHead F C K
@@ -135,25 +147,31 @@ module _ {S F C K : Type 0} (model : Model S) (hook : Hook F C K) (is_await : Bo
     pub derived : Loud model b → Unmarred model b c → DerivesHead model (ReadsHead hook is_await) marked b c
     pub recalls : Recalls (commas_in (head_tree marked)) old new
 
--- What is promised of the reading of a head of a `for`, or of a `for await`, from b to c, where it answers r. The token after the head stays.
-pub record HeadPromise {S T F C K : Type 0} (model : Model S) (sure : Bool) (derives : Derivation (ForHead F C K)) (view : T → ForHead F C K)
+-- What is promised of the reading of a head of a `for`, or of a `for await`, from b to c, where it answers r. The token
+-- after the head stays.
+pub record HeadPromise {S T F C K : Type 0} (model : Model S) (sure : Bool) (derives : Derivation (ForHead F C K))
+    (view : T → ForHead F C K)
     (b : Buffer S) (r : Result T Error) (c : Buffer S) : Type 0 where
-  -- One token at least was consumed, or it refuses, and what was consumed isn't lost; the context is what it was, no recorded fault was
+  -- One token at least was consumed, or it refuses, and what was consumed isn't lost; the context is what it was, no
+  -- recorded fault was
   -- taken out, and no `OutOfMemory` recorded.
   pub reads : Consumes model b r c
-  -- It is a target where `of` or `in` comes next, and an expression elsewhere: faults or not, but where the syntax is pedantic if no fault
+  -- It is a target where `of` or `in` comes next, and an expression elsewhere: faults or not, but where the syntax is
+  -- pedantic if no fault
   -- was recorded.
   pub which : IfOk r (λ h. ((scope model b).syntax.pedantic ≡ true → Unmarred model b c)
       → is_for_target (view h) ≡ at_token is_each_word (seen c))
   -- What is answered with no fault recorded is derived from the tokens consumed, by the token that follows.
   pub sound : Loud model b → IfOk r (λ h. Unmarred model b c → DerivesHead model derives (view h) b c)
-  -- Over a listed source, with a faithful hook: what is derived from the tokens to come, up to the end, `of`, `in`, `;` or `)`, is answered,
+  -- Over a listed source, with a faithful hook: what is derived from the tokens to come, up to the end, `of`, `in`, `;`
+  -- or `)`, is answered,
   -- with no fault recorded, and what follows it is left; or the answer is out of memory.
   pub complete : sure ≡ true → Complete model derives view HeadStops b r c
   -- No other head is derived up to such a token, nor up to another one of these than what was answered.
   pub one_head : sure ≡ true → Loud model b → (ts ys : List TokenAndSpan) (h : ForHead F C K) → Known model b ts
       → derives (scope model b) ts ys h → HeadStops ys → IfOk r (λ x. (h ≡ view x) × Known model c ys)
-  -- In what was answered with no fault recorded operators group as their levels say, it holds no `Invalid`, and private names are where
+  -- In what was answered with no fault recorded operators group as their levels say, it holds no `Invalid`, and private
+  -- names are where
   -- they may if the syntax is pedantic.
   pub grouped : Loud model b → IfOk r (λ h. Unmarred model b c → is_grouped (head_tree (view h)) ≡ true)
   pub valid : Loud model b → IfOk r (λ h. Unmarred model b c → is_valid (head_tree (view h)) ≡ true)
@@ -161,8 +179,10 @@ pub record HeadPromise {S T F C K : Type 0} (model : Model S) (sure : Bool) (der
       → IfOk r (λ h. Unmarred model b c → privates_ok false (head_tree (view h)) ≡ true)
 
 -- What a call promises that reads a head, from the parser p to q, where it answers r.
-pub record PromisedHead {S H T F C K : Type 0} {fg : Ghosts F} {cg : Ghosts C} {kg : Ghosts K} (model : Model S) (sure : Bool) (hook : Hook F C K)
-    (answer : HeadAnswer T F C K fg cg kg) (is_await : Bool) (p : Parser S H F C K fg cg kg) (r : Result T Error) (q : Parser S H F C K fg cg kg) : Type 0 where
+pub record PromisedHead {S H T F C K : Type 0} {fg : Ghosts F} {cg : Ghosts C} {kg : Ghosts K} (model : Model S)
+    (sure : Bool) (hook : Hook F C K)
+    (answer : HeadAnswer T F C K fg cg kg) (is_await : Bool) (p : Parser S H F C K fg cg kg) (r : Result T Error)
+    (q : Parser S H F C K fg cg kg) : Type 0 where
   -- A parser that ran out of memory does nothing, and refuses as `ParserFailed` at the token consumed last.
   pub again : has_failed p ≡ true → (q ≡ p) × (r ≡ Err (parser_failed (previous (buffer_of p))))
   -- any other reads the head
@@ -170,7 +190,8 @@ pub record PromisedHead {S H T F C K : Type 0} {fg : Ghosts F} {cg : Ghosts C} {
       → HeadPromise model sure (answer.derives hook is_await) (answer.head (nodes_of q)) (buffer_of p) r (buffer_of q)
   -- The commas of the answer's literals were remembered; what is refused but when out of memory leaves what there was.
   pub commas : MatchResult r
-      (λ h. RemembersHead model hook is_await answer.strip (answer.head (nodes_of q) h) (buffer_of p) (buffer_of q) (commas_of p) (commas_of q))
+      (λ h. RemembersHead model hook is_await answer.strip (answer.head (nodes_of q) h) (buffer_of p) (buffer_of q)
+      (commas_of p) (commas_of q))
       (λ e. e.kind ≢ OutOfMemory → commas_of q ≡ commas_of p)
   -- what becomes of the nodes
   pub nodes : answer.leaves (nodes_of p) r (nodes_of q)

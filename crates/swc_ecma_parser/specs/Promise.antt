@@ -1,5 +1,7 @@
--- What the calls of a parser promise, by the written grammar alone. What is derived at a buffer is derived in its scope: by
--- the context without the four flags that decide nothing (`view`), and the syntax. The context itself, with all its flags,
+-- What the calls of a parser promise, by the written grammar alone. What is derived at a buffer is derived in its
+-- scope: by
+-- the context without the four flags that decide nothing (`view`), and the syntax. The context itself, with all its
+-- flags,
 -- is after each call what it was before.
 use Rattle.std.specs.Prelude.{◌≡◌, ◌≢◌, Bool, true, false, not, ◌||◌, ◌&&◌, List, [], ◌∷◌, ◌++◌, map, Option, Some, None, Result, Err, IfOk, OnOk, ◌<◌, MatchResult}
 use Rattle.std.specs.{declared.alloc.Global.Global, declared.boxed.Box.Box, declared.vec.Vec.Vec}
@@ -41,7 +43,8 @@ abbrev pub items_done : {F C K : Type 0} → Scope → Tree F C K → Bool
 items_done c t = not c.syntax.pedantic || none_left (items_of t)
 
 -- what is derived, and has no cover name left where there may be none, as `done` has it
-pub record Finished {A : Type 0} (done : Scope → A → Bool) (derives : Derivation A) (c : Scope) (xs ys : List TokenAndSpan) (t : A)
+pub record Finished {A : Type 0} (done : Scope → A → Bool) (derives : Derivation A) (c : Scope)
+    (xs ys : List TokenAndSpan) (t : A)
     : Type 0 where
   pub read : derives c xs ys t
   pub covers : done c t ≡ true
@@ -50,9 +53,12 @@ pub record Finished {A : Type 0} (done : Scope → A → Bool) (derives : Deriva
 abbrev pub Anywhere : List TokenAndSpan → Type 0
 Anywhere ys = Unit {0}
 
--- Where a reading of the symbol may stop, so that `Promised` has it answered: of a key, of arguments, of a template, of a pattern, of a
--- rest and of an arrow function's parameters anywhere, of a property before `,` and `}`, of a left-hand side before what is no link of it
--- and no `=>`, of the others at the end and before what can't go on with them. Of the other symbols nothing is promised by it.
+-- Where a reading of the symbol may stop, so that `Promised` has it answered: of a key, of arguments, of a template, of
+-- a pattern, of a
+-- rest and of an arrow function's parameters anywhere, of a property before `,` and `}`, of a left-hand side before
+-- what is no link of it
+-- and no `=>`, of the others at the end and before what can't go on with them. Of the other symbols nothing is promised
+-- by it.
 abbrev pub EndsAt : Symbol → List TokenAndSpan → Type 0
 EndsAt Key ys = Unit {0}
 EndsAt (Arguments i) ys = Unit {0}
@@ -91,7 +97,8 @@ EndsAt Params ys = ⊥
 EndsAt ParamsTail ys = ⊥
 EndsAt (ArrowBody is_async) ys = ⊥
 
--- An identifier reference, where a word comes first that isn't reserved, or `let`. The other words are taken too, with faults that
+-- An identifier reference, where a word comes first that isn't reserved, or `let`. The other words are taken too, with
+-- faults that
 -- wait where the code is no module's.
 abbrev pub RefersIfFree : Derivation Spelling
 RefersIfFree c xs ys n = at_token (may_be_reference c.context) (first xs) ≡ true → ReadsName Reference c xs ys n
@@ -113,19 +120,23 @@ module _ {S T A : Type 0} (model : Model S) (derives : Derivation A) (view : T �
   abbrev pub Sound : Buffer S → Result T Error → Buffer S → Type 0
   Sound b r c = Loud model b → IfOk r (λ x. Unmarred model b c → Derives (view x) b c)
 
-  -- Over a listed source: what is derived from the tokens to come, up to where a reading may stop, is answered, with no fault
+  -- Over a listed source: what is derived from the tokens to come, up to where a reading may stop, is answered, with no
+  -- fault
   -- recorded, and what follows it is left; or the answer is out of memory.
   abbrev pub Complete : (List TokenAndSpan → Type 0) → Buffer S → Result T Error → Buffer S → Type 0
-  Complete stops b r c = Loud model b → (ts ys : List TokenAndSpan) (t : A) → Known model b ts → derives (scope model b) ts ys t
+  Complete stops b r c = Loud model b → (ts ys : List TokenAndSpan) (t : A) → Known model b ts
+      → derives (scope model b) ts ys t
       → stops ys → MatchResult r (λ x. (view x ≡ t) × Known model c ys × Unmarred model b c) (λ e. e.kind ≡ OutOfMemory)
 
-  -- Between b and c tokens were consumed from which nothing is derived but t: as a list of their own, if a reading may stop at its end,
+  -- Between b and c tokens were consumed from which nothing is derived but t: as a list of their own, if a reading may
+  -- stop at its end,
   -- and with what may follow them, if a reading may stop before that.
   pub record DerivesOnly (stops : List TokenAndSpan → Type 0) (t : A) (b c : Buffer S) : Type 0 where
     pub consumed : List TokenAndSpan
     pub read : Read model b consumed c
     pub alone : stops [] → (u : A) → derives (scope model b) consumed [] u → u ≡ t
-    pub before : (ys : List TokenAndSpan) → Future model c ys → stops ys → (u : A) → derives (scope model b) (consumed ++ ys) ys u
+    pub before : (ys : List TokenAndSpan) → Future model c ys → stops ys → (u : A)
+        → derives (scope model b) (consumed ++ ys) ys u
         → u ≡ t
 
   -- Where no fault was recorded, nothing is derived from the tokens consumed but the answer.
@@ -133,7 +144,8 @@ module _ {S T A : Type 0} (model : Model S) (derives : Derivation A) (view : T �
   OneTree stops b r c = Loud model b → IfOk r (λ x. Unmarred model b c → DerivesOnly stops (view x) b c)
 
 module _ {S F C K T : Type 0} (model : Model S) (view : T → Tree F C K) where
-  -- In a tree answered with no fault recorded operators group as their levels say, and none of `??` is directly over or under one
+  -- In a tree answered with no fault recorded operators group as their levels say, and none of `??` is directly over or
+  -- under one
   -- of `||` or `&&`.
   abbrev pub Grouped : Buffer S → Result T Error → Buffer S → Type 0
   Grouped b r c = Loud model b → IfOk r (λ x. Unmarred model b c → is_grouped (view x) ≡ true)
@@ -142,13 +154,15 @@ module _ {S F C K T : Type 0} (model : Model S) (view : T → Tree F C K) where
   abbrev pub Valid : Buffer S → Result T Error → Buffer S → Type 0
   Valid b r c = Loud model b → IfOk r (λ x. Unmarred model b c → is_valid (view x) ≡ true)
 
-  -- Where the syntax is pedantic, in a tree answered with no fault recorded `#` and a name are on the left of `in` alone (ECMA-262,
+  -- Where the syntax is pedantic, in a tree answered with no fault recorded `#` and a name are on the left of `in`
+  -- alone (ECMA-262,
   -- 13.10.1), or name a link.
   abbrev pub PrivatesPlaced : Buffer S → Result T Error → Buffer S → Type 0
   PrivatesPlaced b r c = Loud model b → (scope model b).syntax.pedantic ≡ true
       → IfOk r (λ x. Unmarred model b c → privates_ok false (view x) ≡ true)
 
-  -- A pattern answered with no fault recorded binds names alone: initialisers and keys apart it holds no expression, and rests in object
+  -- A pattern answered with no fault recorded binds names alone: initialisers and keys apart it holds no expression,
+  -- and rests in object
   -- patterns hold a name.
   abbrev pub Bound : Buffer S → Result T Error → Buffer S → Type 0
   Bound b r c = Loud model b → IfOk r (λ x. Unmarred model b c → binds_names any (view x) ≡ true)
@@ -168,8 +182,10 @@ pub data PropOrRest {F C K : Type 0} (reads : Symbol → Derivation (Tree F C K)
   as-prop : reads PatProp c xs ys t → PropOrRest reads c xs ys t
   as-rest : reads Rest c xs ys t → PropOrRest reads c xs ys t
 
--- How a call answers trees: which tree an answer stands for, by the nodes that the parser then has; what derives such trees, which are
--- finished if the call answers a whole, and trees with their marks of commas, finished or not; what is left in them of a tree with its
+-- How a call answers trees: which tree an answer stands for, by the nodes that the parser then has; what derives such
+-- trees, which are
+-- finished if the call answers a whole, and trees with their marks of commas, finished or not; what is left in them of
+-- a tree with its
 -- marks; and what becomes of the nodes.
 pub record Answer (T F C K : Type 0) (fg : Ghosts F) (cg : Ghosts C) (kg : Ghosts K) : Type 1 where
   pub tree : Nodes F C K fg cg kg → T → Tree F C K
@@ -179,7 +195,8 @@ pub record Answer (T F C K : Type 0) (fg : Ghosts F) (cg : Ghosts C) (kg : Ghost
   pub leaves : Nodes F C K fg cg kg → Result T Error → Nodes F C K fg cg kg → Type 0
 
 -- in boxes, which have no marks of commas: the nodes are what they were; of a whole, and of a piece
-abbrev pub boxed : {T F C K : Type 0} {fg : Ghosts F} {cg : Ghosts C} {kg : Ghosts K} → (T → Tree F C K) → Answer T F C K fg cg kg
+abbrev pub boxed : {T F C K : Type 0} {fg : Ghosts F} {cg : Ghosts C} {kg : Ghosts K} → (T → Tree F C K)
+    → Answer T F C K fg cg kg
 boxed tree = record {
   tree = λ ns x. tree x;
   derives = λ hook s. Finished covers_done (ReadsUnmarked hook s);
@@ -188,7 +205,8 @@ boxed tree = record {
   leaves = λ ns r ms. SameNodes ns ms;
 }
 
-abbrev pub piece_boxed : {T F C K : Type 0} {fg : Ghosts F} {cg : Ghosts C} {kg : Ghosts K} → (T → Tree F C K) → Answer T F C K fg cg kg
+abbrev pub piece_boxed : {T F C K : Type 0} {fg : Ghosts F} {cg : Ghosts C} {kg : Ghosts K} → (T → Tree F C K)
+    → Answer T F C K fg cg kg
 piece_boxed tree = record {
   tree = λ ns x. tree x;
   derives = λ hook s. ReadsUnmarked hook s;
@@ -198,10 +216,12 @@ piece_boxed tree = record {
 }
 
 -- an expression, and a pattern
-abbrev pub in_boxes : {F C K : Type 0} {fg : Ghosts F} {cg : Ghosts C} {kg : Ghosts K} → Answer (Box (ExprOf F C K) Global) F C K fg cg kg
+abbrev pub in_boxes : {F C K : Type 0} {fg : Ghosts F} {cg : Ghosts C} {kg : Ghosts K}
+    → Answer (Box (ExprOf F C K) Global) F C K fg cg kg
 in_boxes {fg = fg} {cg = cg} {kg = kg} = boxed (tree_by fg.place cg.place kg.place)
 
-abbrev pub pat_in_boxes : {F C K : Type 0} {fg : Ghosts F} {cg : Ghosts C} {kg : Ghosts K} → Answer (PatOf F C K) F C K fg cg kg
+abbrev pub pat_in_boxes : {F C K : Type 0} {fg : Ghosts F} {cg : Ghosts C} {kg : Ghosts K}
+    → Answer (PatOf F C K) F C K fg cg kg
 pat_in_boxes {F} {C} {K} {fg = fg} {cg = cg} {kg = kg} = boxed (pat_tree F C K fg.place cg.place kg.place)
 
 -- a key, a property of an object literal, a template, and a property of an object pattern or a rest among these
@@ -209,8 +229,10 @@ abbrev pub key_in_boxes : {F C K : Type 0} {fg : Ghosts F} {cg : Ghosts C} {kg :
     → Answer (PropName (Box (ExprOf F C K) Global)) F C K fg cg kg
 key_in_boxes {fg = fg} {cg = cg} {kg = kg} = piece_boxed (prop_name_tree (tree_by fg.place cg.place kg.place))
 
-abbrev pub prop_in_boxes : {F C K : Type 0} {fg : Ghosts F} {cg : Ghosts C} {kg : Ghosts K} → Answer (PropOrSpread F C K) F C K fg cg kg
-prop_in_boxes {F} {C} {K} {fg = fg} {cg = cg} {kg = kg} = piece_boxed (prop_or_spread_tree F C K fg.place cg.place kg.place)
+abbrev pub prop_in_boxes : {F C K : Type 0} {fg : Ghosts F} {cg : Ghosts C} {kg : Ghosts K}
+    → Answer (PropOrSpread F C K) F C K fg cg kg
+prop_in_boxes {F} {C} {K} {fg = fg} {cg = cg} {kg = kg} =
+    piece_boxed (prop_or_spread_tree F C K fg.place cg.place kg.place)
 
 abbrev pub tpl_in_boxes : {F C K : Type 0} {fg : Ghosts F} {cg : Ghosts C} {kg : Ghosts K}
     → Answer (Tpl (Box (ExprOf F C K) Global)) F C K fg cg kg
@@ -226,7 +248,8 @@ pat_prop_in_boxes {F} {C} {K} {fg = fg} {cg = cg} {kg = kg} = record {
   leaves = λ ns r ms. SameNodes ns ms;
 }
 
--- a list of items, without the token that closes it: its items alone, and with the place of a comma after the last one, or none
+-- a list of items, without the token that closes it: its items alone, and with the place of a comma after the last one,
+-- or none
 abbrev pub only_items : {F C K : Type 0} → Tree F C K → Tree F C K
 only_items t = node args no_span (items_of (unmarked t))
 
@@ -282,9 +305,11 @@ heads_in_boxes {F} {C} {K} {fg = fg} {cg = cg} {kg = kg} = record {
   leaves = λ ns r ms. SameNodes ns ms;
 }
 
--- By the number of a new node, which has the marks: nodes were appended alone, or after a refusal none. Of what has the number, which
+-- By the number of a new node, which has the marks: nodes were appended alone, or after a refusal none. Of what has the
+-- number, which
 -- tree it stands for and which part it is.
-abbrev pub numbered : {N F C K : Type 0} {fg : Ghosts F} {cg : Ghosts C} {kg : Ghosts K} → (Nodes F C K fg cg kg → N → Tree F C K)
+abbrev pub numbered : {N F C K : Type 0} {fg : Ghosts F} {cg : Ghosts C} {kg : Ghosts K}
+    → (Nodes F C K fg cg kg → N → Tree F C K)
     → (N → Part) → Answer N F C K fg cg kg
 numbered tree part = record {
   tree = λ ns id. tree ns id;
@@ -298,16 +323,19 @@ numbered tree part = record {
 abbrev pub by_number : {F C K : Type 0} {fg : Ghosts F} {cg : Ghosts C} {kg : Ghosts K} → Answer ExprId F C K fg cg kg
 by_number = numbered tree_of expr_part
 
-abbrev pub pat_by_number : {F C K : Type 0} {fg : Ghosts F} {cg : Ghosts C} {kg : Ghosts K} → Answer PatId F C K fg cg kg
+abbrev pub pat_by_number : {F C K : Type 0} {fg : Ghosts F} {cg : Ghosts C} {kg : Ghosts K}
+    → Answer PatId F C K fg cg kg
 pat_by_number = numbered pat_at pat_part
 
 -- Nodes were appended alone, in which the parts of the answer lie apart, or after a refusal none.
-abbrev pub AddsParts : {N F C K : Type 0} {fg : Ghosts F} {cg : Ghosts C} {kg : Ghosts K} → (N → List Part) → Nodes F C K fg cg kg
+abbrev pub AddsParts : {N F C K : Type 0} {fg : Ghosts F} {cg : Ghosts C} {kg : Ghosts K} → (N → List Part)
+    → Nodes F C K fg cg kg
     → Result N Error → Nodes F C K fg cg kg → Type 0
 AddsParts parts ns r ms = MatchResult r (λ x. Grows ns ms × Apart (count ns) ms (parts x)) (λ e. SameNodes ns ms)
 
 -- a key by the numbers in it, and the parameters of an arrow function by theirs, without the place of the list
-abbrev pub key_by_number : {F C K : Type 0} {fg : Ghosts F} {cg : Ghosts C} {kg : Ghosts K} → Answer (PropName ExprId) F C K fg cg kg
+abbrev pub key_by_number : {F C K : Type 0} {fg : Ghosts F} {cg : Ghosts C} {kg : Ghosts K}
+    → Answer (PropName ExprId) F C K fg cg kg
 key_by_number = record {
   tree = λ ns k. key_at ns k;
   derives = λ hook s. Reads hook s;
@@ -326,8 +354,10 @@ heads_by_number = record {
   leaves = AddsParts pats_parts;
 }
 
-module _ {S F C K : Type 0} (model : Model S) (derives : Derivation (Tree F C K)) (strip : Tree F C K → Tree F C K) where
-  -- Between b and c the commas of literals were remembered, one after another, and no other: of those of a tree that has its marks, of
+module _ {S F C K : Type 0} (model : Model S) (derives : Derivation (Tree F C K))
+    (strip : Tree F C K → Tree F C K) where
+  -- Between b and c the commas of literals were remembered, one after another, and no other: of those of a tree that
+  -- has its marks, of
   -- which `strip` leaves t. Where faults are recorded at all, and none was, it is derived from the tokens consumed.
   pub record RemembersAll (t : Tree F C K) (b c : Buffer S) (old new : TrailingCommas) : Type 0 where
     pub marked : Tree F C K
@@ -336,17 +366,22 @@ module _ {S F C K : Type 0} (model : Model S) (derives : Derivation (Tree F C K)
     pub recalls : Recalls (commas_in marked) old new
 
 -- What a call promises that reads the symbol s, from the parser p to q, where it answers r.
-pub record Promised {S H T F C K : Type 0} {fg : Ghosts F} {cg : Ghosts C} {kg : Ghosts K} (model : Model S) (sure : Bool)
-    (hook : Hook F C K) (answer : Answer T F C K fg cg kg) (s : Symbol) (p : Parser S H F C K fg cg kg) (r : Result T Error)
+pub record Promised {S H T F C K : Type 0} {fg : Ghosts F} {cg : Ghosts C} {kg : Ghosts K} (model : Model S)
+    (sure : Bool)
+    (hook : Hook F C K) (answer : Answer T F C K fg cg kg) (s : Symbol) (p : Parser S H F C K fg cg kg)
+    (r : Result T Error)
     (q : Parser S H F C K fg cg kg) : Type 0 where
   -- A parser that ran out of memory does nothing, and refuses as `ParserFailed` at the token consumed last.
   pub again : has_failed p ≡ true → (q ≡ p) × (r ≡ Err (parser_failed (previous (buffer_of p))))
-  -- Any other reads: one token at least was consumed, or it refuses, and what was consumed isn't lost; the context is what it was, no
+  -- Any other reads: one token at least was consumed, or it refuses, and what was consumed isn't lost; the context is
+  -- what it was, no
   -- recorded fault was taken out, and no `OutOfMemory` recorded.
   pub reads : has_failed p ≡ false → Consumes model (buffer_of p) r (buffer_of q)
-  -- What is answered is what the grammar derives, and finished if the answer is a whole; and where the hook is faithful, what is derived so
+  -- What is answered is what the grammar derives, and finished if the answer is a whole; and where the hook is
+  -- faithful, what is derived so
   -- is answered.
-  pub sound : has_failed p ≡ false → Sound model (answer.derives hook s) (answer.tree (nodes_of q)) (buffer_of p) r (buffer_of q)
+  pub sound : has_failed p ≡ false → Sound model (answer.derives hook s) (answer.tree (nodes_of q)) (buffer_of p) r
+      (buffer_of q)
   pub complete : has_failed p ≡ false → sure ≡ true
       → Complete model (answer.derives hook s) (answer.tree (nodes_of q)) (EndsAt s) (buffer_of p) r (buffer_of q)
   pub one_tree : has_failed p ≡ false
@@ -364,7 +399,8 @@ pub record Promised {S H T F C K : Type 0} {fg : Ghosts F} {cg : Ghosts C} {kg :
   -- it has failed from now on where it refuses when out of memory, and only there
   pub fails : has_failed p ≡ false → has_failed q ≡ wants_memory r
 
--- What a call on a name does and promises, from b to c: by the calls of swc_ident, and that what is answered is what the grammar
+-- What a call on a name does and promises, from b to c: by the calls of swc_ident, and that what is answered is what
+-- the grammar
 -- derives, and the other way.
 pub record PromisedName {S T : Type 0} (model : Model S) (Names : Buffer S → Result T Error → Buffer S → Type 0)
     (derives : Derivation Spelling) (kind : NameKind) (view : T → Spelling) (b : Buffer S) (r : Result T Error)
@@ -384,21 +420,26 @@ pub record PromisedLit {S F C K : Type 0} (model : Model S) (hook : Hook F C K) 
   pub complete : Complete model (Reads hook Literal) lit_tree Anywhere b r c
 
 -- What a call promises that reads a property of an object pattern, or a rest among these.
-pub record PromisedPatProp {S H F C K : Type 0} {fg : Ghosts F} {cg : Ghosts C} {kg : Ghosts K} (model : Model S) (sure : Bool)
+pub record PromisedPatProp {S H F C K : Type 0} {fg : Ghosts F} {cg : Ghosts C} {kg : Ghosts K} (model : Model S)
+    (sure : Bool)
     (hook : Hook F C K) (p : Parser S H F C K fg cg kg) (r : Result (ObjectPatProp F C K) Error)
     (q : Parser S H F C K fg cg kg) : Type 0 where
   -- one of both is answered, and a property that is derived
   pub promised : Promised model sure hook pat_prop_in_boxes PatProp p r q
   -- and so is a rest that is derived, whatever follows
   pub rest : has_failed p ≡ false → sure ≡ true
-      → Complete model (ReadsUnmarked hook Rest) (pat_prop_tree F C K fg.place cg.place kg.place) Anywhere (buffer_of p) r (buffer_of q)
-  pub binds : has_failed p ≡ false → BoundAsProp model (pat_prop_tree F C K fg.place cg.place kg.place) (buffer_of p) r (buffer_of q)
+      → Complete model (ReadsUnmarked hook Rest) (pat_prop_tree F C K fg.place cg.place kg.place) Anywhere
+      (buffer_of p) r (buffer_of q)
+  pub binds : has_failed p ≡ false → BoundAsProp model (pat_prop_tree F C K fg.place cg.place kg.place) (buffer_of p) r
+      (buffer_of q)
 
 -- the patterns of parameters, in their order: in boxes, and by number
-abbrev pub pats_of : {F C K : Type 0} → (F → Span) → (C → Span) → (K → Span) → Vec (Param (PatOf F C K)) Global → Trees F C K
+abbrev pub pats_of : {F C K : Type 0} → (F → Span) → (C → Span) → (K → Span) → Vec (Param (PatOf F C K)) Global
+    → Trees F C K
 pats_of {F} {C} {K} fun class block ps = trees (map (λ p. pat_tree F C K fun class block p.pat) ps.items)
 
--- How a call answers parameters: which patterns an answer stands for, by the nodes that the parser then has; what derives them,
+-- How a call answers parameters: which patterns an answer stands for, by the nodes that the parser then has; what
+-- derives them,
 -- finished; what is left in them of patterns with their marks of commas; and what becomes of the nodes.
 pub record ParamsAnswer (T F C K : Type 0) (fg : Ghosts F) (cg : Ghosts C) (kg : Ghosts K) : Type 1 where
   pub pats : Nodes F C K fg cg kg → T → Trees F C K
@@ -425,7 +466,8 @@ params_by_number = record {
 }
 
 module _ {S F C K : Type 0} (model : Model S) (derives : Derivation (Tree F C K)) where
-  -- Between b and c tokens were consumed from which, and a `)` that comes next, the parameters are derived that are these patterns: with
+  -- Between b and c tokens were consumed from which, and a `)` that comes next, the parameters are derived that are
+  -- these patterns: with
   -- whatever may follow, and as a list of their own.
   pub record DerivesParams (pats : Trees F C K) (b c : Buffer S) : Type 0 where
     pub consumed : List TokenAndSpan
@@ -444,7 +486,8 @@ module _ {S F C K : Type 0} (model : Model S) (derives : Derivation (Tree F C K)
         → (u : Tree F C K) → derives (scope model b) (consumed ++ t ∷ []) [] u → u ≡ listed None t.span pats
 
 module _ {S F C K : Type 0} (model : Model S) (hook : Hook F C K) (strip : Trees F C K → Trees F C K) where
-  -- Between b and c the commas of literals were remembered, as `RemembersAll` has it: of those of patterns that have their marks.
+  -- Between b and c the commas of literals were remembered, as `RemembersAll` has it: of those of patterns that have
+  -- their marks.
   pub record RemembersParams (pats : Trees F C K) (b c : Buffer S) (old new : TrailingCommas) : Type 0 where
     pub marked : Trees F C K
     pub same : strip marked ≡ pats
@@ -459,31 +502,36 @@ module _ {S F C K : Type 0} (model : Model S) where
     pub known : Known model c (close ∷ ys)
     pub list : t ≡ listed None close.span pats
 
--- What a call on parameters promises, from the parser p to q, where it answers r. The `)` that closes them stays; without it nothing is
+-- What a call on parameters promises, from the parser p to q, where it answers r. The `)` that closes them stays;
+-- without it nothing is
 -- derived, and what is answered is promised to be patterns alone.
-pub record PromisedParams {S H T F C K : Type 0} {fg : Ghosts F} {cg : Ghosts C} {kg : Ghosts K} (model : Model S) (sure : Bool)
+pub record PromisedParams {S H T F C K : Type 0} {fg : Ghosts F} {cg : Ghosts C} {kg : Ghosts K} (model : Model S)
+    (sure : Bool)
     (hook : Hook F C K) (answer : ParamsAnswer T F C K fg cg kg) (p : Parser S H F C K fg cg kg) (r : Result T Error)
     (q : Parser S H F C K fg cg kg) : Type 0 where
   -- A parser that ran out of memory does nothing, and refuses as `ParserFailed` at the token consumed last.
   pub again : has_failed p ≡ true → (q ≡ p) × (r ≡ Err (parser_failed (previous (buffer_of p))))
-  -- Any other acts: what was consumed isn't lost; the context is what it was, no recorded fault was taken out, and no out of memory
+  -- Any other acts: what was consumed isn't lost; the context is what it was, no recorded fault was taken out, and no
+  -- out of memory
   -- recorded.
   pub acts : has_failed p ≡ false → Acts model (buffer_of p) r (buffer_of q)
   -- What is answered with no fault recorded is derived from the tokens consumed and a `)` after them.
   pub sound : has_failed p ≡ false → Loud model (buffer_of p) → IfOk r (λ v. Unmarred model (buffer_of p) (buffer_of q)
       → DerivesParams model (answer.derives hook Params) (answer.pats (nodes_of q) v) (buffer_of p) (buffer_of q))
-  -- Over a listed source, with a faithful hook: what is derived from the tokens to come, with the `)` that closes it, is answered, with
+  -- Over a listed source, with a faithful hook: what is derived from the tokens to come, with the `)` that closes it,
+  -- is answered, with
   -- no fault recorded, and the `)` and what follows it is left; or the answer is out of memory.
   pub complete : has_failed p ≡ false → sure ≡ true → Loud model (buffer_of p)
       → (ts ys : List TokenAndSpan) (t : Tree F C K) → Known model (buffer_of p) ts
-      → answer.derives hook Params (scope model (buffer_of p)) ts ys t
-      → MatchResult r
+      → answer.derives hook Params (scope model (buffer_of p)) ts ys t → MatchResult r
       (λ v. ClosedBy model (answer.pats (nodes_of q) v) t (buffer_of q) ys × Unmarred model (buffer_of p) (buffer_of q))
       (λ e. e.kind ≡ OutOfMemory)
   -- Where no fault was recorded, nothing else is derived from the tokens consumed and a `)` after them.
-  pub one_tree : has_failed p ≡ false → Loud model (buffer_of p) → IfOk r (λ v. Unmarred model (buffer_of p) (buffer_of q)
+  pub one_tree : has_failed p ≡ false → Loud model (buffer_of p)
+      → IfOk r (λ v. Unmarred model (buffer_of p) (buffer_of q)
       → DerivesOnlyParams model (answer.derives hook Params) (answer.pats (nodes_of q) v) (buffer_of p) (buffer_of q))
-  -- Whether a `)` comes next or not: in the patterns answered with no fault recorded operators group as their levels say, they hold no
+  -- Whether a `)` comes next or not: in the patterns answered with no fault recorded operators group as their levels
+  -- say, they hold no
   -- `Invalid`, private names are where they may be if the syntax is pedantic, and the patterns bind names alone.
   pub grouped : has_failed p ≡ false → Loud model (buffer_of p)
       → IfOk r (λ v. Unmarred model (buffer_of p) (buffer_of q) → are_grouped (answer.pats (nodes_of q) v) ≡ true)
@@ -492,12 +540,13 @@ pub record PromisedParams {S H T F C K : Type 0} {fg : Ghosts F} {cg : Ghosts C}
   pub privates : has_failed p ≡ false → Loud model (buffer_of p) → (scope model (buffer_of p)).syntax.pedantic ≡ true
       → IfOk r (λ v. Unmarred model (buffer_of p) (buffer_of q)
       → all_privates_ok false false (answer.pats (nodes_of q) v) ≡ true)
-  pub binds : has_failed p ≡ false → Loud model (buffer_of p)
-      → IfOk r (λ v. Unmarred model (buffer_of p) (buffer_of q)
+  pub binds : has_failed p ≡ false → Loud model (buffer_of p) → IfOk r (λ v. Unmarred model (buffer_of p) (buffer_of q)
       → all_bind_names any (answer.pats (nodes_of q) v) ≡ true)
-  -- The commas of literals in initialisers and keys were remembered; what is refused but when out of memory leaves what there was.
+  -- The commas of literals in initialisers and keys were remembered; what is refused but when out of memory leaves what
+  -- there was.
   pub commas : MatchResult r
-      (λ v. RemembersParams model hook answer.strip (answer.pats (nodes_of q) v) (buffer_of p) (buffer_of q) (commas_of p) (commas_of q))
+      (λ v. RemembersParams model hook answer.strip (answer.pats (nodes_of q) v) (buffer_of p) (buffer_of q)
+      (commas_of p) (commas_of q))
       (λ e. e.kind ≢ OutOfMemory → commas_of q ≡ commas_of p)
   -- what becomes of the nodes
   pub nodes : answer.leaves (nodes_of p) r (nodes_of q)
@@ -508,14 +557,17 @@ pub record PromisedParams {S H T F C K : Type 0} {fg : Ghosts F} {cg : Ghosts C}
 abbrev pub ReadsBody : {V : Type 0} → Reading V → Derivation V
 ReadsBody reads c xs ys v = reads c.context xs ≡ Some (v, ys)
 
--- What a call does and promises by which the hook reads a function, a class or a block where a statement is, from b to c, where it
+-- What a call does and promises by which the hook reads a function, a class or a block where a statement is, from b to
+-- c, where it
 -- answers r. A source that failed is out of memory.
-pub record HookReads {S V : Type 0} (model : Model S) (sure : Bool) (reads : Reading V) (b : Buffer S) (r : Result V Error)
+pub record HookReads {S V : Type 0} (model : Model S) (sure : Bool) (reads : Reading V) (b : Buffer S)
+    (r : Result V Error)
     (c : Buffer S) : Type 0 where
   pub consumes : Consumes model b r c
   -- What is answered with no fault recorded is what the hook reads of the tokens consumed, whatever follows.
   pub sound : Sound model (ReadsBody reads) (λ (v : V). v) b r c
-  -- Over a listed source, with a faithful hook: what it reads of the tokens to come is answered; or the answer is out of memory.
+  -- Over a listed source, with a faithful hook: what it reads of the tokens to come is answered; or the answer is out
+  -- of memory.
   pub complete : sure ≡ true → Complete model (ReadsBody reads) (λ (v : V). v) Anywhere b r c
   -- fewer tokens are to come
   pub less : OnOk r (to_come model c < to_come model b)

@@ -20,7 +20,8 @@ use Rattle.swc_ecma_parser.specs.{Promise.Unmarred, declared.parser.Parser.Parse
 
 -- What a call promises that makes patterns of expressions, from the parser p to q, where it answers r. By the grammar
 -- the expressions are `pattern`, if they are patterns of the kind that is asked for; `becomes` is what is made of them
--- in any case, with `Invalid` where a fault is recorded. Both have the marks of commas, which `strip` takes away. Records
+-- in any case, with `Invalid` where a fault is recorded. Both have the marks of commas, which `strip` takes away.
+-- Records
 -- says which faults are recorded, in their order, and what is refused.
 pub record PromisedRefinement {S H T A F C K : Type 0} {fg : Ghosts F} {cg : Ghosts C} {kg : Ghosts K}
     (model : Model S) (valid : Bool) (pattern : Option A) (becomes : A) (strip : A → A) (view : T → A)
@@ -37,8 +38,7 @@ pub record PromisedRefinement {S H T A F C K : Type 0} {fg : Ghosts F} {cg : Gho
       → IfOk r (λ x. Unmarred model (buffer_of p) (buffer_of q) → MatchOption pattern ⊥ (λ m. view x ≡ strip m))
   -- Where they are a pattern, it is answered, with nothing consumed and no fault recorded; or it is out of
   -- memory.
-  pub complete : has_failed p ≡ false → (m : A) → pattern ≡ Some m
-      → MatchResult r
+  pub complete : has_failed p ≡ false → (m : A) → pattern ≡ Some m → MatchResult r
       (λ x. (view x ≡ strip m) × Read model (buffer_of p) [] (buffer_of q) × Unmarred model (buffer_of p) (buffer_of q))
       (λ e. e.kind ≡ OutOfMemory)
   -- the faults that are recorded, and no others, and what is refused

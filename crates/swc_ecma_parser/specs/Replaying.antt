@@ -1,4 +1,5 @@
--- An expression that was read while its tokens were kept, and what is kept of them read again: the law of replay, in its
+-- An expression that was read while its tokens were kept, and what is kept of them read again: the law of replay, in
+-- its
 -- own words.
 use Rattle.std.specs.Prelude.{◌≡◌, Bool, true, false, List, [], Result, Ok, IfOk, MatchResult}
 use Rattle.std.specs.{declared.alloc.Global.Global, declared.boxed.Box.Box}
@@ -47,9 +48,11 @@ module _ {S H F C K : Type 0} {fg : Ghosts F} {cg : Ghosts C} {kg : Ghosts K} (m
     pub call : Promised (capturing_model model) sure hook in_boxes Expr start read behind
     pub look : Called (SeesEnd (capturing_model model)) behind at_end p
 
-  -- From p to q the tokens that its source kept were handed out, with the source's context and syntax, and it keeps none
+  -- From p to q the tokens that its source kept were handed out, with the source's context and syntax, and it keeps
+  -- none
   -- of them. The source within it stays, and so does all else of the parser.
-  pub record HandsOut (tokens : List TokenAndSpan) (c : Context) (x : Syntax) (p q : Parser (Capturing S) H F C K fg cg kg)
+  pub record HandsOut (tokens : List TokenAndSpan) (c : Context) (x : Syntax)
+      (p q : Parser (Capturing S) H F C K fg cg kg)
       : Type 0 where
     pub taken : tokens ≡ tokens_kept (source (buffer_of p))
     pub context : c ≡ (model.state (within (source (buffer_of p)))).context
@@ -62,8 +65,7 @@ module _ {H F C K : Type 0} {fg : Ghosts F} {cg : Ghosts C} {kg : Ghosts K} wher
   -- A new parser read an expression from the tokens ts.
   abbrev pub ReadsKept : Bool → Hook F C K → Context → Syntax → List TokenAndSpan
       → Result (Box (ExprOf F C K) Global) Error → Parser TokensInput H F C K fg cg kg → Type 0
-  ReadsKept sure hook c x ts read q =
-      Fresh (λ a b. Promised listed_model sure hook in_boxes Expr a read b) c x ts q
+  ReadsKept sure hook c x ts read q = Fresh (λ a b. Promised listed_model sure hook in_boxes Expr a read b) c x ts q
 
 -- An expression was read from the source s while its tokens were kept, and these were handed out: p is the parser after
 -- both. A new parser read them again, in the source's context and syntax, and is q after that. Whether the hook is
@@ -82,7 +84,8 @@ pub record ReadsTwice {S H F C K : Type 0} {fg : Ghosts F} {cg : Ghosts C} {kg :
 
 module _ {S H F C K : Type 0} {fg : Ghosts F} {cg : Ghosts C} {kg : Ghosts K} (model : Model S) (sure : Bool)
     (hook : Hook F C K) (s : S) where
-  -- An expression with the tree t was read cleanly of all that the source s gives: p is the parser that read it. What is
+  -- An expression with the tree t was read cleanly of all that the source s gives: p is the parser that read it. What
+  -- is
   -- kept of that was read again, by a parser that is q after it.
   pub record Replayed (t : Tree F C K) (p : Parser (Capturing S) H F C K fg cg kg)
       (again : Result (Box (ExprOf F C K) Global) Error) (q : Parser TokensInput H F C K fg cg kg) : Type 0 where
@@ -97,7 +100,8 @@ module _ {S H F C K : Type 0} {fg : Ghosts F} {cg : Ghosts C} {kg : Ghosts K} (m
     -- The same tree was read again, with a faithful hook, where each token begins where the one before it ends, or
     -- after: then all are kept.
     pub all_kept : sure ≡ true → one_by_one consumed → ReadAgain t again q
-    -- So it was where they are in the order of the text, and a derivation of all of them takes no slash by itself at which
+    -- So it was where they are in the order of the text, and a derivation of all of them takes no slash by itself at
+    -- which
     -- a regular expression was found,
     pub joined : sure ≡ true → in_order consumed ≡ true → {m : Tree F C K}
         → (d : Reads hook Expr (scope_at (model.state s)) consumed [] m) → Joined d → ReadAgain t again q
@@ -106,7 +110,8 @@ module _ {S H F C K : Type 0} {fg : Ghosts F} {cg : Ghosts C} {kg : Ghosts K} (m
     pub wanted : sure ≡ true → in_order consumed ≡ true → EndsBodies hook → are_wanted consumed ≡ true
         → ReadAgain t again q
 
-  -- What is read cleanly of all tokens up to the end, while they are kept, is read again of what is kept of them. Faults
+  -- What is read cleanly of all tokens up to the end, while they are kept, is read again of what is kept of them.
+  -- Faults
   -- have to be recorded at all.
   abbrev pub ReplayLaw : Result (Box (ExprOf F C K) Global) Error → Result Bool Error
       → Parser (Capturing S) H F C K fg cg kg → Result (Box (ExprOf F C K) Global) Error

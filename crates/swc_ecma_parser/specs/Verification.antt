@@ -27,14 +27,16 @@ pub record PromisedVerification {S H T F C K : Type 0} {fg : Ghosts F} {cg : Gho
   -- of error tokens that are current, which are consumed.
   pub records : has_failed p ≡ false → Loud model (buffer_of p)
       → OnOk r (RecordsAll model (cover_faults (cover_names given)) (buffer_of p) (buffer_of q))
-  -- Where a token is current that holds no error, and where the first one to come of a listed source holds none, or none
+  -- Where a token is current that holds no error, and where the first one to come of a listed source holds none, or
+  -- none
   -- is to come: those faults alone, and nothing is consumed.
   pub current : has_failed p ≡ false → Loud model (buffer_of p) → is_fit (current (buffer_of p)) ≡ true
       → OnOk r (Appends model (cover_faults (cover_names given)) (buffer_of p) (buffer_of q))
   pub listed : has_failed p ≡ false → Loud model (buffer_of p) → (ts : List TokenAndSpan) → Known model (buffer_of p) ts
       → begins_fit ts ≡ true → OnOk r (Appends model (cover_faults (cover_names given)) (buffer_of p) (buffer_of q))
   -- where faults aren't recorded, nothing is done
-  pub silent : has_failed p ≡ false → is_silent (state_of model (buffer_of p)) ≡ true → OnOk r (buffer_of q ≡ buffer_of p)
+  pub silent : has_failed p ≡ false → is_silent (state_of model (buffer_of p)) ≡ true
+      → OnOk r (buffer_of q ≡ buffer_of p)
   -- what is remembered of commas stays
   pub commas : commas_of q ≡ commas_of p
   -- the nodes are what they were
@@ -57,7 +59,8 @@ module _ {S : Type 0} (model : Model S) (es : List Error) where
     pub leads : Leads model b c
     pub records : Loud model b → RecordsAll model es b c
     pub current : Loud model b → is_fit (current b) ≡ true → Appends model es b c
-    pub listed : Loud model b → (ts : List TokenAndSpan) → Known model b ts → begins_fit ts ≡ true → Appends model es b c
+    pub listed : Loud model b → (ts : List TokenAndSpan) → Known model b ts → begins_fit ts ≡ true
+        → Appends model es b c
     pub silent : is_silent (state_of model b) ≡ true → c ≡ b
 
   -- the same, or memory ran out

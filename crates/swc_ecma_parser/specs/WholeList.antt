@@ -24,27 +24,36 @@ pub record Lists (ts : List TokenAndSpan) (s : Source) : Type 0 where
   pub clean : s.errors ≡ []
 
 module _ {N F C K : Type 0} {fg : Ghosts F} {cg : Ghosts C} {kg : Ghosts K} where
-  -- In the context c, of which four flags decide nothing (`view`), and by the syntax x, what is read of the tokens ts as the symbol s: what
-  -- has the number of a tree and whether tokens are left after it, or a refusal; the nodes; and the faults that were recorded
-  pub record Headline (sure : Bool) (hook : Hook F C K) (s : Symbol) (tree : Nodes F C K fg cg kg → N → Tree F C K) (c : Context) (x : Syntax) (ts : List TokenAndSpan)
+  -- In the context c, of which four flags decide nothing (`view`), and by the syntax x, what is read of the tokens ts
+  -- as the symbol s: what
+  -- has the number of a tree and whether tokens are left after it, or a refusal; the nodes; and the faults that were
+  -- recorded
+  pub record Headline (sure : Bool) (hook : Hook F C K) (s : Symbol) (tree : Nodes F C K fg cg kg → N → Tree F C K)
+      (c : Context) (x : Syntax) (ts : List TokenAndSpan)
       (read : Result (N × Bool) Error) (nodes : Nodes F C K fg cg kg) (recorded : List Error) : Type 0 where
-    -- A tree answered with no token left and no fault recorded is derived by the written grammar from the whole list, and is finished.
+    -- A tree answered with no token left and no fault recorded is derived by the written grammar from the whole list,
+    -- and is finished.
     pub sound : IfOk read (λ r. r.1 ≡ false → recorded ≡ []
         → Finished covers_done (Reads hook s) (scope_of (view c) x) ts [] (tree nodes r.0))
     -- No other finished tree is derived from it.
     pub one_tree : IfOk read (λ r. r.1 ≡ false → recorded ≡ []
         → (t : Tree F C K) → Finished covers_done (Reads hook s) (scope_of (view c) x) ts [] t → t ≡ tree nodes r.0)
-    -- Each finished tree that the grammar derives from the whole list is answered, with no token left and no fault recorded, or memory
+    -- Each finished tree that the grammar derives from the whole list is answered, with no token left and no fault
+    -- recorded, or memory
     -- was wanted. The hook has to be faithful.
     pub complete : sure ≡ true → (t : Tree F C K) → Finished covers_done (Reads hook s) (scope_of (view c) x) ts [] t
         → MatchResult read (λ r. (tree nodes r.0 ≡ t) × (r.1 ≡ false) × (recorded ≡ [])) (λ e. e.kind ≡ OutOfMemory)
 
-module _ {S H N F C K : Type 0} {fg : Ghosts F} {cg : Ghosts C} {kg : Ghosts K} (model : Model S) (sure : Bool) (hook : Hook F C K)
+module _ {S H N F C K : Type 0} {fg : Ghosts F} {cg : Ghosts C} {kg : Ghosts K} (model : Model S) (sure : Bool)
+    (hook : Hook F C K)
     (tree : Nodes F C K fg cg kg → N → Tree F C K) (part : N → Part) (s : Symbol) where
   -- one tree was read, and the end was looked for
   pub data Tries (p : Parser S H F C K fg cg kg) : Result (N × Bool) Error → Parser S H F C K fg cg kg → Type 0 where
-    tried : {id : N} {v : Bool} {q r : Parser S H F C K fg cg kg} → Promised model sure hook (numbered tree part) s p (Ok id) q
+    tried : {id : N} {v : Bool} {q r : Parser S H F C K fg cg kg}
+        → Promised model sure hook (numbered tree part) s p (Ok id) q
         → Called (SeesEnd model) q (Ok v) r → Tries p (Ok (id, not v)) r
-    refused : {e : Error} {r : Parser S H F C K fg cg kg} → Promised model sure hook (numbered tree part) s p (Err e) r → Tries p (Err e) r
-    lost : {id : N} {e : Error} {q r : Parser S H F C K fg cg kg} → Promised model sure hook (numbered tree part) s p (Ok id) q
+    refused : {e : Error} {r : Parser S H F C K fg cg kg} → Promised model sure hook (numbered tree part) s p (Err e) r
+        → Tries p (Err e) r
+    lost : {id : N} {e : Error} {q r : Parser S H F C K fg cg kg}
+        → Promised model sure hook (numbered tree part) s p (Ok id) q
         → Called (SeesEnd model) q (Err e) r → Tries p (Err e) r

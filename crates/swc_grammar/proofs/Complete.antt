@@ -355,6 +355,5 @@ module _ {F C K : Type 0} (hook : Hook F C K) where
 
   -- what the grammar derives is read, where nothing goes on
   pub complete : {s : Symbol} {c : Scope} {xs ys : List TokenAndSpan} {t : Answer F C K s} → Reads hook s c xs ys t
-      → Stop s c ys
-      → run hook (sym s) c xs ≡ Some (t, ys)
+      → Stop s c ys → run hook (sym s) c xs ≡ Some (t, ys)
   complete {s = s} {c = c} {xs = xs} {ys = ys} {t = t} d stop = settle hook s c xs ys t (good d) (claim d) stop

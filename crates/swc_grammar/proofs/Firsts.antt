@@ -235,8 +235,7 @@ super-first : (c : Scope) (t : Token) → is_super t ≡ true → begins_left c 
 super-first c t h = or-right (begins_primary c t) (is_left_word t) (rw (super-is t h) refl)
 
 import-first : (c : Scope) (t : Token) → is_import t ≡ true → begins_left c t ≡ true
-import-first c t h =
-    or-right (begins_primary c t) (is_left_word t) (rw (import-is t h) refl)
+import-first c t h = or-right (begins_primary c t) (is_left_word t) (rw (import-is t h) refl)
 
 -- what binary operators join, and any expression
 operand-left : (c : Scope) (t : Token) → begins_left c t ≡ true → begins_operand c t ≡ true
@@ -287,7 +286,8 @@ expression-yield : (c : Scope) (t : Token) → is_yield t ≡ true → (c.contex
     → begins_expression c t ≡ true
 expression-yield c t h k =
     let (g, o) = both c.context.in_generator (yield_ok c.context) k in
-    or-right (begins_operand c t) (is_yield_opening (opening t) && c.context.in_generator) (rw (yield-opens t h, g) refl)
+    or-right (begins_operand c t) (is_yield_opening (opening t) && c.context.in_generator)
+    (rw (yield-opens t h, g) refl)
   where
     yield-opens : (t : Token) → is_yield t ≡ true → is_yield_opening (opening t) ≡ true
     yield-opens (token.Word (word.Keyword keyword.Yield)) h = refl
@@ -333,8 +333,7 @@ module _ {F C K : Type 0} where
   opens (array-lit {c = c}) = λ a h. by-first c a.token (rw (lbracket-is a.token h) refl)
   opens (elements-end {c = c}) = λ a h. rw (rbracket-is a.token h) refl
   opens (elements-hole {c = c}) = λ a h. rw (comma-is a.token h) refl
-  opens (elements-more {c = c}) =
-      λ t h. or-left (begins_expression c t || is_dots t) (is_comma t || is_rbracket t) h
+  opens (elements-more {c = c}) = λ t h. or-left (begins_expression c t || is_dots t) (is_comma t || is_rbracket t) h
   opens (tail-end {c = c}) = λ a h. rw (rbracket-is a.token h) refl
   opens (tail-more {c = c}) = λ a h. rw (comma-is a.token h) refl
   opens (item-expr {c = c}) = λ t h. or-left (begins_expression c t) (is_dots t) h
@@ -362,8 +361,7 @@ module _ {F C K : Type 0} where
   opens shell-block = λ a h. h
   opens (key-name {c = c}) = λ a. under-given _ (any_name c a.token a.span) _
       (λ n h. word-key a.token (name-first c a.token a.span n h))
-  opens key-literal =
-      λ a. under-given _ (key_lit_of a.token a.span) _ (λ e h. key-lit-first a.token a.span e h)
+  opens key-literal = λ a. under-given _ (key_lit_of a.token a.span) _ (λ e h. key-lit-first a.token a.span e h)
   opens key-computed = λ a h. rw (lbracket-is a.token h) refl
   opens (paren-expr {c = c}) = λ a h. by-first c a.token (rw (lparen-is a.token h) refl)
   opens (regex-alone {c = c}) =

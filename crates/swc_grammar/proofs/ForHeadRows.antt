@@ -59,7 +59,8 @@ module _ {F C K : Type 0} (hook : Hook F C K) where
       ≡ Some (
         for_target
             (array_p (place 0 10)
-            (cons (ident (codes "a") 1 2) (cons (default_p (place 4 9) (ident (codes "b") 4 5) (num (codes "1") 8 9)) nil))),
+            (cons (ident (codes "a") 1 2) (cons (default_p (place 4 9) (ident (codes "b") 4 5) (num (codes "1") 8 9))
+            nil))),
         in_x 11,
       )
   unfolding run
@@ -87,7 +88,8 @@ module _ {F C K : Type 0} (hook : Hook F C K) where
 
   -- i = 0, b = 1;
   two_writes : for_head hook false script
-      (i 0 1 ∷ equals_at 2 3 ∷ num_at (codes "0") 4 5 ∷ comma_at 5 6 ∷ b 7 8 ∷ equals_at 9 10 ∷ one 11 12 ∷ semi 12 13 ∷ [])
+      (i 0 1 ∷ equals_at 2 3 ∷ num_at (codes "0") 4 5 ∷ comma_at 5 6 ∷ b 7 8 ∷ equals_at 9 10 ∷ one 11 12
+      ∷ semi 12 13 ∷ [])
       ≡ Some (
         for_expr (seq_e (place 0 12)
             (cons (assign_e (place 0 5) write.Assign (ident (codes "i") 0 1) (num (codes "0") 4 5))
@@ -182,7 +184,8 @@ module _ {F C K : Type 0} (hook : Hook F C K) where
   alone = refl
 
   -- a, line break, of x: `of` on any line
-  of_apart : for_head hook false script (a 0 1 ∷ tk (token.Word (word.Ident (codes "of"))) true (place 2 4) ∷ x 5 6 ∷ [])
+  of_apart : for_head hook false script (a 0 1 ∷ tk (token.Word (word.Ident (codes "of"))) true
+      (place 2 4) ∷ x 5 6 ∷ [])
       ≡ Some (
         for_target (ident (codes "a") 0 1),
         tk (token.Word (word.Ident (codes "of"))) true (place 2 4) ∷ x 5 6 ∷ [],
@@ -191,7 +194,8 @@ module _ {F C K : Type 0} (hook : Hook F C K) where
   of_apart = refl
 
   -- async, line break, of x: a name in both
-  async_apart : for_head hook false script (async ∷ tk (token.Word (word.Ident (codes "of"))) true (place 6 8) ∷ x 9 10 ∷ [])
+  async_apart : for_head hook false script (async ∷ tk (token.Word (word.Ident (codes "of"))) true
+      (place 6 8) ∷ x 9 10 ∷ [])
       ≡ Some (
         for_target (ident (codes "async") 0 5),
         tk (token.Word (word.Ident (codes "of"))) true (place 6 8) ∷ x 9 10 ∷ [],

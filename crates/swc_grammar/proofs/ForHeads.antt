@@ -92,7 +92,8 @@ module _ {F C K : Type 0} (hook : Hook F C K) where
   head-complete (expr-head d n) stop = rw (complete hook d stop) (rw n refl)
 
   -- before its hard stops an expression stops
-  pub head-stops : {ys : List TokenAndSpan} (is_await : Bool) (c : Scope) → HeadStops ys → Stop Expr (in_for is_await c) ys
+  pub head-stops : {ys : List TokenAndSpan} (is_await : Bool) (c : Scope) → HeadStops ys
+      → Stop Expr (in_for is_await c) ys
   head-stops is_await c head-end = (refl, λ op h. absurd cc)
   head-stops is_await c (head-stop {t = t} {ts = ts} h) = by-token t.token t.had_line_break t.span h
     where
@@ -120,7 +121,8 @@ module _ {F C K : Type 0} (hook : Hook F C K) where
       → for_head hook is_await c xs ≡ None → HeadStops ys → ReadsHead hook is_await c xs ys h → ⊥
   head-refused n s d = let k = head-front d s in absurd cc
 
--- Of what follows a head its first token decides, and nothing after that: the rest may be taken away. That token may not,
+-- Of what follows a head its first token decides, and nothing after that: the rest may be taken away. That token may
+-- not,
 -- as before the end each head is an expression.
 module _ {F C K : Type 0} {hook : Hook F C K} {is_await : Bool} {c : Scope} where
   pub head-cut : {h : ForHead F C K} (xs : List TokenAndSpan) (y : TokenAndSpan) (ys zs : List TokenAndSpan)

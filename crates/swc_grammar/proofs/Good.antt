@@ -78,8 +78,7 @@ module _ {F C K : Type 0} where
 
   -- a tree that holds tightest, as it has no operator
   leaf : {s : Symbol} (t : Answer F C K s) → is_valid t ≡ true → left_ok t ≡ true → is_grouped t ≡ true
-      → loosest s ≤ tightness t
-      → Good F C K s t
+      → loosest s ≤ tightness t → Good F C K s t
   leaf t v l g h = record { valid = v; left = l; grouped = g; tight = h }
 
   -- the same tree, of a looser symbol
@@ -137,8 +136,7 @@ module _ {F C K : Type 0} where
   items-grouped (node k s ts) h = (both (grouped_at (node k s ts)) (are_grouped ts) h).1
 
   key-lit-good : (t : Token) (s : Span) (e : Tree F C K) → key_lit_of t s ≡ Some e → Good F C K Key e
-  key-lit-good (token.Num raw) s e h =
-      subst (λ v. Good F C K Key v) (inj _ e h) (leaf _ refl refl refl (omega arith))
+  key-lit-good (token.Num raw) s e h = subst (λ v. Good F C K Key v) (inj _ e h) (leaf _ refl refl refl (omega arith))
   key-lit-good (token.BigInt raw) s e h =
       subst (λ v. Good F C K Key v) (inj _ e h) (leaf _ refl refl refl (omega arith))
   key-lit-good (token.Str value raw) s e h =
@@ -252,23 +250,27 @@ module _ {F C K : Type 0} where
 
   texts-valid : (ps : Tree F C K) → is_valid ps ≡ true → are_valid (texts_of ps) ≡ true
   texts-valid (node k s nil) h = refl
-  texts-valid (node k s (cons t ts)) h = items-valid t (both (is_valid t) (are_valid ts) (items-valid (node k s (cons t ts)) h)).0
+  texts-valid (node k s (cons t ts)) h = items-valid t
+      (both (is_valid t) (are_valid ts) (items-valid (node k s (cons t ts)) h)).0
 
   exprs-valid : (ps : Tree F C K) → is_valid ps ≡ true → are_valid (exprs_of ps) ≡ true
   exprs-valid (node k s nil) h = refl
   exprs-valid (node k s (cons t nil)) h = refl
   exprs-valid (node k s (cons t (cons u ts))) h =
-      items-valid u (both (is_valid u) (are_valid ts) (both (is_valid t) (are_valid (cons u ts)) (items-valid (node k s (cons t (cons u ts))) h)).1).0
+      items-valid u (both (is_valid u) (are_valid ts) (both (is_valid t) (are_valid (cons u ts))
+      (items-valid (node k s (cons t (cons u ts))) h)).1).0
 
   texts-grouped : (ps : Tree F C K) → is_grouped ps ≡ true → are_grouped (texts_of ps) ≡ true
   texts-grouped (node k s nil) h = refl
-  texts-grouped (node k s (cons t ts)) h = items-grouped t (both (is_grouped t) (are_grouped ts) (items-grouped (node k s (cons t ts)) h)).0
+  texts-grouped (node k s (cons t ts)) h = items-grouped t
+      (both (is_grouped t) (are_grouped ts) (items-grouped (node k s (cons t ts)) h)).0
 
   exprs-grouped : (ps : Tree F C K) → is_grouped ps ≡ true → are_grouped (exprs_of ps) ≡ true
   exprs-grouped (node k s nil) h = refl
   exprs-grouped (node k s (cons t nil)) h = refl
   exprs-grouped (node k s (cons t (cons u ts))) h =
-      items-grouped u (both (is_grouped u) (are_grouped ts) (both (is_grouped t) (are_grouped (cons u ts)) (items-grouped (node k s (cons t (cons u ts))) h)).1).0
+      items-grouped u (both (is_grouped u) (are_grouped ts)
+      (both (is_grouped t) (are_grouped (cons u ts)) (items-grouped (node k s (cons t (cons u ts))) h)).1).0
 
   parts-valid : (ps : Tree F C K) → is_valid ps ≡ true → are_valid (trees_append (texts_of ps) (exprs_of ps)) ≡ true
   parts-valid ps h = append-valid (texts_of ps) (exprs_of ps) (texts-valid ps h) (exprs-valid ps h)
@@ -333,8 +335,7 @@ module _ {F C K : Type 0} where
       by-chain true = leaf (chain_e is_optional t) (rw g.valid refl) refl (rw g.grouped refl) (omega arith)
 
   member-good : {b : Bool} (is_optional : Bool) (s : Span) (l prop : Tree F C K) → Good F C K (Left b) l
-      → is_valid prop ≡ true → is_grouped prop ≡ true
-      → Good F C K (Left b) (link_e is_optional l (member_e s l prop))
+      → is_valid prop ≡ true → is_grouped prop ≡ true → Good F C K (Left b) (link_e is_optional l (member_e s l prop))
   member-good is_optional s l prop g v w =
       link-good is_optional l (member_e s l prop)
       (leaf (member_e s l prop) (rw (g.valid, v) refl) refl (rw (g.grouped, w) refl) (omega arith))
@@ -370,7 +371,8 @@ module _ {F C K : Type 0} where
   keeps elements-end = λ a h. leaf _ refl refl refl (omega arith)
   keeps elements-hole = λ a h es g. leaf _ (items-valid es g.valid) refl (items-grouped es g.grouped) (omega arith)
   keeps elements-more = λ e g es k.
-      leaf _ (rw (g.valid, items-valid es k.valid) refl) refl (rw (g.grouped, items-grouped es k.grouped) refl) (omega arith)
+      leaf _ (rw (g.valid, items-valid es k.valid) refl) refl (rw (g.grouped, items-grouped es k.grouped) refl)
+      (omega arith)
   keeps tail-end = λ a h. leaf _ refl refl refl (omega arith)
   keeps tail-more = λ a h es g. leaf _ (items-valid es g.valid) refl (items-grouped es g.grouped) (omega arith)
   keeps item-expr = λ e g. leaf _ (rw g.valid refl) refl (rw g.grouped refl) (omega arith)
@@ -498,8 +500,7 @@ module _ {F C K : Type 0} where
   keeps exprs-more = λ es g a h e d.
       leaf _ (append-valid (items_of es) (cons e nil) (items-valid es g.valid) (rw d.valid refl)) refl
       (append-grouped (items_of es) (cons e nil) (items-grouped es g.grouped) (rw d.grouped refl)) (omega arith)
-  keeps seq-expr = λ es g.
-      seq-good (items_of es) (items-valid es g.valid) (items-grouped es g.grouped)
+  keeps seq-expr = λ es g. seq-good (items_of es) (items-valid es g.valid) (items-grouped es g.grouped)
   keeps (pat-bind {c = c}) =
       λ a. keeps-given _ (binding c a.token a.span) _ (λ n h. leaf _ refl refl refl (omega arith))
   keeps pat-array = λ a h es g. leaf _ (items-valid es g.valid) refl (items-grouped es g.grouped) (omega arith)

@@ -33,8 +33,7 @@ quiet-case false false false false o w h k = refl
 
 quiet-behind : (c : Scope) (us : List TokenAndSpan) → is_lparen_here (first us) ≡ false
     → (is_bindable_here c (first us) && not (before_of_here c (first us) && not (at_token is_arrow (second us))))
-    ≡ false
-    → sees (goes_on_async (at_head c)) us ≡ sees (goes_on_async (inner c)) us
+    ≡ false → sees (goes_on_async (at_head c)) us ≡ sees (goes_on_async (inner c)) us
 quiet-behind c [] h k = refl
 quiet-behind c (t ∷ ts) h k =
     quiet-case t.had_line_break (is_function t.token) (is_lparen t.token) (is_bindable c t.token) (before_of c t.token)
@@ -50,8 +49,7 @@ two-case false false o w k = refl
 
 quiet-two : (c : Scope) (us : List TokenAndSpan)
     → (is_bindable_here c (first us) && not (before_of_here c (first us) && not (at_token is_arrow (second us))))
-    ≡ false
-    → sees_two (of_arrow (at_head c)) us ≡ sees_two (of_arrow (inner c)) us
+    ≡ false → sees_two (of_arrow (at_head c)) us ≡ sees_two (of_arrow (inner c)) us
 quiet-two c [] k = refl
 quiet-two c (t ∷ []) k = refl
 quiet-two c (t ∷ (u ∷ us)) k =
@@ -75,8 +73,7 @@ module _ {F C K : Type 0} (hook : Hook F C K) where
 
   async-same : (c : Scope) (a : TokenAndSpan) (us : List TokenAndSpan) → is_lparen_here (first us) ≡ false
       → (is_bindable_here c (first us) && not (before_of_here c (first us) && not (at_token is_arrow (second us))))
-      ≡ false
-      → Does 8 Primary (at_head c) (a ∷ us) (async_primary (at_head c) (first us))
+      ≡ false → Does 8 Primary (at_head c) (a ∷ us) (async_primary (at_head c) (first us))
       ≡ Does 8 Primary (inner c) (a ∷ us) (async_primary (inner c) (first us))
   async-same c a us h k =
       rw h (name-same (at_head c) (inner c) us (quiet-behind c us h k) (quiet-two c us k) (async_name c a.token a.span))

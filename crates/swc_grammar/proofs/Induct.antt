@@ -16,8 +16,7 @@ module _ {F C K : Type 0} {hook : Hook F C K} {s : Symbol} where
   pub follows-given : {A : Type 0} {xs ys : List TokenAndSpan} {t : Answer F C K s} (o : Option A)
       (k : A → Side F C K s)
       (x : A) → o ≡ Some x → Follows hook s (k x) xs ys t → Follows hook s (given o >>= k) xs ys t
-  follows-given {xs = xs} {ys = ys} {t = t} o k x e d =
-      subst (λ v. Follows hook s (given v >>= k) xs ys t) (sym e) d
+  follows-given {xs = xs} {ys = ys} {t = t} o k x e d = subst (λ v. Follows hook s (given v >>= k) xs ys t) (sym e) d
 
 module _ {F C K : Type 0} (hook : Hook F C K)
     (P : (s : Symbol) → Scope → List TokenAndSpan → List TokenAndSpan → Answer F C K s → Type 0) where
@@ -28,11 +27,9 @@ module _ {F C K : Type 0} (hook : Hook F C K)
     ran-held : {s : Symbol} {b : Bool} {r : Side F C K s} {xs ys : List TokenAndSpan} {t : Answer F C K s}
         → b ≡ true → Ran s r xs ys t → Ran s (check b r) xs ys t
     ran-calm : {s : Symbol} {p : TokenAndSpan → Bool} {r : Side F C K s} {xs ys : List TokenAndSpan}
-        {t : Answer F C K s}
-        → sees p xs ≡ false → Ran s r xs ys t → Ran s (peek p r) xs ys t
+        {t : Answer F C K s} → sees p xs ≡ false → Ran s r xs ys t → Ran s (peek p r) xs ys t
     ran-calm-two : {s : Symbol} {p : TokenAndSpan → TokenAndSpan → Bool} {r : Side F C K s} {xs ys : List TokenAndSpan}
-        {t : Answer F C K s}
-        → sees_two p xs ≡ false → Ran s r xs ys t → Ran s (peek_two p r) xs ys t
+        {t : Answer F C K s} → sees_two p xs ≡ false → Ran s r xs ys t → Ran s (peek_two p r) xs ys t
     ran-part : {s s' : Symbol} {c : Scope} {f : Answer F C K s' → Side F C K s} {e : Answer F C K s'}
         {xs ms ys : List TokenAndSpan}
         {t : Answer F C K s} → Reads hook s' c xs ms e → P s' c xs ms e → Ran s (f e) ms ys t

@@ -29,8 +29,7 @@ module _ {F C K : Type 0} where
       by-kind false h = f h
 
   rest-meets : (e p q : Tree F C K) (s : Span) (d : Tree F C K) → binds_names any q ≡ true → Some (rest_p s d q)
-      ≡ Some p
-      → binds_names any p ≡ true
+      ≡ Some p → binds_names any p ≡ true
   rest-meets e p q s d h k = subst (λ v. binds_names any v ≡ true) (inj (rest_p s d q) p k) h
 
   -- what is related to a name is that name

@@ -1,4 +1,5 @@
--- A left-hand side that begins with neither `super` nor `import` is read in two steps: first one that holds no calls, as
+-- A left-hand side that begins with neither `super` nor `import` is read in two steps: first one that holds no calls,
+-- as
 -- a member expression or `new`, and then links that may be calls.
 use Rattle.std.specs.Prelude.{◌≡◌, ℕ, zero, suc, ◌≤◌, ◌<◌, Bool, true, false, not, ◌&&◌, if◌then◌else◌, List, [], ◌∷◌, Some, None, length}
 use Rattle.std.proofs.Common.{refl, sym as flip, ap, subst, ◌∙◌, arith}
@@ -42,8 +43,7 @@ module _ {F C K : Type 0} {c : Scope} where
         {p : (i : Bool) → Production (Left true) (with_head i c)
         (read (Left true) (with_head i c) (λ l. take (λ t. f l t)))}
         {q : (i : Bool) → Production (Left false) (with_head i c)
-        (read (Left false) (with_head i c) (λ l. take (λ t. f l t)))}
-        → Beside (more p) (more q)
+        (read (Left false) (with_head i c) (λ l. take (λ t. f l t)))} → Beside (more p) (more q)
 
   beside_if : (d : Bool) {x y : Link F C K true c} {u v : Link F C K false c} → Beside x u → Beside y v
       → Beside (if d then x else y) (if d then u else v)
@@ -109,8 +109,7 @@ module _ {F C K : Type 0} (hook : Hook F C K) where
   link_step : {b : Bool} {c : Scope} (l : Tree F C K) (t : TokenAndSpan) (us : List TokenAndSpan)
       {f : Tree F C K → TokenAndSpan → Side F C K (Left b)}
       (p : (i : Bool) → Production (Left b) (with_head i c) (read (Left b) (with_head i c) (λ e. take (λ u. f e u))))
-      → link b c (t ∷ us) ≡ more p
-      → run hook (links b l) c (t ∷ us)
+      → link b c (t ∷ us) ≡ more p → run hook (links b l) c (t ∷ us)
       ≡ and_then (exec hook (run hook) None (plan (f l t)) us) (λ e vs. run hook (links b e) c vs)
   link_step {b} {c} l t us {f = f} p h =
       knot hook (links b l) c (t ∷ us)
@@ -122,14 +121,11 @@ module _ {F C K : Type 0} (hook : Hook F C K) where
   link_none : {b : Bool} {c : Scope} (l : Tree F C K)
       {f : Tree F C K → TokenAndSpan → Side F C K (Left b)}
       (p : (i : Bool) → Production (Left b) (with_head i c) (read (Left b) (with_head i c) (λ e. take (λ u. f e u))))
-      → link b c [] ≡ more p
-      → run hook (links b l) c [] ≡ None
-  link_none {b} {c} l p h =
-      knot hook (links b l) c [] ∙ ap (λ v. exec hook (run hook) (Some 1) (linked v l) []) h
+      → link b c [] ≡ more p → run hook (links b l) c [] ≡ None
+  link_none {b} {c} l p h = knot hook (links b l) c [] ∙ ap (λ v. exec hook (run hook) (Some 1) (linked v l) []) h
 
   link_stops : {b : Bool} {c : Scope} (l : Tree F C K) (ts : List TokenAndSpan)
-      → link {F = F} {C = C} {K = K} b c ts ≡ no_more
-      → run hook (links b l) c ts ≡ Some (l, ts)
+      → link {F = F} {C = C} {K = K} b c ts ≡ no_more → run hook (links b l) c ts ≡ Some (l, ts)
   link_stops {b} {c} l ts h = knot hook (links b l) c ts ∙ ap (λ v. exec hook (run hook) (Some 1) (linked v l) ts) h
 
   split_by : (c : Scope) (l : Tree F C K) (ts : List TokenAndSpan)
@@ -144,7 +140,8 @@ module _ {F C K : Type 0} (hook : Hook F C K) where
       let link_of = exec hook (run hook) None (plan (f l t)) us in
       link_step l t us p h
       ∙ then-same link_of link_of (with_calls c) (λ e vs. and_then (run hook (links false e) c vs) (with_calls c)) refl
-      (λ r e. let n = exec-less hook (run hook) (run-less hook) None (plan (f l t)) us r e in more_of r.0 r.1 (omega arith))
+      (λ r e. let n = exec-less hook (run hook) (run-less hook) None (plan (f l t)) us r e in
+      more_of r.0 r.1 (omega arith))
       ∙ flip (then_then link_of (λ e vs. run hook (links false e) c vs) (with_calls c))
       ∙ flip (ap (λ o. and_then o (with_calls c)) (link_step l t us q k))
 
@@ -172,16 +169,14 @@ module _ {F C K : Type 0} (hook : Hook F C K) where
 
   links_end : (n : ℕ) (c : Scope) (l : Tree F C K) (ts : List TokenAndSpan) (r : Tree F C K × List TokenAndSpan)
       → length ts ≤ n → run hook (links false l) c ts ≡ Some r → no_link false r.1 ≡ true
-  links_end zero c l ts r h =
-      ends_by c l ts r (λ e vs lt. absurd (omega (arith, lt, h))) (link false c ts) refl
+  links_end zero c l ts r h = ends_by c l ts r (λ e vs lt. absurd (omega (arith, lt, h))) (link false c ts) refl
   links_end (suc n) c l ts r h =
       ends_by c l ts r (λ e vs lt. links_end n c e vs r (omega (arith, lt, h))) (link false c ts) refl
 
   -- ---- `new`, and what it constructs
 
   with_args : (b : Bool) (s : Span) (l : Tree F C K) (c : Scope) (t : TokenAndSpan) (us : List TokenAndSpan)
-      → is_lparen t.token ≡ true
-      → run hook (constructs b s l) c (t ∷ us)
+      → is_lparen t.token ≡ true → run hook (constructs b s l) c (t ∷ us)
       ≡ and_then (run hook (sym (Args false)) (with_in c) us)
       (λ es vs. run hook (links b (new_e (to s (span_of es)) l (items_of es))) c vs)
   with_args b s l c t us h =
@@ -209,23 +204,25 @@ module _ {F C K : Type 0} (hook : Hook F C K) where
       ∙ then_all list _
       (λ es vs. and_then (run hook (links false (new_e (to s (span_of es)) l (items_of es))) c vs) (with_calls c))
       (λ es vs. links_split (length vs) c _ vs (omega arith))
-      ∙ flip (then_then list (λ es vs. run hook (links false (new_e (to s (span_of es)) l (items_of es))) c vs) (with_calls c))
+      ∙ flip (then_then list (λ es vs. run hook (links false (new_e (to s (span_of es)) l (items_of es))) c vs)
+      (with_calls c))
       ∙ flip (ap (λ o. and_then o (with_calls c)) (with_args false s l c t us h))
 
   constructs_end : (s : Span) (l : Tree F C K) (c : Scope) (ts : List TokenAndSpan) (r : Tree F C K × List TokenAndSpan)
       → no_link false ts ≡ true → (p : Bool) → at_token is_lparen (first ts) ≡ p
       → run hook (constructs false s l) c ts ≡ Some r → no_link false r.1 ≡ true
   constructs_end s l c ts r n false h e =
-      subst (λ v. no_link false v.1 ≡ true) (inj (bare_new_e (to s (span_of l)) l, ts) r (flip (bare false s l c ts h) ∙ e)) n
+      subst (λ v. no_link false v.1 ≡ true) (inj (bare_new_e (to s (span_of l)) l, ts) r
+      (flip (bare false s l c ts h) ∙ e)) n
   constructs_end s l c [] r n true h e = absurd cc
   constructs_end s l c (t ∷ us) r n true h e =
-      let (p, a, b) = then-ok (run hook (sym (Args false)) (with_in c) us) _ (flip (with_args false s l c t us h) ∙ e) in
+      let (p, a, b) = then-ok (run hook (sym (Args false)) (with_in c) us) _
+      (flip (with_args false s l c t us h) ∙ e) in
       links_end (length p.1) c _ p.1 r (omega arith) b
 
   -- ---- left-hand sides
 
-  on_base : (b : Bool) (c : Scope) (ts : List TokenAndSpan) → begins_new ts ≡ false
-      → run hook (sym (Lhs b)) c ts
+  on_base : (b : Bool) (c : Scope) (ts : List TokenAndSpan) → begins_new ts ≡ false → run hook (sym (Lhs b)) c ts
       ≡ and_then (run hook (sym (Base b)) c ts) (λ e us. run hook (links b e) (inner c) us)
   on_base b c ts h =
       knot hook (sym (Lhs b)) c ts
@@ -257,14 +254,15 @@ module _ {F C K : Type 0} (hook : Hook F C K) where
       (at_token is_lparen (first p.1)) refl d
 
   base_by : (c : Scope) (ts : List TokenAndSpan) (d : Bool)
-      → exec hook (run hook) (Some 9) (chosen (if d then pick (new-target {c = c} {b = true}) else pick base-primary)) ts
-      ≡ exec hook (run hook) (Some 9) (chosen (if d then pick (new-target {c = c} {b = false}) else pick base-primary)) ts
+      → exec hook (run hook) (Some 9) (chosen (if d then pick (new-target {c = c} {b = true}) else pick base-primary))
+      ts
+      ≡ exec hook (run hook) (Some 9) (chosen (if d then pick (new-target {c = c} {b = false}) else pick base-primary))
+      ts
   base_by c ts true = refl
   base_by c ts false = refl
 
   base_picks : (b : Bool) (c : Scope) (ts : List TokenAndSpan) → at_token is_super (first ts) ≡ false
-      → at_token is_import (first ts) ≡ false
-      → run hook (sym (Base b)) c ts
+      → at_token is_import (first ts) ≡ false → run hook (sym (Base b)) c ts
       ≡ exec hook (run hook) (Some 9)
       (chosen (if at_token is_new (first ts) then pick (new-target {c = c} {b = b}) else pick base-primary)) ts
   base_picks b c ts h k = knot hook (sym (Base b)) c ts ∙ rw (h, k) refl

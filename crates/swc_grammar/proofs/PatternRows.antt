@@ -33,8 +33,7 @@ array_of_all_tree = array_p (place 0 20) (cons (ident (codes "a") 1 2) (cons hol
 
 -- [a, , ]
 abbrev holes_last : List TokenAndSpan
-holes_last =
-    bracket_at 0 1 ∷ name_at (codes "a") 1 2 ∷ comma_at 2 3 ∷ comma_at 4 5 ∷ unbracket_at 6 7 ∷ []
+holes_last = bracket_at 0 1 ∷ name_at (codes "a") 1 2 ∷ comma_at 2 3 ∷ comma_at 4 5 ∷ unbracket_at 6 7 ∷ []
 
 abbrev holes_last_tree : {F C K : Type 0} → Tree F C K
 holes_last_tree = array_p (place 0 7) (one (ident (codes "a") 1 2))
@@ -71,8 +70,7 @@ parameters_tree = listed None (place 21 22) (cons (ident (codes "a") 0 1)
 
 -- [...a,]
 abbrev comma_behind_rest : List TokenAndSpan
-comma_behind_rest =
-    bracket_at 0 1 ∷ dots_at 1 4 ∷ name_at (codes "a") 4 5 ∷ comma_at 5 6 ∷ unbracket_at 6 7 ∷ []
+comma_behind_rest = bracket_at 0 1 ∷ dots_at 1 4 ∷ name_at (codes "a") 4 5 ∷ comma_at 5 6 ∷ unbracket_at 6 7 ∷ []
 
 -- [...a = b]
 abbrev rest_with_default : List TokenAndSpan
@@ -82,8 +80,7 @@ rest_with_default =
 
 -- [a.b]
 abbrev member_bound : List TokenAndSpan
-member_bound =
-    bracket_at 0 1 ∷ name_at (codes "a") 1 2 ∷ dot_at 2 3 ∷ name_at (codes "b") 3 4 ∷ unbracket_at 4 5 ∷ []
+member_bound = bracket_at 0 1 ∷ name_at (codes "a") 1 2 ∷ dot_at 2 3 ∷ name_at (codes "b") 3 4 ∷ unbracket_at 4 5 ∷ []
 
 -- {...[a]}
 abbrev rest_of_pattern : List TokenAndSpan
@@ -92,23 +89,19 @@ rest_of_pattern =
 
 -- {if}
 abbrev keyword_alone : List TokenAndSpan
-keyword_alone =
-    brace_at 0 1 ∷ word_at (word.Keyword keyword.If) 1 3 ∷ unbrace_at 3 4 ∷ []
+keyword_alone = brace_at 0 1 ∷ word_at (word.Keyword keyword.If) 1 3 ∷ unbrace_at 3 4 ∷ []
 
 -- [eval]
 abbrev eval_in_module : List TokenAndSpan
-eval_in_module =
-    bracket_at 0 1 ∷ name_at (codes "eval") 1 5 ∷ unbracket_at 5 6 ∷ []
+eval_in_module = bracket_at 0 1 ∷ name_at (codes "eval") 1 5 ∷ unbracket_at 5 6 ∷ []
 
 -- , a)
 abbrev comma_alone : List TokenAndSpan
-comma_alone =
-    comma_at 0 1 ∷ name_at (codes "a") 2 3 ∷ close_at 3 4 ∷ []
+comma_alone = comma_at 0 1 ∷ name_at (codes "a") 2 3 ∷ close_at 3 4 ∷ []
 
 -- ...a,)
 abbrev comma_behind_rest_parameter : List TokenAndSpan
-comma_behind_rest_parameter =
-    dots_at 0 3 ∷ name_at (codes "a") 3 4 ∷ comma_at 4 5 ∷ close_at 5 6 ∷ []
+comma_behind_rest_parameter = dots_at 0 3 ∷ name_at (codes "a") 3 4 ∷ comma_at 4 5 ∷ close_at 5 6 ∷ []
 
 module _ {F C K : Type 0} (hook : Hook F C K) where
   unfoldable pattern_answer : Scope → List TokenAndSpan → Out (Tree F C K)

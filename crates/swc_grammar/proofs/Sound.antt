@@ -74,8 +74,7 @@ Means hook (asyncs n es) c ts r =
     (a b : TokenAndSpan) (xs : List TokenAndSpan) → async_name c a.token a.span ≡ Some n
     → not b.had_line_break ≡ true → is_lparen b.token ≡ true
     → Reads hook (Args false) (with_in c) xs ts es → Reads hook Assign c (a ∷ (b ∷ xs)) r.1 r.0
-Means hook (defaults p) c ts r =
-    (xs : List TokenAndSpan) → Reads hook Pat c xs ts p → Reads hook Element c xs r.1 r.0
+Means hook (defaults p) c ts r = (xs : List TokenAndSpan) → Reads hook Pat c xs ts p → Reads hook Element c xs r.1 r.0
 Means hook (climb l m) c ts r =
     m ≤ 10 → (i : Bool) (xs : List TokenAndSpan) → OnLeft hook (with_head i c) m xs ts l
     → Reads hook (Level (suc m)) (with_head i c) xs r.1 r.0 × Bound c m r.1
@@ -164,8 +163,7 @@ module _ {F C K : Type 0} (hook : Hook F C K)
     → p k c ts ≡ Some r → Means hook k c ts r) where
   -- a right-hand side that is run is followed
   side-sound : {s : Symbol} (g : Option ℕ) (x : Side F C K s) (ts : List TokenAndSpan)
-      (r : Answer F C K s × List TokenAndSpan)
-      → exec hook p g (plan x) ts ≡ Some r → Follows hook s x ts r.1 r.0
+      (r : Answer F C K s × List TokenAndSpan) → exec hook p g (plan x) ts ≡ Some r → Follows hook s x ts r.1 r.0
   side-sound {s = s} g (gives a) ts r h = subst (λ v. Follows hook s (gives a) ts v.1 v.0) (inj (a, ts) r h) gave
   side-sound g never ts r h = cc
   side-sound g (take f) [] r h = cc
@@ -192,8 +190,7 @@ module _ {F C K : Type 0} (hook : Hook F C K)
 
   -- a call that is last, and one with something after it
   last-sound : (g : Option ℕ) (k : Call F C K) (c : Scope) (ts : List TokenAndSpan)
-      (r : Ans F C K k × List TokenAndSpan)
-      → exec hook p g (read k c (λ v. gives v)) ts ≡ Some r → Means hook k c ts r
+      (r : Ans F C K k × List TokenAndSpan) → exec hook p g (read k c (λ v. gives v)) ts ≡ Some r → Means hook k c ts r
   last-sound g k c ts r h =
       let (y, h1) = only (allowed g (rank k)) h in
       let (q, a, b) = then-ok (p k c ts) (λ e us. exec hook p g (gives e) us) h1 in
@@ -271,7 +268,8 @@ module _ {F C K : Type 0} (hook : Hook F C K)
           (sym_path (bind hook p (plan (exprs_next c es a)) behind us) ∙ k) in
           let more = side-sound None (exprs_next c es a) us u w in
           last-sound None (seqs (items_of u.0)) c u.1 r j xs u.0 refl
-          (by exprs-more (part d (took (subst (λ v. Follows hook Exprs (exprs_next c v a) us u.1 u.0) (sym_path i) more))))
+          (by exprs-more (part d (took (subst (λ v. Follows hook Exprs (exprs_next c v a) us u.1 u.0)
+          (sym_path i) more))))
 
   -- an expression, an assignment expression, and a unary one, from their first token on
   expr-sound : (c : Scope) (ts : List TokenAndSpan) (r : Tree F C K × List TokenAndSpan)
@@ -284,10 +282,8 @@ module _ {F C K : Type 0} (hook : Hook F C K)
   -- a list in parentheses, and what is after it
   heads-held : (c : Scope) (a : TokenAndSpan) (es : Tree F C K) (ps : Trees F C K) (xs ts : List TokenAndSpan)
       {ys : List TokenAndSpan} {t : Tree F C K} → is_lparen a.token ≡ true → as_params es ≡ Some ps
-      → Reads hook (Args false) (with_in c) xs ts es
-      → Follows hook Assign (check (heads_ok c.context ps)
-      (arrow_tail c (listed None (to a.span (span_of es)) ps))) ts ys t
-      → Reads hook Assign c (a ∷ xs) ys t
+      → Reads hook (Args false) (with_in c) xs ts es → Follows hook Assign (check (heads_ok c.context ps)
+      (arrow_tail c (listed None (to a.span (span_of es)) ps))) ts ys t → Reads hook Assign c (a ∷ xs) ys t
   heads-held c a es ps xs ts y e d (held j w) =
       by arrow-heads (part (by heads (took (held y (part d (follows-given (as_params es) _ ps e (held j gave)))))) w)
 
@@ -341,8 +337,7 @@ module _ {F C K : Type 0} (hook : Hook F C K)
   async-heads-held : (c : Scope) (n : Spelling) (a b : TokenAndSpan) (es : Tree F C K) (ps : Trees F C K)
       (xs ts : List TokenAndSpan)
       {ys : List TokenAndSpan} {t : Tree F C K} → async_name c a.token a.span ≡ Some n → not b.had_line_break ≡ true
-      → is_lparen b.token ≡ true → as_params es ≡ Some ps
-      → Reads hook (Args false) (with_in c) xs ts es
+      → is_lparen b.token ≡ true → as_params es ≡ Some ps → Reads hook (Args false) (with_in c) xs ts es
       → Follows hook Assign (check (heads_ok c.context ps) (async_arrow_tail c n (listed None n.at ps))) ts ys t
       → Reads hook Assign c (a ∷ (b ∷ xs)) ys t
   async-heads-held c n a b es ps xs ts i l y e d (held j w) =
@@ -500,7 +495,8 @@ module _ {F C K : Type 0} (hook : Hook F C K)
 
   -- an operator below `**`, and its node at its own level, at which its left operand is read
   joins-sound : (c : Scope) (op : BinaryOp) (l e : Tree F C K) (t : TokenAndSpan) (xs ts ys : List TokenAndSpan)
-      → precedence_of op ≤ 10 → binary_of c.context t.token ≡ Some op → nullish_ok op l e ≡ true → logical_ok op l ≡ true
+      → precedence_of op ≤ 10 → binary_of c.context t.token ≡ Some op → nullish_ok op l e ≡ true
+      → logical_ok op l ≡ true
       → Reads hook (Level (precedence_of op)) c xs (t ∷ ts) l
       → Reads hook (Level (suc (min_right op))) (inner c) ts ys e
       → Reads hook (Level (precedence_of op)) c xs ys (bin_e (to (span_of l) (span_of e)) op l e)
@@ -536,8 +532,7 @@ module _ {F C K : Type 0} (hook : Hook F C K)
   stopped-sound : (c : Scope) (i : Bool) (g : Option ℕ) (l : Tree F C K) (m : ℕ) (xs ts : List TokenAndSpan)
       (r : Tree F C K × List TokenAndSpan)
       → m ≤ 10 → OnLeft hook (with_head i c) m xs ts l → Bound c m ts → exec hook p g (check (left_ok l) (gives l)) ts
-      ≡ Some r
-      → Reads hook (Level (suc m)) (with_head i c) xs r.1 r.0 × Bound c m r.1
+      ≡ Some r → Reads hook (Level (suc m)) (with_head i c) xs r.1 r.0 × Bound c m r.1
   stopped-sound c i g l m xs ts r small d b h =
       subst (λ v. Reads hook (Level (suc m)) (with_head i c) xs v.1 v.0 × Bound c m v.1)
       (inj (l, ts) r (only (left_ok l) h).1)
@@ -551,8 +546,7 @@ module _ {F C K : Type 0} (hook : Hook F C K)
   turn-sound : (c : Scope) (i : Bool) (g : Option ℕ) (o : Option BinaryOp) (l : Tree F C K) (m : ℕ)
       (xs ts : List TokenAndSpan)
       (r : Tree F C K × List TokenAndSpan) → m ≤ 10 → OnLeft hook (with_head i c) m xs ts l
-      → operator_at c.context (first ts) ≡ o
-      → exec hook p g (turn o l m c >>= (λ q. turned q.0 q.1 c)) ts ≡ Some r
+      → operator_at c.context (first ts) ≡ o → exec hook p g (turn o l m c >>= (λ q. turned q.0 q.1 c)) ts ≡ Some r
       → Reads hook (Level (suc m)) (with_head i c) xs r.1 r.0 × Bound c m r.1
   turn-sound c i g None l m xs ts r small d at h = stopped-sound c i g l m xs ts r small d (bound-none c m ts at) h
   turn-sound c i g (Some op) l m xs [] r small d at h = cc

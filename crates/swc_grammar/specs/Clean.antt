@@ -463,7 +463,8 @@ module _ {F C K : Type 0} where
 
   abbrev pub paren_tail : Scope → Span → Tree F C K → Plan F C K (Tree F C K)
   paren_tail c s es =
-      check (paren_ok c.syntax.pedantic es) (behind_base c (paren_e (to s (span_of es)) (seq_of (held_exprs (items_of es)))))
+      check (paren_ok c.syntax.pedantic es) (behind_base c
+      (paren_e (to s (span_of es)) (seq_of (held_exprs (items_of es)))))
 
   -- after that list after `async`: the rest of an arrow function, or what is after a call
   abbrev pub async_arrow_tail : Scope → Spelling → Tree F C K → Side F C K Assign
@@ -563,8 +564,7 @@ module _ {F C K : Type 0} where
   import_dot true v = if at_token is_source v then pick import-source else pick import-meta
   import_dot false v = pick import-meta
 
-  abbrev pub import_base : (b : Bool) {c : Scope} → Option TokenAndSpan → Option TokenAndSpan
-      → Choice F C K (Base b) c
+  abbrev pub import_base : (b : Bool) {c : Scope} → Option TokenAndSpan → Option TokenAndSpan → Choice F C K (Base b) c
   import_base b u v = if at_token is_dot u then import_dot b v else import_call b
 
   abbrev pub base : (b : Bool) (c : Scope) → List TokenAndSpan → Choice F C K (Base b) c

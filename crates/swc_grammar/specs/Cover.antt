@@ -107,7 +107,8 @@ as_literal strict t = if is_pattern t then as_pat (target strict) t else None
 abbrev pub as_params : {F C K : Type 0} → Tree F C K → Option (Trees F C K)
 as_params es = as_elements binding (comma_of es) (items_of es)
 
--- The early error of arrow parameters (15.3.1), as far as it is looked at: in a strict module they bind neither `eval` nor
+-- The early error of arrow parameters (15.3.1), as far as it is looked at: in a strict module they bind neither `eval`
+-- nor
 -- `arguments`.
 abbrev pub heads_ok : {F C K : Type 0} → Context → Trees F C K → Bool
 heads_ok c ps = all_bind_names (λ name. not ((c.module && c.strict) && is_one_of name strict_binding_words)) ps

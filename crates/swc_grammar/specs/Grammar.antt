@@ -204,7 +204,8 @@ pub data Production {F C K : Type 0} : (s : Symbol) → Scope → Side F C K s �
     es ← symbol (Args false) (with_in c)
     must (paren_ok c.syntax.pedantic es)
     gives (paren_e (to s (span_of es)) (seq_of (held_exprs (items_of es)))))
-  -- Left-hand sides (13.3): with links, or `new` without arguments (NewExpression, 13.3.5), after which no link is read.
+  -- Left-hand sides (13.3): with links, or `new` without arguments (NewExpression, 13.3.5), after which no link is
+  -- read.
   -- What is constructed is no optional chain.
   lhs-left : {c : Scope} {b : Bool} → Production (Lhs b) c (symbol (Left b) c)
   new-bare : {c : Scope} {b : Bool} → Production (Lhs b) c (do
@@ -222,7 +223,8 @@ pub data Production {F C K : Type 0} : (s : Symbol) → Scope → Side F C K s �
     token is_lparen
     es ← symbol (Args false) (with_in c)
     gives (new_e (to s (span_of es)) l (items_of es)))
-  -- Bases: primary expressions; `new.target` and `import.meta` (13.3.12); a property of `super` (13.3.7), by a name or in
+  -- Bases: primary expressions; `new.target` and `import.meta` (13.3.12); a property of `super` (13.3.7), by a name or
+  -- in
   -- brackets, in which `in` is an operator
   base-primary : {c : Scope} {b : Bool} → Production (Base b) c (symbol Primary c)
   new-target : {c : Scope} {b : Bool} → Production (Base b) c (do
@@ -270,7 +272,8 @@ pub data Production {F C K : Type 0} : (s : Symbol) → Scope → Side F C K s �
     es ← symbol (Args true) (with_in c)
     must (import_args_ok c true es)
     gives (call_e (to s (span_of es)) (import_e (to s s') phase.Source) (items_of es)))
-  -- Members (13.3.2), by a name, by `#` and a name that begins where it ends, and in brackets, in which `in` is an operator
+  -- Members (13.3.2), by a name, by `#` and a name that begins where it ends, and in brackets, in which `in` is an
+  -- operator
   member-name : {c : Scope} {b : Bool} → Production (Left b) c (do
     l ← symbol (Left b) c
     token is_dot

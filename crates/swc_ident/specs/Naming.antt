@@ -33,11 +33,16 @@ module _ {S : Type 0} (model : Model S) where
   -- the faults were recorded, or set waiting, at the place and in their order; those that are silenced leave nothing
   pub data Notes (at : Span) : List Fault → Buffer S → Buffer S → Type 0 where
     none-noted : {b : Buffer S} → Notes at [] b b
-    now-silent : {b c : Buffer S} {k : SyntaxError} {fs : List Fault} → is_silent (model.state (source b)) ≡ true → Notes at fs b c → Notes at (now k ∷ fs) b c
-    now-recorded : {b c d : Buffer S} {k : SyntaxError} {fs : List Fault} → is_silent (model.state (source b)) ≡ false → Recorded model b (fault_at at k) c → Notes at fs c d → Notes at (now k ∷ fs) b d
-    later-ignored : {b c : Buffer S} {k : SyntaxError} {fs : List Fault} → (context model b).ignore_error ≡ true → Notes at fs b c → Notes at (in_modules k ∷ fs) b c
-    later-noted : {b c d : Buffer S} {k : SyntaxError} {fs : List Fault} → (context model b).ignore_error ≡ false → c ≡ with_source (source c) b →
-        model.state (source c) ≡ with_module_error (fault_at at k) (model.state (source b)) → Read model b [] c → Notes at fs c d → Notes at (in_modules k ∷ fs) b d
+    now-silent : {b c : Buffer S} {k : SyntaxError} {fs : List Fault} → is_silent (model.state (source b)) ≡ true
+        → Notes at fs b c → Notes at (now k ∷ fs) b c
+    now-recorded : {b c d : Buffer S} {k : SyntaxError} {fs : List Fault} → is_silent (model.state (source b)) ≡ false
+        → Recorded model b (fault_at at k) c → Notes at fs c d → Notes at (now k ∷ fs) b d
+    later-ignored : {b c : Buffer S} {k : SyntaxError} {fs : List Fault} → (context model b).ignore_error ≡ true
+        → Notes at fs b c → Notes at (in_modules k ∷ fs) b c
+    later-noted : {b c d : Buffer S} {k : SyntaxError} {fs : List Fault} → (context model b).ignore_error ≡ false
+        → c ≡ with_source (source c) b →
+        model.state (source c) ≡ with_module_error (fault_at at k) (model.state (source b)) → Read model b [] c
+        → Notes at fs c d → Notes at (in_modules k ∷ fs) b d
 
   -- from b a token was looked at, and consumed; a word; a `#`; a string
   pub record Passed (b : Buffer S) (t : Token) (at : Span) (c : Buffer S) : Type 0 where
@@ -66,22 +71,29 @@ module _ {S : Type 0} (model : Model S) where
     pub consumed : List TokenAndSpan
     pub read : Read model b consumed c
 
-  -- Why no name was answered: out of memory; an error token, or the end; a token that is no word; or a word that isn't taken, which was
+  -- Why no name was answered: out of memory; an error token, or the end; a token that is no word; or a word that isn't
+  -- taken, which was
   -- consumed, and whose faults were noted.
   pub data Unnamed (judge : Judges) (b : Buffer S) (e : Error) (c : Buffer S) : Type 0 where
     no_memory : (xs : List TokenAndSpan) → Read model b xs c → e.kind ≡ kind.OutOfMemory → Unnamed judge b e c
-    not_fit : (r : Refused model b (λ here. unfit (current here) (last_position here) kind.Eof) e c) → is_fit (current r.here) ≡ false → Unnamed judge b e c
-    no_word : (r : Refused model b (λ here. fault_at (place_here here) kind.ExpectedIdent) e c) → is_fit (current r.here) ≡ true → at_token is_word (current r.here) ≡ false → Unnamed judge b e c
-    refused_word : {w : Word} {k : SyntaxError} {at : Span} {spoken noted : Buffer S} → Spoken b w at spoken → (judge (context model b) w).refusal ≡ Some k →
-        Notes at (judge (context model b) w).faults spoken noted → Refused model noted (λ here. fault_at at k) e c → Unnamed judge b e c
+    not_fit : (r : Refused model b (λ here. unfit (current here) (last_position here) kind.Eof) e c)
+        → is_fit (current r.here) ≡ false → Unnamed judge b e c
+    no_word : (r : Refused model b (λ here. fault_at (place_here here) kind.ExpectedIdent) e c)
+        → is_fit (current r.here) ≡ true → at_token is_word (current r.here) ≡ false → Unnamed judge b e c
+    refused_word : {w : Word} {k : SyntaxError} {at : Span} {spoken noted : Buffer S} → Spoken b w at spoken
+        → (judge (context model b) w).refusal ≡ Some k →
+        Notes at (judge (context model b) w).faults spoken noted → Refused model noted (λ here. fault_at at k) e c
+        → Unnamed judge b e c
 
-  -- Why a word that may be bound where it is isn't: memory ran out; or the table refuses the word, which was consumed, and whose
+  -- Why a word that may be bound where it is isn't: memory ran out; or the table refuses the word, which was consumed,
+  -- and whose
   -- faults were noted. So the end and an error token are never refused.
   pub data Unbindable (b : Buffer S) (e : Error) (c : Buffer S) : Type 0 where
     no_memory_to_bind : (xs : List TokenAndSpan) → Read model b xs c → e.kind ≡ kind.OutOfMemory → Unbindable b e c
     refused_binding : {w : Word} {k : SyntaxError} {at : Span} {spoken noted : Buffer S} → Spoken b w at spoken →
         is_bindable (context model b) (token.Word w) ≡ true → (binding_verdict (context model b) w).refusal ≡ Some k →
-        Notes at (binding_verdict (context model b) w).faults spoken noted → Refused model noted (λ here. fault_at at k) e c → Unbindable b e c
+        Notes at (binding_verdict (context model b) w).faults spoken noted
+        → Refused model noted (λ here. fault_at at k) e c → Unbindable b e c
 
   -- a name, or why there is none
   abbrev pub Names : {T : Type 0} → Judges → (T → List ℕ) → (T → Span) → Buffer S → Result T Error → Buffer S → Type 0
@@ -108,10 +120,13 @@ module _ {S : Type 0} (model : Model S) where
   -- why there is none: also a token that is no `#`, and a name that doesn't begin there
   pub data Unprivate (b : Buffer S) (e : Error) (c : Buffer S) : Type 0 where
     no_memory_either : (xs : List TokenAndSpan) → Read model b xs c → e.kind ≡ kind.OutOfMemory → Unprivate b e c
-    no_hash : {k : SyntaxError} (r : Refused model b (λ here. unfit (current here) (last_position here) k) e c) → expects k ≡ Some wanted.Hash → at_token is_hash (current r.here) ≡ false → Unprivate b e c
+    no_hash : {k : SyntaxError} (r : Refused model b (λ here. unfit (current here) (last_position here) k) e c)
+        → expects k ≡ Some wanted.Hash → at_token is_hash (current r.here) ≡ false → Unprivate b e c
     apart : {hash : Span} {hashed : Buffer S} → Hashed b hash hashed →
-        (r : Refused model hashed (λ here. fault_at (between hash.lo hash.hi) kind.SpaceBetweenHashAndIdent) e c) → (next_begins r.here ≡ hash.hi → ⊥) → Unprivate b e c
-    no_name : {hash : Span} {hashed near : Buffer S} → Hashed b hash hashed → Looked model hashed near → next_begins near ≡ hash.hi → Unnamed name_of_any near e c → Unprivate b e c
+        (r : Refused model hashed (λ here. fault_at (between hash.lo hash.hi) kind.SpaceBetweenHashAndIdent) e c)
+        → (next_begins r.here ≡ hash.hi → ⊥) → Unprivate b e c
+    no_name : {hash : Span} {hashed near : Buffer S} → Hashed b hash hashed → Looked model hashed near
+        → next_begins near ≡ hash.hi → Unnamed name_of_any near e c → Unprivate b e c
 
   abbrev pub PrivateNames : {T : Type 0} → (T → List ℕ) → (T → Span) → Buffer S → Result T Error → Buffer S → Type 0
   PrivateNames text at b r c = MatchResult r (λ t. Private (text t) (at t) b c) (λ e. Unprivate b e c)
@@ -126,7 +141,8 @@ module _ {S : Type 0} (model : Model S) where
   -- why there is neither a name nor a string
   pub data Unexported (b : Buffer S) (e : Error) (c : Buffer S) : Type 0 where
     no_memory_for_it : (xs : List TokenAndSpan) → Read model b xs c → e.kind ≡ kind.OutOfMemory → Unexported b e c
-    no_string : {k : SyntaxError} (r : Refused model b (λ here. unfit (current here) (last_position here) k) e c) → misses k ≡ Some wanted.IdentOrStr →
+    no_string : {k : SyntaxError} (r : Refused model b (λ here. unfit (current here) (last_position here) k) e c)
+        → misses k ≡ Some wanted.IdentOrStr →
         at_token is_word (current r.here) ≡ false → at_token is_str (current r.here) ≡ false → Unexported b e c
 
   -- a word that may be bound there is bound; before anything else nothing is consumed
@@ -143,7 +159,8 @@ MatchExport (export.Ident i) P Q = P i
 MatchExport (export.Str s) P Q = Q s
 
 module _ {S : Type 0} (model : Model S) where
-  -- what the calls answer, beside why there is none: an identifier, a name that is bound, a name of any word, a private name
+  -- what the calls answer, beside why there is none: an identifier, a name that is bound, a name of any word, a private
+  -- name
   abbrev pub Identifies : Judges → Buffer S → Result Ident Error → Buffer S → Type 0
   Identifies judge b r c = Names model judge (λ i. i.sym) (λ i. i.span) b r c
 

@@ -1,4 +1,5 @@
--- What each word is where a name is wanted: with which faults it is taken, or why it is refused (ECMA-262, 12.7 and 13.1.1).
+-- What each word is where a name is wanted: with which faults it is taken, or why it is refused (ECMA-262, 12.7 and
+-- 13.1.1).
 use Rattle.std.specs.Prelude.{ℕ, Bool, true, false, not, ◌&&◌, ◌||◌, if◌then◌else◌, List, [], ◌∷◌, ◌++◌, Option, Some, None, codes}
 use Rattle.swc_context.specs.Reserved.{is_reserved, strict_names, strict_binding_words}
 use Rattle.swc_context.specs.{Texts.is_text, Texts.is_one_of, Words.word_text, declared.context.Context.Context, declared.error.SyntaxError.SyntaxError, declared.error.SyntaxError.SyntaxError as kind, declared.word.Keyword.Keyword as keyword, declared.word.Word.Word, declared.word.Word.Word as word}
@@ -28,7 +29,8 @@ abbrev pub unless : Bool → Option SyntaxError
 unless true = None
 unless false = Some kind.ExpectedIdent
 
--- a word that is no keyword; `let` and `yield`, which strict code reserves too, are keywords, and have rows of their own
+-- a word that is no keyword; `let` and `yield`, which strict code reserves too, are keywords, and have rows of their
+-- own
 abbrev pub verdict_of_name : Bool → List ℕ → Verdict
 verdict_of_name in_class_field w =
     if is_text w (codes "enum") then taken_with (now (kind.InvalidIdentInStrict w)) else
@@ -38,7 +40,8 @@ verdict_of_name in_class_field w =
 abbrev pub name_verdict : Context → List ℕ → Verdict
 name_verdict c w = verdict_of_name c.in_class_field w
 
--- `await` is no identifier in a static block, then none in a module and in async code, and else one where it is included
+-- `await` is no identifier in a static block, then none in a module and in async code, and else one where it is
+-- included
 abbrev pub await_refusal : Context → Bool → Option SyntaxError
 await_refusal c included =
     if c.in_static_block then Some kind.ExpectedIdent else
@@ -47,8 +50,10 @@ await_refusal c included =
 -- Identifier: by the word, the context, and whether `yield` and `await` are included
 abbrev pub verdict_of : Bool → Option SyntaxError → Bool → Word → Verdict
 verdict_of y of_await in_class_field (word.Ident w) = verdict_of_name in_class_field w
-verdict_of y of_await in_class_field (word.Keyword keyword.Let) = taken_with (in_modules (kind.InvalidIdentInStrict (codes "let")))
-verdict_of y of_await in_class_field (word.Keyword keyword.Yield) = record { faults = in_modules (kind.InvalidIdentInStrict (codes "yield")) ∷ []; refusal = unless y }
+verdict_of y of_await in_class_field (word.Keyword keyword.Let) =
+    taken_with (in_modules (kind.InvalidIdentInStrict (codes "let")))
+verdict_of y of_await in_class_field (word.Keyword keyword.Yield) =
+    record { faults = in_modules (kind.InvalidIdentInStrict (codes "yield")) ∷ []; refusal = unless y }
 verdict_of y of_await in_class_field (word.Keyword keyword.Await) = record { faults = []; refusal = of_await }
 verdict_of y of_await in_class_field w = refused kind.ExpectedIdent
 
@@ -70,7 +75,11 @@ and_then v fs = record v { faults = v.faults ++ fs }
 
 -- the faults of a binding come where the word is taken
 abbrev pub binding_verdict : Context → Word → Verdict
-binding_verdict c w = elim (ident_verdict true true c w).refusal [ None ↦ and_then (ident_verdict true true c w) (binding_faults c (word_text w)) | Some k ↦ ident_verdict true true c w ]
+binding_verdict c w = elim (ident_verdict true true c w).refusal [
+  | None ↦ and_then (ident_verdict true true c w)
+      (binding_faults c (word_text w))
+  | Some k ↦ ident_verdict true true c w
+]
 
 -- IdentifierName: any word
 abbrev pub name_of_any : Context → Word → Verdict

@@ -15,5 +15,6 @@ pub past_end : {S : Type 0} {model : Model S} {b c : Buffer S} → Laws model �
 past_end {b = b} {c = c} laws l e f ended =
     let took = l.look.read.took in
     let none = (laws.gave b.iter c.iter took.given took.gave).ended ended in
-    let empty : held c ≡ [] = sym took.balance ∙ ap (λ g. held b ++ g) none ∙ append-nil (held b) ∙ ap (λ o. given_one o ++ given_one (peeked b)) e ∙ ap given_one f in
+    let empty : held c ≡ [] = sym took.balance ∙ ap (λ g. held b ++ g) none ∙ append-nil (held b) ∙ ap
+    (λ o. given_one o ++ given_one (peeked b)) e ∙ ap given_one f in
     none_held (current c) (peeked c) empty

@@ -12,7 +12,8 @@ counted_kind_parser kind.OutOfMemory = λ h. cc
 counted_kind_parser kind.ParserFailed = λ h. cc
 counted_kind_parser k = λ h. cc
 
-error_or_parser : (t : Token) (e : Error) → e.kind ≢ kind.ParserFailed → (error_or (error_in t) e).kind ≢ kind.ParserFailed
+error_or_parser : (t : Token) (e : Error) → e.kind ≢ kind.ParserFailed
+    → (error_or (error_in t) e).kind ≢ kind.ParserFailed
 error_or_parser (token.Error x) e own = counted_kind_parser x.kind
 error_or_parser t e own = own
 
@@ -20,28 +21,33 @@ error_or_fault : (t : Token) (e : Error) → IsFault e → IsFault (error_or (er
 error_or_fault (token.Error x) e fault = counted_fault x
 error_or_fault t e fault = fault
 
-pub refusal-kind : (o : Option TokenAndSpan) (f : Bool) (at : BytePos) (e : Error) → e.kind ≢ kind.ParserFailed → (refusal o f at e).kind ≢ kind.ParserFailed
+pub refusal-kind : (o : Option TokenAndSpan) (f : Bool) (at : BytePos) (e : Error) → e.kind ≢ kind.ParserFailed
+    → (refusal o f at e).kind ≢ kind.ParserFailed
 refusal-kind None true at e own = λ h. cc
 refusal-kind None false at e own = own
 refusal-kind (Some t) f at e own = error_or_parser t.token e own
 
-pub refusal-memory : (o : Option TokenAndSpan) (f : Bool) (at : BytePos) (e : Error) → IsFault e → (refusal o f at e).kind ≡ kind.OutOfMemory →
+pub refusal-memory : (o : Option TokenAndSpan) (f : Bool) (at : BytePos) (e : Error) → IsFault e
+    → (refusal o f at e).kind ≡ kind.OutOfMemory →
     (o ≡ None) × (f ≡ true) × (refusal o f at e ≡ no_memory at)
 refusal-memory None true at e fault h = (refl, refl, refl)
 refusal-memory None false at e fault h = absurd (fault h)
 refusal-memory (Some t) f at e fault h = absurd (error_or_fault t.token e fault h)
 
-refusal-failed : (o : Option TokenAndSpan) (f : Bool) (at : BytePos) (e : Error) → o ≡ None → f ≡ true → (refusal o f at e).kind ≡ kind.OutOfMemory
+refusal-failed : (o : Option TokenAndSpan) (f : Bool) (at : BytePos) (e : Error) → o ≡ None → f ≡ true
+    → (refusal o f at e).kind ≡ kind.OutOfMemory
 refusal-failed None true at e none failed = refl
 refusal-failed o f at e none failed = cc
 
 -- a token that doesn't fit is refused by the kind, or as `Eof`
-pub unfit-kind : (o : Option TokenAndSpan) (at : BytePos) (k other : SyntaxError) → kind.Eof ≢ other → k ≢ other → (unfit o at k).kind ≢ other
+pub unfit-kind : (o : Option TokenAndSpan) (at : BytePos) (k other : SyntaxError) → kind.Eof ≢ other → k ≢ other
+    → (unfit o at k).kind ≢ other
 unfit-kind None at k other end own = end
 unfit-kind (Some t) at k other end own = own
 
 -- a token that isn't known, and one that holds an error, don't fit
-pub unfit-unknown : (o : Option TokenAndSpan) (known : Bool) → (IsSome o → IsTrue known) → known ≡ false → is_fit o ≡ false
+pub unfit-unknown : (o : Option TokenAndSpan) (known : Bool) → (IsSome o → IsTrue known) → known ≡ false
+    → is_fit o ≡ false
 unfit-unknown None known h e = refl
 unfit-unknown (Some t) known h e = let w = h refl in cc
 
@@ -50,25 +56,32 @@ unfit-error None e h i = refl
 unfit-error (Some t) e h i = ap not (sym h ∙ i)
 
 module _ {S : Type 0} (model : Model S) where
-  pub Refused-kind : (b c : Buffer S) (e : Buffer S → Error) (f : Error) → ((here : Buffer S) → (e here).kind ≢ kind.ParserFailed) → Refused model b e f c → f.kind ≢ kind.ParserFailed
+  pub Refused-kind : (b c : Buffer S) (e : Buffer S → Error) (f : Error)
+      → ((here : Buffer S) → (e here).kind ≢ kind.ParserFailed) → Refused model b e f c → f.kind ≢ kind.ParserFailed
   Refused-kind b c e f own r h =
-      refusal-kind (current r.here) (model.state (source r.here)).failed (last_position r.here) (e r.here) (own r.here) (ap (λ x. x.kind) (sym r.answer) ∙ h)
+      refusal-kind (current r.here) (model.state (source r.here)).failed (last_position r.here) (e r.here) (own r.here)
+      (ap (λ x. x.kind) (sym r.answer) ∙ h)
 
   -- out of memory is refused where the look met a failed source
-  pub Refused-memory : (b c : Buffer S) (e : Buffer S → Error) (f : Error) → ((here : Buffer S) → IsFault (e here)) → (r : Refused model b e f c) → f.kind ≡ kind.OutOfMemory →
+  pub Refused-memory : (b c : Buffer S) (e : Buffer S → Error) (f : Error) → ((here : Buffer S) → IsFault (e here))
+      → (r : Refused model b e f c) → f.kind ≡ kind.OutOfMemory →
       (current r.here ≡ None) × ((model.state (source r.here)).failed ≡ true) × (f ≡ no_memory (last_position r.here))
   Refused-memory b c e f fault r h =
-      let m = refusal-memory (current r.here) (model.state (source r.here)).failed (last_position r.here) (e r.here) (fault r.here) (ap (λ x. x.kind) (sym r.answer) ∙ h) in
+      let m = refusal-memory (current r.here) (model.state (source r.here)).failed (last_position r.here) (e r.here)
+      (fault r.here) (ap (λ x. x.kind) (sym r.answer) ∙ h) in
       (m.0, m.1, r.answer ∙ m.2)
 
   -- where a look met no token since the source has failed, the refusal is out of memory
-  pub Refused-failed : (laws : Laws model) (b h c : Buffer S) (e : Buffer S → Error) (f : Error) → Looked model b h → current h ≡ None → (model.state h.iter).failed ≡ true →
+  pub Refused-failed : (laws : Laws model) (b h c : Buffer S) (e : Buffer S → Error) (f : Error) → Looked model b h
+      → current h ≡ None → (model.state h.iter).failed ≡ true →
       Refused model h e f c → f.kind ≡ kind.OutOfMemory
   Refused-failed laws b h c e f l none failed r =
       let took = r.looked.look.read.took in
       let fails = ((laws.gave h.iter r.here.iter took.given took.gave).failed failed).1 in
-      let never : IsSome (current r.here) → IsSome (current h) = λ some. Looked-some laws l ((Looked-served laws r.looked some).before fails).1 in
+      let never : IsSome (current r.here) → IsSome (current h) =
+      λ some. Looked-some laws l ((Looked-served laws r.looked some).before fails).1 in
       elim (current r.here) as (λ o. current r.here ≡ o → f.kind ≡ kind.OutOfMemory) [
-        | None ↦ (λ at. ap (λ x. x.kind) r.answer ∙ refusal-failed (current r.here) (model.state (source r.here)).failed (last_position r.here) (e r.here) at fails)
+        | None ↦ (λ at. ap (λ x. x.kind) r.answer ∙ refusal-failed (current r.here) (model.state (source r.here)).failed
+            (last_position r.here) (e r.here) at fails)
         | Some t ↦ (λ at. let some = subst IsSome none (never (subst IsSome (sym at) refl)) in cc)
       ] refl

@@ -50,7 +50,8 @@ stored t b = record { token = t; had_line_break = false; span = b.prev_span }
 abbrev pub held : {S : Type 0} → Buffer S → List TokenAndSpan
 held b = given_one b.cur ++ given_one b.next
 
--- The law of the buffer: between b and c the tokens xs were consumed. Those held at b, and then those given by the source, are xs,
+-- The law of the buffer: between b and c the tokens xs were consumed. Those held at b, and then those given by the
+-- source, are xs,
 -- and then those held at c.
 pub record Took {S : Type 0} (model : Model S) (b : Buffer S) (xs : List TokenAndSpan) (c : Buffer S) : Type 0 where
   pub given : List TokenAndSpan
@@ -68,7 +69,8 @@ module _ {S : Type 0} (model : Model S) where
   abbrev pub to_come : Buffer S → ℕ
   to_come b = (model.state b.iter).bound + length (held b)
 
-  -- rest may be the tokens still to come: those held, and then more, which is nothing after the end, and what a listed source knows
+  -- rest may be the tokens still to come: those held, and then more, which is nothing after the end, and what a listed
+  -- source knows
   pub record Future (b : Buffer S) (rest : List TokenAndSpan) : Type 0 where
     pub more : List TokenAndSpan
     pub begins : rest ≡ held b ++ more
@@ -82,7 +84,8 @@ module _ {S : Type 0} (model : Model S) where
     pub known : (model.state b.iter).known ≡ Some more
 
 module _ {S : Type 0} (model : Model S) where
-  -- the tokens xs were consumed, the context is what it was, no recorded fault was taken out, and no more tokens are to come
+  -- the tokens xs were consumed, the context is what it was, no recorded fault was taken out, and no more tokens are to
+  -- come
   pub record Read (b : Buffer S) (xs : List TokenAndSpan) (c : Buffer S) : Type 0 where
     pub took : Took model b xs c
     pub context : (model.state c.iter).context ≡ (model.state b.iter).context
@@ -98,7 +101,9 @@ module _ {S : Type 0} (model : Model S) where
   pub record Still (b c : Buffer S) : Type 0 where
     pub read : Read b [] c
     pub previous : c.prev_span ≡ b.prev_span
-    pub quiet : (m : List TokenAndSpan) → (model.state b.iter).known ≡ Some m → ((model.state c.iter).errors ≡ (model.state b.iter).errors) × ((model.state c.iter).waiting ≡ (model.state b.iter).waiting)
+    pub quiet : (m : List TokenAndSpan) → (model.state b.iter).known ≡ Some m
+        → ((model.state c.iter).errors ≡ (model.state b.iter).errors)
+        × ((model.state c.iter).waiting ≡ (model.state b.iter).waiting)
 
   -- the source didn't fail in between
   abbrev pub Lives : Buffer S → Buffer S → Type 0

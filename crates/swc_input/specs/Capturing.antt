@@ -28,9 +28,11 @@ either_failed false b = b
 abbrev pub capturing_state : Bool → Source → Source
 capturing_state lost s = record s { failed = either_failed lost s.failed; known = None }
 
--- Between s and t the tokens xs were given, by any calls of a source. The source within gave them, and after them the token that was
+-- Between s and t the tokens xs were given, by any calls of a source. The source within gave them, and after them the
+-- token that was
 -- lost, if one was. Those that were kept at s, and then xs, are kept at t.
-pub record Captures {S : Type 0} (model : Model S) (s : Capturing S) (xs : List TokenAndSpan) (t : Capturing S) : Type 0 where
+pub record Captures {S : Type 0} (model : Model S) (s : Capturing S) (xs : List TokenAndSpan)
+    (t : Capturing S) : Type 0 where
   pub unkept : Option TokenAndSpan
   pub gave : model.gives (within s) (xs ++ given_one unkept) (within t)
   pub kept : map plain (tokens_kept t) ≡ kept_on (map plain (tokens_kept s)) xs
@@ -45,7 +47,12 @@ pub record Passes {S : Type 0} (model : Model S) (s : Capturing S) (h : Hint) (t
   pub lost : has_lost t ≡ has_lost s
 
 abbrev pub capturing_model : {S : Type 0} → Model S → Model (Capturing S)
-capturing_model model = record { state = λ s. capturing_state (has_lost s) (model.state (within s)); gives = Captures model; told = Passes model }
+capturing_model model = record {
+  state = λ s. capturing_state (has_lost s) (model.state (within s));
+  gives =
+      Captures model;
+  told = Passes model;
+}
 
 kept_on-append : (ts xs ys : List TokenAndSpan) → kept_on ts (xs ++ ys) ≡ kept_on (kept_on ts xs) ys
 kept_on-append ts [] ys = refl
@@ -63,7 +70,8 @@ module _ {S : Type 0} {model : Model S} (laws : Laws model) where
   }
 
   -- a call that gave nothing and kept nothing
-  pub captures_still : (s t : Capturing S) → model.gives (within s) [] (within t) → tokens_kept t ≡ tokens_kept s → has_lost t ≡ has_lost s → Captures model s [] t
+  pub captures_still : (s t : Capturing S) → model.gives (within s) [] (within t) → tokens_kept t ≡ tokens_kept s
+      → has_lost t ≡ has_lost s → Captures model s [] t
   captures_still s t gave kept lost = record {
     unkept = None;
     gave = gave;
@@ -75,7 +83,8 @@ module _ {S : Type 0} {model : Model S} (laws : Laws model) where
   capturing_none : (s : Capturing S) → Captures model s [] s
   capturing_none s = captures_still s s (laws.none (within s)) refl refl
 
-  capturing_joins : (s t u : Capturing S) (xs ys : List TokenAndSpan) → Captures model s xs t → Captures model t ys u → Captures model s (xs ++ ys) u
+  capturing_joins : (s t u : Capturing S) (xs ys : List TokenAndSpan) → Captures model s xs t → Captures model t ys u
+      → Captures model s (xs ++ ys) u
   capturing_joins s t u xs ys p q = elim (has_lost t) as (λ b. has_lost t ≡ b → Captures model s (xs ++ ys) u) [
     | false ↦ (λ e.
         let Gives : List TokenAndSpan → Type 0 = λ l. model.gives (within s) l (within t) in
@@ -83,7 +92,8 @@ module _ {S : Type 0} {model : Model S} (laws : Laws model) where
         let Given : List TokenAndSpan → Type 0 = λ l. model.gives (within s) l (within u) in
         record {
           unkept = q.unkept;
-          gave = subst Given (sym (append_assoc xs ys (given_one q.unkept))) (laws.joins (within s) (within t) (within u) xs (ys ++ given_one q.unkept) gave q.gave);
+          gave = subst Given (sym (append_assoc xs ys (given_one q.unkept)))
+              (laws.joins (within s) (within t) (within u) xs (ys ++ given_one q.unkept) gave q.gave);
           kept = q.kept ∙ ap (λ l. kept_on l ys) p.kept ∙ sym (kept_on-append (map plain (tokens_kept s)) xs ys);
           none_lost = q.none_lost;
           over = λ h. let f : true ≡ false = sym (p.over h).2 ∙ e in cc;
@@ -93,10 +103,12 @@ module _ {S : Type 0} {model : Model S} (laws : Laws model) where
         let Given : List TokenAndSpan → Type 0 = λ l. model.gives (within s) l (within u) in
         let none : ys ++ given_one q.unkept ≡ [] = ap (λ l. l ++ given_one q.unkept) o.0 ∙ ap given_one o.1 in
         let same : (xs ++ given_one p.unkept) ++ (ys ++ given_one q.unkept) ≡ (xs ++ ys) ++ given_one p.unkept =
-        ap (λ l. (xs ++ given_one p.unkept) ++ l) none ∙ append-nil (xs ++ given_one p.unkept) ∙ sym (ap (λ l. l ++ given_one p.unkept) (ap (λ l. xs ++ l) o.0 ∙ append-nil xs)) in
+        ap (λ l. (xs ++ given_one p.unkept) ++ l) none ∙ append-nil (xs ++ given_one p.unkept) ∙ sym
+        (ap (λ l. l ++ given_one p.unkept) (ap (λ l. xs ++ l) o.0 ∙ append-nil xs)) in
         record {
           unkept = p.unkept;
-          gave = subst Given same (laws.joins (within s) (within t) (within u) (xs ++ given_one p.unkept) (ys ++ given_one q.unkept) p.gave q.gave);
+          gave = subst Given same (laws.joins (within s) (within t) (within u) (xs ++ given_one p.unkept)
+              (ys ++ given_one q.unkept) p.gave q.gave);
           kept = q.kept ∙ ap (λ l. kept_on l ys) p.kept ∙ sym (kept_on-append (map plain (tokens_kept s)) xs ys);
           none_lost = λ h. let f : true ≡ false = sym o.2 ∙ h in cc;
           over = λ h. let k = p.over h in (ap (λ l. l ++ ys) k.0 ∙ o.0, k.1, o.2);
@@ -104,9 +116,11 @@ module _ {S : Type 0} {model : Model S} (laws : Laws model) where
   ] refl
 
   -- after it ran out of memory, of its own or of the source within, nothing comes
-  failed_gives : (s t : Capturing S) (xs : List TokenAndSpan) (b : Bool) → has_lost s ≡ b → Captures model s xs t → either_failed b (model.state (within s)).failed ≡ true →
+  failed_gives : (s t : Capturing S) (xs : List TokenAndSpan) (b : Bool) → has_lost s ≡ b → Captures model s xs t
+      → either_failed b (model.state (within s)).failed ≡ true →
       (xs ≡ []) × (either_failed (has_lost t) (model.state (within t)).failed ≡ true)
-  failed_gives s t xs true e c h = let o = c.over e in (o.0, ap (λ b. either_failed b (model.state (within t)).failed) o.2)
+  failed_gives s t xs true e c h = let o = c.over e in
+      (o.0, ap (λ b. either_failed b (model.state (within t)).failed) o.2)
   failed_gives s t xs false e c h =
       let g = (laws.gave (within s) (within t) (xs ++ given_one c.unkept) c.gave).failed h in
       (first_empty xs (given_one c.unkept) g.0, fails (has_lost t) (model.state (within t)).failed g.1)
@@ -116,7 +130,8 @@ module _ {S : Type 0} {model : Model S} (laws : Laws model) where
       fails false f h = h
 
   capturing_gave : (s t : Capturing S) (xs : List TokenAndSpan) → Captures model s xs t →
-      Gave (capturing_state (has_lost s) (model.state (within s))) xs (capturing_state (has_lost t) (model.state (within t)))
+      Gave (capturing_state (has_lost s) (model.state (within s))) xs
+      (capturing_state (has_lost t) (model.state (within t)))
   capturing_gave s t xs c = let g = laws.gave (within s) (within t) (xs ++ given_one c.unkept) c.gave in record {
     syntax = g.syntax;
     target = g.target;
@@ -128,10 +143,17 @@ module _ {S : Type 0} {model : Model S} (laws : Laws model) where
   }
 
   pub capturing_laws : Laws (capturing_model model)
-  capturing_laws = record { lawful = capturing_lawful; none = capturing_none; joins = capturing_joins; gave = capturing_gave }
+  capturing_laws = record {
+    lawful = capturing_lawful;
+    none = capturing_none;
+    joins = capturing_joins;
+    gave =
+        capturing_gave;
+  }
 
   -- a lexer's stack of contexts is no part of the state
-  pub capturing_unmoved : (change : S → TokenContexts → S) → ((s : S) (contexts : TokenContexts) → Unmoved model s (change s contexts)) →
+  pub capturing_unmoved : (change : S → TokenContexts → S)
+      → ((s : S) (contexts : TokenContexts) → Unmoved model s (change s contexts)) →
       (s : Capturing S) (contexts : TokenContexts) → Unmoved (capturing_model model) s (with_contexts change s contexts)
   capturing_unmoved change unmoved s contexts = let u = unmoved (within s) contexts in record {
     gave = captures_still s (with_contexts change s contexts) u.gave refl refl;

@@ -94,21 +94,24 @@ listed_model = record { state = listed_state; gives = ListedGives; told = λ s h
 
 pub listed_lawful : (s : TokensInput) → IsLawful (listed_state s)
 listed_lawful s = record {
-  none_waits = λ h. let none = s.none_waits h in let long = s.module_errors.ok in nil_from_length s.module_errors.items (omega arith);
+  none_waits = λ h. let none = s.none_waits h in let long = s.module_errors.ok in
+      nil_from_length s.module_errors.items (omega arith);
   over = λ m h e. let same : coming s ≡ m = cc in sym same ∙ is_nil-nil (coming s) e;
 }
 
 pub listed_none : (s : TokensInput) → ListedGives s [] s
 listed_none s = record { list = refl; syntax = refl; target = refl }
 
-pub listed_joins : (s t u : TokensInput) (xs ys : List TokenAndSpan) → ListedGives s xs t → ListedGives t ys u → ListedGives s (xs ++ ys) u
+pub listed_joins : (s t u : TokensInput) (xs ys : List TokenAndSpan) → ListedGives s xs t → ListedGives t ys u
+    → ListedGives s (xs ++ ys) u
 listed_joins s t u xs ys a b = record {
   list = a.list ∙ ap (λ l. xs ++ l) b.list ∙ sym (append_assoc xs ys (coming u));
   syntax = b.syntax ∙ a.syntax;
   target = b.target ∙ a.target;
 }
 
-pub listed_gave : (s t : TokensInput) (xs : List TokenAndSpan) → ListedGives s xs t → Gave (listed_state s) xs (listed_state t)
+pub listed_gave : (s t : TokensInput) (xs : List TokenAndSpan) → ListedGives s xs t
+    → Gave (listed_state s) xs (listed_state t)
 listed_gave s t xs a = record {
   syntax = a.syntax;
   target = a.target;
@@ -126,7 +129,8 @@ listed_laws = record { lawful = listed_lawful; none = listed_none; joins = liste
 pub listed_unmoved : (s : TokensInput) (contexts : TokenContexts) → Unmoved listed_model s (with_contexts s contexts)
 listed_unmoved s contexts = record { gave = record { list = refl; syntax = refl; target = refl }; state = refl }
 
-pub listed_asked : (s : TokensInput) (r : Option TokenAndSpan) (t : TokensInput) → NextListed s r t → Asked listed_model s r t
+pub listed_asked : (s : TokensInput) (r : Option TokenAndSpan) (t : TokensInput) → NextListed s r t
+    → Asked listed_model s r t
 listed_asked s (Some x) t n = record {
   gave = record { list = ap (λ l. map plain l) n.first; syntax = n.syntax; target = n.target };
   token = record {

@@ -62,7 +62,8 @@ abbrev pub error_or : Option Error → Error → Error
 error_or None e = e
 error_or (Some x) e = x
 
--- the refusal that is answered in place of e where the current token is o: the error of an error token, and out of memory where
+-- the refusal that is answered in place of e where the current token is o: the error of an error token, and out of
+-- memory where
 -- the source has failed
 abbrev pub refusal : Option TokenAndSpan → Bool → BytePos → Error → Error
 refusal None true at e = no_memory at
@@ -80,7 +81,8 @@ module _ {S : Type 0} (model : Model S) where
     pub here : Buffer S
     pub looked : Looked model b here
     pub read : Read model here (error_token (current here)) c
-    pub errors : (model.state (source c)).errors ≡ (model.state (source here)).errors ++ (error_list (error_here (current here)) ++ e ∷ [])
+    pub errors : (model.state (source c)).errors ≡ (model.state (source here)).errors ++
+        (error_list (error_here (current here)) ++ e ∷ [])
     pub waiting : (model.state (source c)).waiting ≡ (model.state (source here)).waiting
     pub lives : Lives model b c
 
@@ -98,4 +100,5 @@ module _ {S : Type 0} (model : Model S) where
   pub record Seen (b : Buffer S) (r : Bool) (c : Buffer S) : Type 0 where
     pub looked : Looked model b c
     pub token : r ≡ true → (t : TokenAndSpan) × (current c ≡ Some t)
-    pub end : r ≡ false → (current c ≡ None) × (peeked c ≡ None) × ((model.state (source c)).failed ≡ false) × ((model.state (source c)).ended ≡ true)
+    pub end : r ≡ false → (current c ≡ None) × (peeked c ≡ None) × ((model.state (source c)).failed ≡ false)
+        × ((model.state (source c)).ended ≡ true)

@@ -5,7 +5,8 @@ use Rattle.swc_input.specs.Recording.{is_silent, Recorded, Refused}
 use Rattle.swc_input.specs.{declared.buffer.Buffer.Buffer, Source.Model, Buffer.source}
 
 module _ {S : Type 0} (model : Model S) where
-  -- The faults were recorded, one after another, and nothing else; each after the error of a current error token, which was consumed.
+  -- The faults were recorded, one after another, and nothing else; each after the error of a current error token, which
+  -- was consumed.
   abbrev pub RecordsAll : List Error → Buffer S → Buffer S → Type 0
   RecordsAll [] b c = c ≡ b
   RecordsAll (e ∷ es) b c = (d : Buffer S) × Recorded model b e d × RecordsAll es d c
@@ -25,4 +26,5 @@ module _ {S : Type 0} (model : Model S) where
 
   -- The faults were recorded, and no others, and there is nothing to refuse; or it was refused then; or memory ran out.
   abbrev pub Judges : {T : Type 0} → List Error → Option Error → Buffer S → Result T Error → Buffer S → Type 0
-  Judges es o b r c = MatchResult r (λ t. (o ≡ None) × NotesAll es b c) (λ e. e.kind ≢ kind.OutOfMemory → RefusesAfter es o b e c)
+  Judges es o b r c = MatchResult r (λ t. (o ≡ None) × NotesAll es b c)
+      (λ e. e.kind ≢ kind.OutOfMemory → RefusesAfter es o b e c)

@@ -52,7 +52,8 @@ with_module_error e s = record s {
 abbrev pub HeldBack : Context → Source → Type 0
 HeldBack c s = (s.context.module ≡ false) × (c.module ≡ true) × (s.waiting ≢ [])
 
--- how many tokens more a hint may bring: the slash at which a regular expression begins may come once more; a hint that none
+-- how many tokens more a hint may bring: the slash at which a regular expression begins may come once more; a hint that
+-- none
 -- begins brings none
 abbrev pub hint_brings : Option BytePos → ℕ
 hint_brings None = 0
@@ -62,7 +63,8 @@ hint_brings (Some start) = 1
 abbrev pub Hinted : Option BytePos → Source → Source → Type 0
 Hinted start s t = (b : ℕ) × (t ≡ record s { bound = b }) × (b ≤ s.bound + hint_brings start)
 
--- In a module no fault waits. A listed source gives all its tokens before its end; it fails only when it is out of memory, and an
+-- In a module no fault waits. A listed source gives all its tokens before its end; it fails only when it is out of
+-- memory, and an
 -- end that it gives is no failure.
 pub record IsLawful (s : Source) : Type 0 where
   pub none_waits : s.context.module ≡ true → s.waiting ≡ []
@@ -119,7 +121,8 @@ abbrev pub given_one : Option TokenAndSpan → List TokenAndSpan
 given_one None = []
 given_one (Some t) = plain t ∷ []
 
--- What a source is to contracts: its states, and that calls led from one state to another and gave these tokens between them.
+-- What a source is to contracts: its states, and that calls led from one state to another and gave these tokens between
+-- them.
 pub record Model (S : Type 0) : Type 1 where
   pub state : S → Source
   pub gives : S → List TokenAndSpan → S → Type 0
@@ -132,7 +135,8 @@ pub record Laws {S : Type 0} (model : Model S) : Type 0 where
   -- where nothing was asked, nothing was given
   pub none : (s : S) → model.gives s [] s
   -- what calls gave one after another
-  pub joins : (s t u : S) (xs ys : List TokenAndSpan) → model.gives s xs t → model.gives t ys u → model.gives s (xs ++ ys) u
+  pub joins : (s t u : S) (xs ys : List TokenAndSpan) → model.gives s xs t → model.gives t ys u
+      → model.gives s (xs ++ ys) u
   pub gave : (s t : S) (xs : List TokenAndSpan) → model.gives s xs t → Gave (model.state s) xs (model.state t)
 
 -- between s and t no token was given, and the state is the same

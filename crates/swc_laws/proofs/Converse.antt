@@ -132,8 +132,7 @@ module _ {F C K : Type 0} (hook : Hook F C K) where
       two (u ∷ us) = rw w (and-false (not b))
 
   quiet-token : (c : Scope) (a : TokenAndSpan) (us : List TokenAndSpan) (t : Token) → a.token ≡ t
-      → is_function t ≡ false
-      → is_lparen t ≡ false → is_bindable (with_in c) t ≡ false → Quiet c (a ∷ us)
+      → is_function t ≡ false → is_lparen t ≡ false → is_bindable (with_in c) t ≡ false → Quiet c (a ∷ us)
   quiet-token c a us t e f l w =
       subst (λ v. Quiet c (tk v a.had_line_break a.span ∷ us)) (sym e) (quiet-sign c t a.had_line_break a.span us f l w)
 
@@ -236,8 +235,7 @@ module _ {F C K : Type 0} (hook : Hook F C K) where
         name = λ i. absurd (cc);
       }
 
-  object-back : (c : Scope) (a : TokenAndSpan) (ms ys : List TokenAndSpan) (q : Tree F C K)
-      → is_brace a.token ≡ true
+  object-back : (c : Scope) (a : TokenAndSpan) (ms ys : List TokenAndSpan) (q : Tree F C K) → is_brace a.token ≡ true
       → BackProps Props c ms ys q → Back c (a ∷ ms) ys (object_p (to a.span (span_of q)) (items_of q))
   object-back c a ms ys q h v =
       let s = to a.span (span_of v.tree) in
@@ -317,8 +315,7 @@ module _ {F C K : Type 0} (hook : Hook F C K) where
       then-some (as_pat m e) _ p h (then-some (as_elements m (comma_of es) (items_of es)) _ ps k refl)
 
   props-maps : (m : Role) (t p : Tree F C K) (es : Tree F C K) (ps : Trees F C K)
-      → as_prop m (is_last (comma_of es) (items_of es)) t ≡ Some p
-      → as_props m (comma_of es) (items_of es) ≡ Some ps
+      → as_prop m (is_last (comma_of es) (items_of es)) t ≡ Some p → as_props m (comma_of es) (items_of es) ≡ Some ps
       → as_props m (comma_of es) (cons t (items_of es)) ≡ Some (cons p ps)
   props-maps m t p es ps h k =
       then-some (as_prop m (is_last (comma_of es) (items_of es)) t) _ p h
@@ -484,8 +481,7 @@ module _ {F C K : Type 0} (hook : Hook F C K) where
   }
 
   short-law : (c : Scope) (a : TokenAndSpan) {xs ys : List TokenAndSpan} {t : Tree F C K} (n : Spelling)
-      → any_name c a.token a.span ≡ Some n
-      → Ran hook Law PatProp (check (not (is_reserved_word c.context n.text))
+      → any_name c a.token a.span ≡ Some n → Ran hook Law PatProp (check (not (is_reserved_word c.context n.text))
       (gives (name_p n.at (ident_e n.at n.text) hole_e))) xs ys t → BackProp c (a ∷ xs) ys t
   short-law c a n h (ran-held r (ran-gave {ys = ys})) = short-back c a ys n h r
 

@@ -71,8 +71,7 @@ module _ {F C K : Type 0} (hook : Hook F C K) where
       record { tree = ident_e n.at n.text; read = bind-read c a n ys (ok y); same = ap erase (sym e) }
 
   ident-law : (d : Scope) (a : TokenAndSpan) {xs ys : List TokenAndSpan} {t : Tree F C K} (n : Spelling)
-      → reference d a.token a.span ≡ Some n
-      → is_spelled a.token ≡ true
+      → reference d a.token a.span ≡ Some n → is_spelled a.token ≡ true
       → Ran hook (Law hook) Primary (gives (ident_e n.at n.text)) xs ys t → PatLaw hook d (a ∷ xs) ys t
   ident-law d a n h z (ran-gave {ys = ys}) = λ m c e p h1 b.
       name-covers m c a n ys p
@@ -200,11 +199,9 @@ module _ {F C K : Type 0} (hook : Hook F C K) where
       })
 
   cover-law : (d : Scope) (a : TokenAndSpan) {xs ys : List TokenAndSpan} {t : Tree F C K} (n : Spelling)
-      → any_name d a.token a.span ≡ Some n
-      → Ran hook (Law hook) Prop (check (not (is_reserved_word d.context n.text)) (
+      → any_name d a.token a.span ≡ Some n → Ran hook (Law hook) Prop (check (not (is_reserved_word d.context n.text)) (
       take (λ b. check (is_equals b.token) (read Assign (with_in d) (λ e.
-      gives (cover_e (to n.at (span_of e)) (ident_e n.at n.text) e)))))) xs ys t
-      → PropLaw hook d (a ∷ xs) ys t
+      gives (cover_e (to n.at (span_of e)) (ident_e n.at n.text) e)))))) xs ys t → PropLaw hook d (a ∷ xs) ys t
   cover-law d a {ys = ys} n h (ran-held r (ran-took {xs = us} (ran-held q (ran-part {e = f} df kf ran-gave)))) =
       λ m c e is_end p h1 b.
       let p0 = name_p (to n.at (span_of f)) (ident_e n.at n.text) f in
@@ -387,8 +384,7 @@ module _ {F C K : Type 0} (hook : Hook F C K) where
       object-law d a _ ys es h k
   step-primary {d = d} sp async-ident (ran-took {a = a} w) =
       let (n, h, g) = given-ran hook (Law hook) (async_name d a.token a.span) _ w in async-law d a n h sp.0 g
-  step-primary {d = d} sp async-call w =
-      closed d w (λ a. quiet (async_name d a.token a.span) _ (λ n h b es. refl))
+  step-primary {d = d} sp async-call w = closed d w (λ a. quiet (async_name d a.token a.span) _ (λ n h b es. refl))
   step-primary sp primary-literal (ran-part {e = t} e k ran-gave) =
       λ m c q p h b. absurd (unbound m (bound hook c) t p k h b)
   step-primary sp primary-template (ran-part {e = t} e k ran-gave) =

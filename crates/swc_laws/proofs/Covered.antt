@@ -194,8 +194,7 @@ module _ {F C K : Type 0} (hook : Hook F C K) where
 
   -- a pattern after dots
   pub rest-of : {c : Scope} {a : TokenAndSpan} {xs ys : List TokenAndSpan} {p : Tree F C K} (s : Span)
-      → is_dots a.token ≡ true → Covers Pat c xs ys p
-      → Covers Rest c (a ∷ xs) ys (rest_p s (node dots a.span nil) p)
+      → is_dots a.token ≡ true → Covers Pat c xs ys p → Covers Rest c (a ∷ xs) ys (rest_p s (node dots a.span nil) p)
   rest-of s h v = record {
     tree = _;
     read = by pat-rest (took (held h (part v.read gave)));
@@ -234,8 +233,7 @@ module _ {F C K : Type 0} (hook : Hook F C K) where
       → ((c : Scope) (p : Tree F C K) (ps : Trees F C K) → Covers PatProp c xs ms p → CoversAll s' c ms ys ps
       → CoversAll s c xs ys (cons p ps))
       → ((c : Scope) (p : Tree F C K) → holds_ident p ≡ true → Covers Rest c xs ms p → Closes closer ms ys
-      → CoversAll s c xs ys (cons p nil))
-      → PropLaw d xs ms t → PropsLaw s' d ms ys es → Ends closer ms ys es
+      → CoversAll s c xs ys (cons p nil)) → PropLaw d xs ms t → PropsLaw s' d ms ys es → Ends closer ms ys es
       → (m : Role) (c : Scope) → d ≡ with_in c → (ps : Trees F C K)
       → as_props m (comma_of es) (cons t (items_of es)) ≡ Some ps → props_bind_names (bound c) ps ≡ true
       → CoversAll s c xs ys ps

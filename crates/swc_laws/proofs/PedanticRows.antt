@@ -26,8 +26,7 @@ in_b n = word_at (word.Keyword keyword.In) n n ∷ b n n ∷ []
 
 -- {a = 1}
 abbrev cover : ℕ → List TokenAndSpan → List TokenAndSpan
-cover n ts =
-    brace_at n n ∷ a n n ∷ equals_at n n ∷ num_at (codes "1") n n ∷ unbrace_at n n ∷ ts
+cover n ts = brace_at n n ∷ a n n ∷ equals_at n n ∷ num_at (codes "1") n n ∷ unbrace_at n n ∷ ts
 
 module _ {F C K : Type 0} (hook : Hook F C K) where
   -- `#a in b`

@@ -68,8 +68,7 @@ module _ {F C K : Type 0} where
 
   mutual
     pub covers-unmarked : (t : Tree F C K) → no_cover_left (unmarked t) ≡ no_cover_left t
-    covers-unmarked (node k s ts) =
-        rw (same-cover k) (ap (λ v. not (is_cover_kind k) && v) (all-covers-unmarked ts))
+    covers-unmarked (node k s ts) = rw (same-cover k) (ap (λ v. not (is_cover_kind k) && v) (all-covers-unmarked ts))
 
     pub all-covers-unmarked : (ts : Trees F C K) → none_left (all_unmarked ts) ≡ none_left ts
     all-covers-unmarked nil = refl

@@ -211,8 +211,7 @@ module _ {F C K : Type 0} where
       → Keeps (Placed F C K s) r
   keeps (ident-expr {c = c}) y = λ a. keeps-given _ (reference c a.token a.span) _ (λ n h. (refl, tt))
   keeps (async-ident {c = c}) y = λ a. keeps-given _ (async_name c a.token a.span) _ (λ n h. (refl, tt))
-  keeps (async-call {c = c}) y = λ a. keeps-given _ (async_name c a.token a.span) _
-      (λ n h d b l p es g k. (g.1, tt))
+  keeps (async-call {c = c}) y = λ a. keeps-given _ (async_name c a.token a.span) _ (λ n h d b l p es g k. (g.1, tt))
   keeps this-expr y = λ a h. (refl, tt)
   keeps lit y = λ a. keeps-given _ (lit_of a.token a.span) _ (λ e h. (lit-fit a.token a.span e h, tt))
   keeps primary-literal y = λ e g. g
@@ -242,8 +241,7 @@ module _ {F C K : Type 0} where
   keeps props-tail-more y = λ a h ps g. (g.1, g.1)
   keeps prop-spread y = λ a h e g. (rw g.0 refl, tt)
   keeps (prop-short {c = c}) y = λ a. keeps-given _ (any_name c a.token a.span) _ (λ n h r. (refl, tt))
-  keeps (prop-cover {c = c}) y = λ a. keeps-given _ (any_name c a.token a.span) _
-      (λ n h r b k e g. (rw g.0 refl, tt))
+  keeps (prop-cover {c = c}) y = λ a. keeps-given _ (any_name c a.token a.span) _ (λ n h r b k e g. (rw g.0 refl, tt))
   keeps prop-key y = λ k g x d. (prop-fit k x g.0 d.0, tt)
   keeps prop-generator y = λ a h k g f d. (method-fit (to a.span (span_of f)) k f g.0 d.0, tt)
   keeps prop-async y = λ a h k g f d. (method-fit (to a.span (span_of f)) k f g.0 d.0, tt)
@@ -254,8 +252,7 @@ module _ {F C K : Type 0} where
   keeps after-shell y = λ f g. (g.0, tt)
   keeps shell-block y = λ a h ps g v s. let w = params-fit (items_of ps) g.1 in (w, w)
   keeps (key-name {c = c}) y = λ a. keeps-given _ (any_name c a.token a.span) _ (λ n h. (refl, tt))
-  keeps key-literal y = λ a. keeps-given _ (key_lit_of a.token a.span) _
-      (λ e h. (key-lit-fit a.token a.span e h, tt))
+  keeps key-literal y = λ a. keeps-given _ (key_lit_of a.token a.span) _ (λ e h. (key-lit-fit a.token a.span e h, tt))
   keeps key-computed y = λ a h e g b k. (rw g.0 refl, tt)
   keeps fn-expr y = λ v s. (refl, tt)
   keeps class-expr y = λ v s. (refl, tt)
@@ -309,8 +306,7 @@ module _ {F C K : Type 0} where
       (λ n k x d j r g. (rw g.0 refl, tt))
   keeps assign-level y = λ e g. g
   keeps cond-expr y = λ t g b h e d i j a k. (rw (g.0, d.0, k.0) refl, tt)
-  keeps assign-expr y = λ l g a. keeps-given _ (assign_here a.token a.span) _
-      (λ op h n r d. (rw (g.0, d.0) refl, tt))
+  keeps assign-expr y = λ l g a. keeps-given _ (assign_here a.token a.span) _ (λ op h n r d. (rw (g.0, d.0) refl, tt))
   keeps yield-alone y = λ a h k. (refl, tt)
   keeps yield-expr y = λ a h k e g. (rw g.0 refl, tt)
   keeps yield-star y = λ a h k b i j e g. (rw g.0 refl, tt)
@@ -347,8 +343,7 @@ module _ {F C K : Type 0} where
   keeps params-tail-more y = λ a h es g. g
   keeps heads y = λ a h es g. keeps-given _ (as_params es) _
       (λ ps k w. twice (elements-fit binding_role (comma_of es) (items_of es) ps k g.1))
-  keeps (arrow-name {c = c}) y = λ a. keeps-given _ (arrow_name c a.token a.span) _
-      (λ n h b x z e g. (rw g.0 refl, tt))
+  keeps (arrow-name {c = c}) y = λ a. keeps-given _ (arrow_name c a.token a.span) _ (λ n h b x z e g. (rw g.0 refl, tt))
   keeps arrow-heads y = λ hs g a x z e d. (rw (d.0, g.1) refl, tt)
   keeps (arrow-async-name {c = c}) y = λ a. keeps-given _ (async_name c a.token a.span) _
       (λ m j b l. keeps-given _ (async_param c b.token b.span) _ (λ n h x z e d. (rw d.0 refl, tt)))
@@ -370,8 +365,7 @@ module _ {F C K : Type 0} where
     placed-side c (held b d) y m k = placed-side c d y m (k b)
     placed-side c (calm b d) y m k = placed-side c d y m k
     placed-side c (calm-two b d) y m k = placed-side c d y m k
-    placed-side c (part {e = t} e d) y m k =
-        placed-side c d y (m.1 t) (k t (placed e (ap (λ v. v.pedantic) m.0 ∙ y)))
+    placed-side c (part {e = t} e d) y m k = placed-side c d y (m.1 t) (k t (placed e (ap (λ v. v.pedantic) m.0 ∙ y)))
     placed-side c (heard {v = v} h d) y m k = placed-side c d y (m v _) (k v _)
 
   pub privates : {hook : Hook F C K} {s : Symbol} {c : Scope} {xs ys : List TokenAndSpan} {t : Answer F C K s}

@@ -94,7 +94,8 @@ no-async : (c : Scope) (t : Token) (m : Bool) → is_regex t ≡ true
     → (not m && (is_function t || (c.head && (is_lparen t || (is_bindable c t && not (before_of c t)))))) ≡ false
 no-async c (token.Regex exp flags) m h = never (not m) c.head
   where
-    never : (x y : Bool) → (x && (false || (y && (false || (false && not (before_of c (token.Regex exp flags))))))) ≡ false
+    never : (x y : Bool)
+        → (x && (false || (y && (false || (false && not (before_of c (token.Regex exp flags))))))) ≡ false
     never true true = refl
     never true false = refl
     never false y = refl
@@ -149,11 +150,13 @@ dull-of c (t ∷ u ∷ us) h = elim (is_pair t u)
     as (λ b. is_pair t u ≡ b → sees_two (of_arrow c) (without_slashes (t ∷ u ∷ us)) ≡ false) [
       | true ↦ (λ e.
           let r = (pair t u e).regex in
-          ap (sees_two (of_arrow c)) (left-out t (u ∷ us) e ∙ regex-stays u us r) ∙ first-regex c u (without_slashes us) r)
+          ap (sees_two (of_arrow c)) (left-out t (u ∷ us) e ∙ regex-stays u us r) ∙ first-regex c u
+          (without_slashes us) r)
       | false ↦ (λ e. ap (sees_two (of_arrow c)) (stays t (u ∷ us) e) ∙ second us h)
     ] refl
   where
-    second : (us : List TokenAndSpan) → of_arrow c t u ≡ false → sees_two (of_arrow c) (t ∷ without_slashes (u ∷ us)) ≡ false
+    second : (us : List TokenAndSpan) → of_arrow c t u ≡ false
+        → sees_two (of_arrow c) (t ∷ without_slashes (u ∷ us)) ≡ false
     second [] k = k
     second (v ∷ vs) k = elim (is_pair u v)
         as (λ b. is_pair u v ≡ b → sees_two (of_arrow c) (t ∷ without_slashes (u ∷ v ∷ vs)) ≡ false) [
@@ -223,8 +226,7 @@ calm-again p [] q h = refl
 calm-again p (t ∷ []) q h = h
 calm-again p (t ∷ u ∷ us) q h = elim (is_pair t u)
     as (λ b. is_pair t u ≡ b → sees p (without_slashes (t ∷ u ∷ us)) ≡ false) [
-      | true ↦ (λ e.
-          ap (sees p) (left-out t (u ∷ us) e ∙ regex-stays u us (pair t u e).regex) ∙ q t u e h)
+      | true ↦ (λ e. ap (sees p) (left-out t (u ∷ us) e ∙ regex-stays u us (pair t u e).regex) ∙ q t u e h)
       | false ↦ (λ e. ap (sees p) (stays t (u ∷ us) e) ∙ h)
     ] refl
 
@@ -255,7 +257,8 @@ module _ {F C K : Type 0} {fun_at : F → Span} {class_at : C → Span} {block_a
       )
 
   -- a regular expression after its slash, or alone
-  found-again : (c : Scope) (a b : TokenAndSpan) (us : List TokenAndSpan) (x : Tree F C K) → is_slash_here a.token ≡ true
+  found-again : (c : Scope) (a b : TokenAndSpan) (us : List TokenAndSpan) (x : Tree F C K)
+      → is_slash_here a.token ≡ true
       → regex_of b.token b.span ≡ Some x
       → Reads hook Primary c (without_slashes (a ∷ b ∷ us)) (without_slashes us) (at_place (to a.span (span_of x)) x)
   found-again c a b us x h e = elim (is_pair a b)
@@ -288,8 +291,7 @@ module _ {F C K : Type 0} {fun_at : F → Span} {class_at : C → Span} {block_a
     pub again : {s : Symbol} {c : Scope} {xs ys : List TokenAndSpan} {t : Answer F C K s} (d : Reads hook s c xs ys t)
         → Joined d → Reads hook s c (without_slashes xs) (without_slashes ys) t
     again {s = s} {c = c} {xs = xs} {ys = ys} {t = t} (by p d) j = elim (is_joining p)
-        as (λ b. is_joining p ≡ b → JoinedSide b d
-        → Reads hook s c (without_slashes xs) (without_slashes ys) t) [
+        as (λ b. is_joining p ≡ b → JoinedSide b d → Reads hook s c (without_slashes xs) (without_slashes ys) t) [
           | true ↦ (λ e i. joining p e d)
           | false ↦ (λ e i. by p (again-side d i (quiet p)))
         ] refl j

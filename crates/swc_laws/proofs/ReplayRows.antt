@@ -29,10 +29,12 @@ a = name_at (codes "a") 0 1
 
 -- /a/.test(b), with the slash first
 abbrev test : List TokenAndSpan → List TokenAndSpan
-test ts = regex 0 3 ∷ dot_at 3 4 ∷ name_at (codes "test") 4 8 ∷ open_at 8 9 ∷ name_at (codes "b") 9 10 ∷ close_at 10 11 ∷ ts
+test ts = regex 0 3 ∷ dot_at 3 4 ∷ name_at (codes "test") 4 8 ∷ open_at 8 9 ∷ name_at
+    (codes "b") 9 10 ∷ close_at 10 11 ∷ ts
 
 abbrev test_tree : {F C K : Type 0} → Tree F C K
-test_tree = call_e (place 0 11) (member 0 8 (expression 0 3) (key (codes "test") 4 8)) (cons (item_e (ident (codes "b") 9 10)) nil)
+test_tree = call_e (place 0 11) (member 0 8 (expression 0 3) (key (codes "test") 4 8))
+    (cons (item_e (ident (codes "b") 9 10)) nil)
 
 test-in_order : in_order (slash 0 1 ∷ test []) ≡ true
 test-in_order = refl
@@ -49,8 +51,7 @@ text-kept : kept_of (backquote_at 0 1 ∷ text_at [] 1 1 ∷ tok token.DollarLBr
 text-kept = refl
 
 abbrev template : List TokenAndSpan → List TokenAndSpan
-template ts =
-    backquote_at 0 1 ∷ text_at [] 1 1 ∷ tok token.DollarLBrace 1 3 ∷ ts
+template ts = backquote_at 0 1 ∷ text_at [] 1 1 ∷ tok token.DollarLBrace 1 3 ∷ ts
 
 abbrev behind_regex : List TokenAndSpan
 behind_regex = regex 3 6 ∷ unbrace_at 6 7 ∷ text_at [] 7 7 ∷ backquote_at 7 8 ∷ []

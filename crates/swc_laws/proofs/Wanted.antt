@@ -59,7 +59,8 @@ yield-ends : (o : Bool) (t : Token) → is_yield t ≡ true → may_end o t ≡ 
 yield-ends o (token.Word (word.Keyword keyword.Yield)) h = or-true o
 yield-ends o t h = cc
 
-reference-ends : (o : Bool) (c : Scope) (t : Token) (s : Span) (n : Spelling) → reference c t s ≡ Some n → may_end o t ≡ true
+reference-ends : (o : Bool) (c : Scope) (t : Token) (s : Span) (n : Spelling) → reference c t s ≡ Some n
+    → may_end o t ≡ true
 reference-ends o c (token.Word (word.Keyword keyword.Delete)) s n h = cc
 reference-ends o c (token.Word (word.Keyword keyword.In)) s n h = cc
 reference-ends o c (token.Word (word.Keyword keyword.InstanceOf)) s n h = cc
@@ -69,7 +70,8 @@ reference-ends o c (token.Word (word.Keyword keyword.Void)) s n h = cc
 reference-ends o c (token.Word w) s n h = or-true o
 reference-ends o c t s n h = cc
 
-binding-ends : (o : Bool) (c : Scope) (t : Token) (s : Span) (n : Spelling) → binding c t s ≡ Some n → may_end o t ≡ true
+binding-ends : (o : Bool) (c : Scope) (t : Token) (s : Span) (n : Spelling) → binding c t s ≡ Some n
+    → may_end o t ≡ true
 binding-ends o c (token.Word (word.Keyword keyword.Delete)) s n h = cc
 binding-ends o c (token.Word (word.Keyword keyword.In)) s n h = cc
 binding-ends o c (token.Word (word.Keyword keyword.InstanceOf)) s n h = cc
@@ -79,12 +81,14 @@ binding-ends o c (token.Word (word.Keyword keyword.Void)) s n h = cc
 binding-ends o c (token.Word w) s n h = or-true o
 binding-ends o c t s n h = cc
 
-name-ends : (o : Bool) (c : Scope) (t : Token) (s : Span) (n : Spelling) → o ≡ true → any_name c t s ≡ Some n → may_end o t ≡ true
+name-ends : (o : Bool) (c : Scope) (t : Token) (s : Span) (n : Spelling) → o ≡ true → any_name c t s ≡ Some n
+    → may_end o t ≡ true
 name-ends true c (token.Word w) s n e h = refl
 name-ends false c (token.Word w) s n e h = cc
 name-ends o c t s n e h = cc
 
-async-ends : (o : Bool) (c : Scope) (t : Token) (s : Span) (n : Spelling) → async_name c t s ≡ Some n → may_end o t ≡ true
+async-ends : (o : Bool) (c : Scope) (t : Token) (s : Span) (n : Spelling) → async_name c t s ≡ Some n
+    → may_end o t ≡ true
 async-ends o c (token.Word (word.Keyword keyword.Delete)) s n h = cc
 async-ends o c (token.Word (word.Keyword keyword.In)) s n h = cc
 async-ends o c (token.Word (word.Keyword keyword.InstanceOf)) s n h = cc
@@ -99,7 +103,8 @@ update-ends o token.PlusPlus s n h = refl
 update-ends o token.MinusMinus s n h = refl
 update-ends o t s n h = cc
 
-lit-ends : {F C K : Type 0} (o : Bool) (t : Token) (s : Span) (e : Tree F C K) → lit_of t s ≡ Some e → may_end o t ≡ true
+lit-ends : {F C K : Type 0} (o : Bool) (t : Token) (s : Span) (e : Tree F C K) → lit_of t s ≡ Some e
+    → may_end o t ≡ true
 lit-ends o (token.Word word.Null) s e h = or-true o
 lit-ends o (token.Word word.True) s e h = or-true o
 lit-ends o (token.Word word.False) s e h = or-true o
@@ -108,13 +113,15 @@ lit-ends o (token.BigInt raw) s e h = refl
 lit-ends o (token.Str value raw) s e h = refl
 lit-ends o t s e h = cc
 
-key_lit-ends : {F C K : Type 0} (o : Bool) (t : Token) (s : Span) (e : Tree F C K) → key_lit_of t s ≡ Some e → may_end o t ≡ true
+key_lit-ends : {F C K : Type 0} (o : Bool) (t : Token) (s : Span) (e : Tree F C K) → key_lit_of t s ≡ Some e
+    → may_end o t ≡ true
 key_lit-ends o (token.Num raw) s e h = refl
 key_lit-ends o (token.BigInt raw) s e h = refl
 key_lit-ends o (token.Str value raw) s e h = refl
 key_lit-ends o t s e h = cc
 
-regex-ends : {F C K : Type 0} (o : Bool) (t : Token) (s : Span) (e : Tree F C K) → regex_of t s ≡ Some e → may_end o t ≡ true
+regex-ends : {F C K : Type 0} (o : Bool) (t : Token) (s : Span) (e : Tree F C K) → regex_of t s ≡ Some e
+    → may_end o t ≡ true
 regex-ends o (token.Regex exp flags) s e h = refl
 regex-ends o t s e h = cc
 
@@ -156,7 +163,8 @@ module _ {F C K : Type 0} where
   NoSlash b never = Unit {0}
   NoSlash true (take f) = (a : TokenAndSpan) → NoSlash false (f a)
   NoSlash false (take f) =
-      ((b : Bool) (s : Span) → Dead (f (tk (token.BinOp sign.Div) b s)) × Dead (f (tk (token.AssignOp assign.DivAssign) b s)))
+      ((b : Bool) (s : Span) → Dead (f (tk (token.BinOp sign.Div) b s)) × Dead
+      (f (tk (token.AssignOp assign.DivAssign) b s)))
       × ((a : TokenAndSpan) → NoSlash false (f a))
   NoSlash b (check x r) = NoSlash b r
   NoSlash b (peek p r) = NoSlash b r
@@ -190,7 +198,8 @@ module _ {F C K : Type 0} where
   no_slash regex-slash h = absurd cc
   no_slash p h = search (no_slash-given, off) depth 8
 
-  ends : {s : Symbol} {c : Scope} {r : Side F C K s} (b o : Bool) (p : Production s c r) → is_ended s ≡ true → Ends b o r
+  ends : {s : Symbol} {c : Scope} {r : Side F C K s} (b o : Bool) (p : Production s c r) → is_ended s ≡ true
+      → Ends b o r
   ends b o regex-slash i = λ a h u. ends-given _ _ (regex_of u.token u.span) _ (λ e k. regex-ends _ u.token u.span e k)
   ends b o p i = search (
     ends-given,
@@ -287,8 +296,7 @@ module _ {F C K : Type 0} (hook : Hook F C K) (closes : EndsBodies hook) where
       (a : TokenAndSpan) (us : List TokenAndSpan) → Follows hook s (f a) us ys t → (n ≡ true → b ≡ true)
       → not (b && is_found_at a us) ≡ true → (j ≡ false → NoSlash n (take f)) → (is_found_at a us && not j) ≡ false
   apart s true n b f a us d k w q = and-off (is_found_at a us)
-  apart s false true b f a us d k w q =
-      ap (λ v. v && true) (not-both b (is_found_at a us) w (k refl))
+  apart s false true b f a us d k w q = ap (λ v. v && true) (not-both b (is_found_at a us) w (k refl))
   apart s false false b f a us d k w q = elim (is_found_at a us)
       as (λ v. is_found_at a us ≡ v → (v && true) ≡ false) [
         | true ↦ (λ e.
@@ -314,13 +322,14 @@ module _ {F C K : Type 0} (hook : Hook F C K) (closes : EndsBodies hook) where
     all-joined {s = s} b o (by p d) w =
         side-joined (is_joining p) (is_ended s) false b o d (λ h. absurd cc) w (λ h. no_slash p h) (λ h. ends b o p h)
 
-    side-joined : {s : Symbol} {r : Side F C K s} {xs ys : List TokenAndSpan} {t : Answer F C K s} (j asked n b o : Bool)
+    side-joined : {s : Symbol} {r : Side F C K s} {xs ys : List TokenAndSpan} {t : Answer F C K s}
+        (j asked n b o : Bool)
         (d : Follows hook s r xs ys t) → (n ≡ true → b ≡ true) → wanted_behind b o xs ≡ true
         → (j ≡ false → NoSlash n r) → (asked ≡ true → Ends b o r) → JoinedSide j d × Goes asked ys
-    side-joined {ys = ys} j asked n b o gave k w q e =
-        (tt, record { behind = b; named = o; is_behind = e; wanted = w })
+    side-joined {ys = ys} j asked n b o gave k w q e = (tt, record { behind = b; named = o; is_behind = e; wanted = w })
     side-joined {s = s} j asked n b o (took {f = f} {a = a} {xs = us} d) k w q e =
-        let (x, y) = both (not (b && is_found_at a us)) (wanted_behind (may_end o a.token) (names_follow a.token) us) w in
+        let (x, y) = both (not (b && is_found_at a us))
+        (wanted_behind (may_end o a.token) (names_follow a.token) us) w in
         let (i, z) = side-joined j asked false (may_end o a.token) (names_follow a.token) d (λ h. absurd cc) y
         (λ h. later s n f a (q h)) (λ i. e i a) in
         ((apart s j n b f a us d k x q, i), z)

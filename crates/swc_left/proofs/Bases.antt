@@ -82,14 +82,12 @@ unfolding import_member
 member_begins b s x ts = refl
 
 module _ {F C K : Type 0} where
-  may_by : (b : Bool) (t : Tree F C K) (us : List TokenAndSpan)
-      → (if b then Some (t, us) else None)
+  may_by : (b : Bool) (t : Tree F C K) (us : List TokenAndSpan) → (if b then Some (t, us) else None)
       ≡ (here_by b us >>= (λ q. Some (t, q.1)))
   may_by true t us = refl
   may_by false t us = refl
 
-  pub name_splits : (s : Span) (x : Scope) (ts : List TokenAndSpan)
-      → super_name_tail {F = F} {C = C} {K = K} s x ts
+  pub name_splits : (s : Span) (x : Scope) (ts : List TokenAndSpan) → super_name_tail {F = F} {C = C} {K = K} s x ts
       ≡ (word may_name x ts >>= (λ p. allowed (super_named s p.0.at p.0.text) x p.1))
   unfolding super_name_tail
   name_splits s x ts = refl
@@ -121,8 +119,7 @@ module _ {F C K : Type 0} (hook : Hook F C K) where
   unfolding super_computed_tail
   computed_splits s q x ts = refl
 
-  pub args_splits : (s : Span) (x : Scope) (ts : List TokenAndSpan)
-      → super_args_tail hook s x ts
+  pub args_splits : (s : Span) (x : Scope) (ts : List TokenAndSpan) → super_args_tail hook s x ts
       ≡ (args_inside hook false x ts >>= (λ p. callee_node s (super_e s) p.0 x p.1))
   unfolding super_args_tail
   args_splits s x ts = refl
@@ -145,8 +142,7 @@ module _ {F C K : Type 0} (hook : Hook F C K) where
   -- ---- `super` (13.3.7)
 
   -- a name after the `.`
-  name_one : (n : Option Spelling) (s : Span) (x : Scope) (us : List TokenAndSpan)
-      → exec hook (run hook) None
+  name_one : (n : Option Spelling) (s : Span) (x : Scope) (us : List TokenAndSpan) → exec hook (run hook) None
       (plan {A = Tree F C K} (given n ▸ (λ n. must (super_ok x) >> gives (super_named s n.at n.text)))) us
       ≡ (one n us >>= (λ p. allowed (super_named s p.0.at p.0.text) x p.1))
   unfolding super_here
@@ -154,8 +150,7 @@ module _ {F C K : Type 0} (hook : Hook F C K) where
   name_one (Some n) s x us = may_by (super_ok x) (super_named s n.at n.text) us
 
   -- after the expression in brackets
-  closes : (s q : Span) (e : Tree F C K) (x : Scope) (us : List TokenAndSpan)
-      → exec hook (run hook) None
+  closes : (s q : Span) (e : Tree F C K) (x : Scope) (us : List TokenAndSpan) → exec hook (run hook) None
       (take (λ t. check (is_rbracket t.token) (check (super_ok x) (gives (super_in s q t.span e))))) us
       ≡ super_close s q e x us
   unfolding super_here
@@ -172,7 +167,8 @@ module _ {F C K : Type 0} (hook : Hook F C K) where
       → exec hook (run hook) (Some 9) (chosen (super_base {F = F} {C = C} {K = K} b {c = x} (Some (tk v m q))))
       (tk super_token n s ∷ (tk v m q ∷ us))
       ≡ super_tail hook b s x (tk v m q ∷ us)
-  unfolding super_tail super_head super_name_tail super_computed_tail super_args_tail args_inside whole_inside eaten word
+  unfolding super_tail super_head super_name_tail super_computed_tail super_args_tail args_inside whole_inside
+      eaten word
   super_second b x n s token.Dot m q [] = refl
   super_second b x n s token.Dot m q (u ∷ us) = name_one (any_name x u.token u.span) s x us
   super_second b x n s token.LBracket m q us =
@@ -195,8 +191,7 @@ module _ {F C K : Type 0} (hook : Hook F C K) where
   -- ---- `import` (13.3.10, 13.3.12)
 
   -- its arguments, from the parenthesis on
-  paren_reads : (s : Span) (i : Tree F C K) (x : Scope) (us : List TokenAndSpan)
-      → exec hook (run hook) None
+  paren_reads : (s : Span) (i : Tree F C K) (x : Scope) (us : List TokenAndSpan) → exec hook (run hook) None
       (take (λ t. check (is_lparen t.token)
       (read (at (Args true)) (with_in x)
       (λ es. check (import_args_ok x true es) (gives (call_e (to s (span_of es)) i (items_of es))))))) us
@@ -227,8 +222,7 @@ module _ {F C K : Type 0} (hook : Hook F C K) where
 
   -- the token after `import` and the `.`
   import_third : (b is_m is_s : Bool) (x : Scope) (n : Bool) (s : Span) (m : Bool) (q : Span) (u : TokenAndSpan)
-      (us : List TokenAndSpan)
-      → is_meta u.token ≡ is_m → is_source u.token ≡ is_s
+      (us : List TokenAndSpan) → is_meta u.token ≡ is_m → is_source u.token ≡ is_s
       → exec hook (run hook) (Some 9) (chosen (import_dotted {F = F} {C = C} {K = K} b {c = x} (Some u)))
       (tk import_token n s ∷ (tk token.Dot m q ∷ (u ∷ us)))
       ≡ (import_member b s x (u ∷ us) >>= (λ p. import_left hook s p.0 x p.1))
@@ -250,13 +244,11 @@ module _ {F C K : Type 0} (hook : Hook F C K) where
   unfolding import_member eaten
   import_dot_first true x n s m q [] = refl
   import_dot_first false x n s m q [] = refl
-  import_dot_first b x n s m q (u ∷ us) =
-      import_third b (is_meta u.token) (is_source u.token) x n s m q u us refl refl
+  import_dot_first b x n s m q (u ∷ us) = import_third b (is_meta u.token) (is_source u.token) x n s m q u us refl refl
 
   -- the token after `import`
   import_second : (b : Bool) (x : Scope) (n : Bool) (s : Span) (v : Token) (m : Bool) (q : Span)
-      (us : List TokenAndSpan)
-      → exec hook (run hook) (Some 9)
+      (us : List TokenAndSpan) → exec hook (run hook) (Some 9)
       (chosen (import_base {F = F} {C = C} {K = K} b {c = x} (Some (tk v m q)) (first us)))
       (tk import_token n s ∷ (tk v m q ∷ us))
       ≡ import_tail hook b s x (tk v m q ∷ us)
@@ -267,8 +259,7 @@ module _ {F C K : Type 0} (hook : Hook F C K) where
   import_second true x n s v m q us = refl
   import_second false x n s v m q us = refl
 
-  import_first : (b : Bool) (x : Scope) (n : Bool) (s : Span) (us : List TokenAndSpan)
-      → exec hook (run hook) (Some 9)
+  import_first : (b : Bool) (x : Scope) (n : Bool) (s : Span) (us : List TokenAndSpan) → exec hook (run hook) (Some 9)
       (chosen (import_base {F = F} {C = C} {K = K} b {c = x} (first us) (second us))) (tk import_token n s ∷ us)
       ≡ import_tail hook b s x us
   unfolding import_tail import_head import_callee expected eaten
@@ -278,8 +269,7 @@ module _ {F C K : Type 0} (hook : Hook F C K) where
 
   -- ---- what a left-hand side begins with
 
-  base_token : (b : Bool) (x : Scope) (v : Token) (n : Bool) (s : Span) (us : List TokenAndSpan)
-      → is_new v ≡ false
+  base_token : (b : Bool) (x : Scope) (v : Token) (n : Bool) (s : Span) (us : List TokenAndSpan) → is_new v ≡ false
       → run hook (at (Base b)) x (tk v n s ∷ us) ≡ plain_base hook b x (tk v n s ∷ us)
   unfolding plain_base eaten
   base_token b x (token.Word (word_of.Keyword keyword.New)) n s us h = absurd cc

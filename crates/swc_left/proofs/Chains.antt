@@ -33,8 +33,7 @@ module _ {S H F C K : Type 0} {fg : Ghosts F} {cg : Ghosts C} {kg : Ghosts K} {m
       × (to_come model p.input ≤ to_come model a.input) × Grows a.nodes p.nodes × From k p.nodes (expr_part e)
       → o ≡ Some h → On model sure (link_head b) (give o) p.input d → to_come model d ≤ to_come model p.input
       → Produces model sure itself tree_of (link_tail hook h (tree_of p.nodes e)) (first_at p.nodes e.0)
-      (record p { input = d }) (Ok n) q
-      → On model sure f (run hook (links b (tree_of q.nodes n))) a.input q.input
+      (record p { input = d }) (Ok n) q → On model sure f (run hook (links b (tree_of q.nodes n))) a.input q.input
       × (to_come model q.input ≤ to_come model a.input) × Grows a.nodes q.nodes × From k q.nodes (expr_part n)
   linked so is heads falls link = (
     s.on_then (begun hook b (tree_of p.nodes e) so.0 is heads)
@@ -53,8 +52,7 @@ module _ {S H F C K : Type 0} {fg : Ghosts F} {cg : Ghosts C} {kg : Ghosts K} {m
       × (to_come model p.input ≤ to_come model a.input) × Grows a.nodes p.nodes × From j p.nodes (expr_part e)
       → o ≡ Some h → On model sure (link_head b) (give o) p.input d
       → Produces model sure itself tree_of (link_tail hook h (tree_of p.nodes e)) (first_at p.nodes e.0)
-      (record p { input = d }) (Err r) q
-      → GoesOn model sure itself tree_of f k a (Err r) q
+      (record p { input = d }) (Err r) q → GoesOn model sure itself tree_of f k a (Err r) q
   not_linked so is heads link =
       m.no_more (s.unheard_after (begun hook b (tree_of p.nodes e) so.0 is heads)
       (s.unheard_call (λ x v. run hook (links b v.0) x v.1) (λ x ts. refl) link.reads)) (grows-then so.2 link.grows)

@@ -38,5 +38,4 @@ module _ {F C K X : Type 0} (at : X → Tree F C K) where
 
   pub counted_is : (c : Scope) (i : Bool) (comma : Option Span) (s : Span) (xs : List (ExprOrSpread X))
       → import_args_ok c i (listed comma s (item_trees at xs)) ≡ counted_ok c i xs
-  counted_is c i comma s xs =
-      ap (λ b. not (i && c.syntax.pedantic) || b) (few_is c.syntax.import_attributes xs)
+  counted_is c i comma s xs = ap (λ b. not (i && c.syntax.pedantic) || b) (few_is c.syntax.import_attributes xs)

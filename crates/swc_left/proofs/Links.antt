@@ -68,14 +68,12 @@ module _ {F C K : Type 0} where
   unfolding member_name
   member_word x ts h = rw h refl
 
-  pub dot_splits : (o : Bool) (l : Tree F C K) (x : Scope) (ts : List TokenAndSpan)
-      → dot_tail o l x ts
+  pub dot_splits : (o : Bool) (l : Tree F C K) (x : Scope) (ts : List TokenAndSpan) → dot_tail o l x ts
       ≡ (member_name x ts >>= (λ p. Some (link_e o l (member_e (from_to (span_of l).lo p.0.1) l p.0.0), p.1)))
   unfolding dot_tail
   dot_splits o l x ts = refl
 
-  pub target_splits : (s : Span) (x : Scope) (ts : List TokenAndSpan)
-      → target_tail {F = F} {C = C} {K = K} s x ts
+  pub target_splits : (s : Span) (x : Scope) (ts : List TokenAndSpan) → target_tail {F = F} {C = C} {K = K} s x ts
       ≡ (expected is_target x ts
       >>= (λ p. if new_target_ok x.context then Some (meta_e (to s p.0) kind.NewTarget, p.1) else None))
   unfolding target_tail
@@ -97,8 +95,7 @@ module _ {F C K : Type 0} (hook : Hook F C K) where
       → is_chain l ≡ true → construct_of hook b s l x ts ≡ None
   construct_refused b s l x ts h = rw h refl
 
-  pub new_args_splits : (s : Span) (l : Tree F C K) (x : Scope) (ts : List TokenAndSpan)
-      → new_args_tail hook s l x ts
+  pub new_args_splits : (s : Span) (l : Tree F C K) (x : Scope) (ts : List TokenAndSpan) → new_args_tail hook s l x ts
       ≡ (args_inside hook false x ts >>= (λ p. new_node s l p.0 x p.1))
   unfolding new_args_tail
   new_args_splits s l x ts = refl
@@ -109,8 +106,7 @@ module _ {F C K : Type 0} (hook : Hook F C K) where
   new_opens b t x ts = refl
 
   abbrev target_side : Span → Scope → Side F C K (Base true)
-  target_side s x =
-      token_of is_target ▸ (λ q. must (new_target_ok x.context) >> gives (meta_e (to s q) kind.NewTarget))
+  target_side s x = token_of is_target ▸ (λ q. must (new_target_ok x.context) >> gives (meta_e (to s q) kind.NewTarget))
 
   constructs_token : (b : Bool) (s : Span) (l : Tree F C K) (x : Scope) (v : Token) (n : Bool) (q : Span)
       (us : List TokenAndSpan)
@@ -121,7 +117,8 @@ module _ {F C K : Type 0} (hook : Hook F C K) where
       ∙ then_calls (run hook (at (Args false)) (with_in x) us) _
       (λ es vs. run hook (links b (new_e (to s (span_of es)) l (items_of es))) x vs)
       (λ es vs. last hook None (links b (new_e (to s (span_of es)) l (items_of es))) x vs refl)
-      ∙ binds (run hook (at (Args false)) (with_in x) us) (λ p. Some (new_e (to s (span_of p.0)) l (items_of p.0), p.1)) _
+      ∙ binds (run hook (at (Args false)) (with_in x) us)
+      (λ p. Some (new_e (to s (span_of p.0)) l (items_of p.0), p.1)) _
   constructs_token b s l x v n q us = knot hook (constructs b s l) x (tk v n q ∷ us)
 
   constructs_reads : (b : Bool) (s : Span) (l : Tree F C K) (x : Scope) (us : List TokenAndSpan)
@@ -188,8 +185,7 @@ module _ {F C K : Type 0} (hook : Hook F C K) where
 
   -- ---- left-hand sides
 
-  pub lhs_splits : (b : Bool) (x : Scope) (ts : List TokenAndSpan) → x.head ≡ false
-      → at_token is_new (first ts) ≡ false
+  pub lhs_splits : (b : Bool) (x : Scope) (ts : List TokenAndSpan) → x.head ≡ false → at_token is_new (first ts) ≡ false
       → run hook (at (Lhs b)) x ts ≡ (plain_base hook b x ts >>= (λ p. run hook (links b p.0) x p.1))
   lhs_splits b x ts none h =
       base_links b x ts none (ap (λ v. v && not (at_token is_dot (second ts))) h)
@@ -256,7 +252,8 @@ module _ {F C K : Type 0} (hook : Hook F C K) where
 
   abbrev call_side : Bool → Tree F C K → Scope → Side F C K (Left true)
   call_side o l x =
-      symbol (Args false) (with_in x) ▸ (λ es. gives (link_e o l (call_e (to (span_of l) (span_of es)) l (items_of es))))
+      symbol (Args false) (with_in x) ▸
+      (λ es. gives (link_e o l (call_e (to (span_of l) (span_of es)) l (items_of es))))
 
   abbrev tagged_side : Tree F C K → Span → Scope → Side F C K (Left true)
   tagged_side l s x =
@@ -278,8 +275,7 @@ module _ {F C K : Type 0} (hook : Hook F C K) where
   as_member o l p = Some (link_e o l (member_e (from_to (span_of l).lo p.0.1) l p.0.0), p.1)
 
   -- a name after the `.`
-  name_one : (o : Bool) (n : Option Spelling) (l : Tree F C K) (us : List TokenAndSpan)
-      → exec hook (run hook) None
+  name_one : (o : Bool) (n : Option Spelling) (l : Tree F C K) (us : List TokenAndSpan) → exec hook (run hook) None
       (plan (given n ▸ (λ n. gives (link_e o l (member_e (to (span_of l) n.at) l (name_e n.at n.text)))))) us
       ≡ ((one n us >>= as_name) >>= as_member o l)
   name_one o None l us = refl
@@ -292,14 +288,12 @@ module _ {F C K : Type 0} (hook : Hook F C K) where
   joined_name o true n q l us = refl
   joined_name o false n q l us = refl
 
-  not_joined : (o b : Bool) (l : Tree F C K)
-      → None ≡ (((if b then None else None) >>= as_private) >>= as_member o l)
+  not_joined : (o b : Bool) (l : Tree F C K) → None ≡ (((if b then None else None) >>= as_private) >>= as_member o l)
   not_joined o true l = refl
   not_joined o false l = refl
 
   private_token : (o : Bool) (l : Tree F C K) (q : Span) (x : Scope) (v : Token) (b : Bool) (s : Span)
-      (us : List TokenAndSpan)
-      → exec hook (run hook) None (plan (private_side o l q x)) (tk v b s ∷ us)
+      (us : List TokenAndSpan) → exec hook (run hook) None (plan (private_side o l q x)) (tk v b s ∷ us)
       ≡ (((if is_joined q s then (word may_name x (tk v b s ∷ us) >>= as_hash q) else None) >>= as_private)
       >>= as_member o l)
   unfolding word
@@ -328,8 +322,7 @@ module _ {F C K : Type 0} (hook : Hook F C K) where
   dot_follows b l x n s (u ∷ us) = dot_token b l x n s u.token u.had_line_break u.span us
 
   -- after the expression in brackets
-  closes : (o : Bool) (s : Span) (l e : Tree F C K) (x : Scope) (us : List TokenAndSpan)
-      → exec hook (run hook) None
+  closes : (o : Bool) (s : Span) (l e : Tree F C K) (x : Scope) (us : List TokenAndSpan) → exec hook (run hook) None
       (take (λ t. check (is_rbracket t.token)
       (gives (link_e o l (member_e (to (span_of l) t.span) l (computed_e (to s t.span) e)))))) us
       ≡ computed_close o s l e x us
@@ -359,8 +352,7 @@ module _ {F C K : Type 0} (hook : Hook F C K) where
 
   -- after `?` and `.`
   chain_token : (b : Bool) (l : Tree F C K) (x : Scope) (n : Bool) (s : Span) (m : Bool) (q : Span)
-      (v : Token) (k : Bool) (r : Span) (us : List TokenAndSpan)
-      → exec hook (run hook) (Some 1)
+      (v : Token) (k : Bool) (r : Span) (us : List TokenAndSpan) → exec hook (run hook) (Some 1)
       (linked (link b x (tk token.QuestionMark n s ∷ (tk token.Dot m q ∷ (tk v k r ∷ us)))) l)
       (tk token.QuestionMark n s ∷ (tk token.Dot m q ∷ (tk v k r ∷ us)))
       ≡ (chain_dot x (tk v k r ∷ us) >>= (λ p. links_by hook b (Some p.0) l x p.1))
@@ -387,8 +379,7 @@ module _ {F C K : Type 0} (hook : Hook F C K) where
 
   -- `?`, which begins a link before a `.` alone
   question_second : (b : Bool) (l : Tree F C K) (x : Scope) (n : Bool) (s : Span) (v : Token) (m : Bool) (q : Span)
-      (us : List TokenAndSpan)
-      → run hook (links b l) x (tk token.QuestionMark n s ∷ (tk v m q ∷ us))
+      (us : List TokenAndSpan) → run hook (links b l) x (tk token.QuestionMark n s ∷ (tk v m q ∷ us))
       ≡ (link_head b x (tk token.QuestionMark n s ∷ (tk v m q ∷ us)) >>= (λ p. links_by hook b p.0 l x p.1))
   unfolding link_head head_of
   question_second b l x n s token.Dot m q us =

@@ -17,8 +17,7 @@ plain_dot t = refl
 pub plain_chain : (t : TokenAndSpan) → chain_at (Some (plain t)) ≡ chain_at (Some t)
 plain_chain t = rw (plain_dot t.token) refl
 
-link_plain : (b : Bool) (o u : Option TokenAndSpan) → at_token is_question o ≡ false
-    → link_at b o u ≡ link_at b o None
+link_plain : (b : Bool) (o u : Option TokenAndSpan) → at_token is_question o ≡ false → link_at b o u ≡ link_at b o None
 link_plain b None u h = refl
 link_plain b (Some t) u h = rw h refl
 

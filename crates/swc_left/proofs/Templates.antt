@@ -38,7 +38,8 @@ refused_took {model = model} {b = b} laws some h apart = record {
   served = λ n. record { before = λ f. (ap (λ z. (model.state z.iter).failed) (sym h.now) ∙ f, held_some b some) };
 }
 
-cooked_plain : (is_tagged : Bool) (r : Result (List ℕ) Error) → cooked_of is_tagged (plain_cooked r) ≡ cooked_of is_tagged r
+cooked_plain : (is_tagged : Bool) (r : Result (List ℕ) Error)
+    → cooked_of is_tagged (plain_cooked r) ≡ cooked_of is_tagged r
 cooked_plain is_tagged (Ok v) = refl
 cooked_plain true (Err e) = refl
 cooked_plain false (Err e) = refl
@@ -87,7 +88,8 @@ pub element_opens : (is_tagged : Bool) (t : TokenAndSpan) (x : Scope) (ts : List
 unfolding tpl_element
 element_opens is_tagged t x ts = refl
 
-pub element_takes : {S : Type 0} {model : Model S} {b c : Buffer S} {k : Token} (is_tagged is_last : Bool) (raw : List ℕ)
+pub element_takes : {S : Type 0} {model : Model S} {b c : Buffer S} {k : Token} (is_tagged is_last : Bool)
+    (raw : List ℕ)
     (cooked : Result (List ℕ) Error) (text : Option (List ℕ)) (h : Bumped model b k c) → k ≡ token.Template raw cooked
     → cooked_of is_tagged cooked ≡ Some text → (ts : List TokenAndSpan) → at_token is_backquote (first ts) ≡ is_last
     → text_at is_tagged (Some (plain h.was)) ts ≡ Some (quasi_with h.was.span is_last text raw, ts)
@@ -114,8 +116,7 @@ module _ {F C K : Type 0} where
   -- ---- texts and expressions put before those of a template
 
   -- one more text, and one more expression
-  parts_twice : (texts exprs : Trees F C K) (t e ps : Tree F C K)
-      → parts_before texts exprs (put_part t e ps)
+  parts_twice : (texts exprs : Trees F C K) (t e ps : Tree F C K) → parts_before texts exprs (put_part t e ps)
       ≡ parts_before (trees_append texts (cons t nil)) (trees_append exprs (cons e nil)) ps
   parts_twice texts exprs t e ps =
       ap (λ v. parts_e (span_of ps) v (trees_append exprs (cons e (exprs_of ps))))
@@ -164,8 +165,7 @@ module _ {F C K : Type 0} (hook : Hook F C K) where
       ∙ bind_same (expected is_rbrace x us) _ _ (λ q. calls (run hook (at (Parts is_tagged)) x q.1) _)
       ∙ binds (expected is_rbrace x us) (λ q. Some (e, q.1)) _
     where
-      closes : (us : List TokenAndSpan)
-          → exec hook (run hook) None (plan (parts_side is_tagged t e x)) us
+      closes : (us : List TokenAndSpan) → exec hook (run hook) None (plan (parts_side is_tagged t e x)) us
           ≡ (expected is_rbrace x us >>= (λ q. and_then (run hook (at (Parts is_tagged)) x q.1)
           (λ ps ws. Some (put_part t e ps, ws))))
       closes [] = then_token is_rbrace x [] (λ q vs. and_then (run hook (at (Parts is_tagged)) x vs)
@@ -192,8 +192,7 @@ module _ {F C K : Type 0} (hook : Hook F C K) where
       ∙ bind_same (expected is_dollar_brace x us) _ _ (λ q. expr_rest is_tagged t x q.1)
       ∙ binds (expected is_dollar_brace x us) (λ p. Some (None, p.1)) _
     where
-      opens : (us : List TokenAndSpan)
-          → exec hook (run hook) None (plan (more_side is_tagged t x)) us
+      opens : (us : List TokenAndSpan) → exec hook (run hook) None (plan (more_side is_tagged t x)) us
           ≡ (expected is_dollar_brace x us >>= (λ q. and_then (run hook (at Expr) (with_in x) q.1)
           (λ e vs. exec hook (run hook) None (plan (parts_side is_tagged t e x)) vs)))
       opens [] = then_token is_dollar_brace x [] (λ q vs. and_then (run hook (at Expr) (with_in x) vs)
@@ -212,7 +211,8 @@ module _ {F C K : Type 0} (hook : Hook F C K) where
   -- the same from the token on
   end_text : (is_tagged is_last : Bool) (t : TokenAndSpan) (x : Scope) (u : TokenAndSpan) (us : List TokenAndSpan)
       → is_backquote u.token ≡ true
-      → exec hook (run hook) None (plan (given (text_of is_tagged is_last t.token t.span) ▸ end_side is_tagged)) (u ∷ us)
+      → exec hook (run hook) None (plan (given (text_of is_tagged is_last t.token t.span) ▸ end_side is_tagged))
+      (u ∷ us)
       ≡ (one (quasi_of is_tagged is_last t.token t.span) (u ∷ us) >>= parts_from is_tagged x)
   end_text is_tagged is_last t x u us h =
       ap (λ o. exec hook (run hook) None (plan (given o ▸ end_side is_tagged)) (u ∷ us))
@@ -220,8 +220,7 @@ module _ {F C K : Type 0} (hook : Hook F C K) where
       ∙ end_first is_tagged (quasi_of is_tagged is_last t.token t.span) x u us h
 
   more_text : (is_tagged is_last : Bool) (t : TokenAndSpan) (x : Scope) (us : List TokenAndSpan)
-      → at_token is_backquote (first us) ≡ false
-      → exec hook (run hook) None
+      → at_token is_backquote (first us) ≡ false → exec hook (run hook) None
       (plan (given (text_of is_tagged is_last t.token t.span) ▸ (λ e. more_side is_tagged e x))) us
       ≡ (one (quasi_of is_tagged is_last t.token t.span) us >>= parts_from is_tagged x)
   more_text is_tagged is_last t x us h =
@@ -240,8 +239,7 @@ module _ {F C K : Type 0} (hook : Hook F C K) where
   parts_step is_tagged x (t ∷ (u ∷ us)) =
       knot hook (at (Parts is_tagged)) x (t ∷ (u ∷ us)) ∙ by_test (is_backquote u.token) refl
     where
-      by_test : (b : Bool) → is_backquote u.token ≡ b
-          → exec hook (run hook) (Some 6)
+      by_test : (b : Bool) → is_backquote u.token ≡ b → exec hook (run hook) (Some 6)
           (chosen (if is_backquote u.token then pick (parts-end {c = x} {is_tagged = is_tagged}) else pick parts-more))
           (t ∷ (u ∷ us))
           ≡ (one (quasi_of is_tagged (is_backquote u.token) t.token t.span) (u ∷ us) >>= parts_from is_tagged x)
@@ -257,8 +255,7 @@ module _ {F C K : Type 0} (hook : Hook F C K) where
           ∙ ap (λ b. one (quasi_of is_tagged b t.token t.span) (u ∷ us) >>= parts_from is_tagged x) (sym e)
 
   left_behind : (is_tagged : Bool) (texts exprs : Trees F C K) (t : Tree F C K) (o : Option Span) (x : Scope)
-      (us : List TokenAndSpan)
-      → (parts_left is_tagged t o x us >>= (λ p. Some (parts_before texts exprs p.0, p.1)))
+      (us : List TokenAndSpan) → (parts_left is_tagged t o x us >>= (λ p. Some (parts_before texts exprs p.0, p.1)))
       ≡ parts_by hook is_tagged (trees_append texts (cons t nil)) exprs o x us
   unfolding parts_behind
   left_behind is_tagged texts exprs t (Some s) x us =
@@ -312,8 +309,7 @@ module _ {F C K : Type 0} (hook : Hook F C K) where
 
   -- ---- templates
 
-  opens : (is_tagged : Bool) (x : Scope) (ts : List TokenAndSpan)
-      → run hook (at (Template is_tagged)) x ts
+  opens : (is_tagged : Bool) (x : Scope) (ts : List TokenAndSpan) → run hook (at (Template is_tagged)) x ts
       ≡ (expected is_backquote x ts >>= (λ p. and_then (run hook (at (Parts is_tagged)) x p.1)
       (λ ps us. Some (tpl_e (to p.0 (span_of ps)) ps, us))))
   opens is_tagged x [] =

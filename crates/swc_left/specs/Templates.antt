@@ -74,8 +74,7 @@ module _ {F C K : Type 0} (hook : Hook F C K) where
 
   -- The same after one more text, and the backquote that closes the template or the `${` of an expression: nothing, or
   -- that expression and what follows it; and from the backquote or the `${` on.
-  abbrev pub parts_by : Bool → Trees F C K → Trees F C K → Option Span → Scope → List TokenAndSpan
-      → Out (Tree F C K)
+  abbrev pub parts_by : Bool → Trees F C K → Trees F C K → Option Span → Scope → List TokenAndSpan → Out (Tree F C K)
   parts_by is_tagged texts exprs (Some s) c ts = Some (parts_e s texts exprs, ts)
   parts_by is_tagged texts exprs None c ts =
       tpl_expr_tail c ts >>= (λ p. parts_behind is_tagged texts (trees_append exprs (cons p.0 nil)) c p.1)

@@ -31,7 +31,8 @@ count_more p m (suc k) =
     let h = count_more p m k in omega (arith, f, g, h)
 
 pub count_monotone : (p : ℕ → Bool) (m n : ℕ) → m ≤ n → count p m ≤ count p n
-count_monotone p m n h = let e : m + (n - m) ≡ n = omega (arith, h) in let f = ap (count p) e in let g = count_more p m (n - m) in omega (arith, f, g)
+count_monotone p m n h = let e : m + (n - m) ≡ n = omega (arith, h) in let f = ap (count p) e in
+    let g = count_more p m (n - m) in omega (arith, f, g)
 
 start_suc : (bs : List ℕ) (n : ℕ) → line_start bs (suc n) ≡ (if ends_line bs n then n + 1 else line_start bs n)
 unfolding line_start
@@ -55,12 +56,39 @@ point_more bs n p q is next =
     let d = count_suc (is_long bs) n in
     let s = start_suc bs n in
     let u : count (begins_char bs) (suc n) + count (is_long bs) (suc n)
-    ≡ count (begins_char bs) n + count (is_long bs) n + one_if (begins_char bs n) + one_if (is_long bs n) = omega (arith, c, d) in
+    ≡ count (begins_char bs) n + count (is_long bs) n + one_if (begins_char bs n) + one_if (is_long bs n) =
+    omega (arith, c, d) in
     next ∙ ap (λ x. step x bs n) is
-    ∙ ap (λ x. record { lines = x; start = (if ends_line bs n then n + 1 else line_start bs n); chars = count (begins_char bs) n + one_if (begins_char bs n); units = count (begins_char bs) n + count (is_long bs) n + one_if (begins_char bs n) + one_if (is_long bs n) }) (sym l)
-    ∙ ap (λ x. record { lines = count (ends_line bs) (suc n); start = x; chars = count (begins_char bs) n + one_if (begins_char bs n); units = count (begins_char bs) n + count (is_long bs) n + one_if (begins_char bs n) + one_if (is_long bs n) }) (sym s)
-    ∙ ap (λ x. record { lines = count (ends_line bs) (suc n); start = line_start bs (suc n); chars = x; units = count (begins_char bs) n + count (is_long bs) n + one_if (begins_char bs n) + one_if (is_long bs n) }) (sym c)
-    ∙ ap (λ x. record { lines = count (ends_line bs) (suc n); start = line_start bs (suc n); chars = count (begins_char bs) (suc n); units = x }) (sym u)
+    ∙ ap (λ x. record {
+      lines = x;
+      start = (if ends_line bs n then n + 1 else line_start bs n);
+      chars =
+          count (begins_char bs) n + one_if (begins_char bs n);
+      units =
+          count (begins_char bs) n + count (is_long bs) n + one_if (begins_char bs n) + one_if (is_long bs n);
+    }) (sym l)
+    ∙ ap (λ x. record {
+      lines = count (ends_line bs) (suc n);
+      start = x;
+      chars =
+          count (begins_char bs) n + one_if (begins_char bs n);
+      units =
+          count (begins_char bs) n + count (is_long bs) n + one_if (begins_char bs n) + one_if (is_long bs n);
+    }) (sym s)
+    ∙ ap (λ x. record {
+      lines = count (ends_line bs) (suc n);
+      start = line_start bs (suc n);
+      chars = x;
+      units =
+          count (begins_char bs) n + count (is_long bs) n + one_if (begins_char bs n) + one_if (is_long bs n);
+    }) (sym c)
+    ∙ ap (λ x. record {
+      lines = count (ends_line bs) (suc n);
+      start = line_start bs (suc n);
+      chars =
+          count (begins_char bs) (suc n);
+      units = x;
+    }) (sym u)
     ∙ ap (point_of bs) (sym one)
 
 pub lines_most : (bs : List ℕ) (n : ℕ) (p : Point) → p ≡ point_of bs n → p.lines ≤ n
@@ -71,7 +99,8 @@ chars_most bs n p is = let e = ap (λ x. x.chars) is in let c = count_most (begi
 
 pub units_most : (bs : List ℕ) (n : ℕ) (p : Point) → p ≡ point_of bs n → p.units ≤ 2 * n
 units_most bs n p is =
-    let e = ap (λ x. x.units) is in let c = count_most (begins_char bs) n in let d = count_most (is_long bs) n in omega (arith, e, c, d)
+    let e = ap (λ x. x.units) is in let c = count_most (begins_char bs) n in let d = count_most (is_long bs) n in
+    omega (arith, e, c, d)
 
 -- ---- marks
 
@@ -82,13 +111,21 @@ origin_is : (bs : List ℕ) (p : Point) → p ≡ record { lines = 0; start = 0;
 unfolding count line_start
 origin_is bs p h = h
 
-pub MarkedTo_begin : (bs : List ℕ) (ms : List Point) (p : Point) → ms ≡ [] → p ≡ record { lines = 0; start = 0; chars = 0; units = 0 } → MarkedTo bs ms 0 p
+pub MarkedTo_begin : (bs : List ℕ) (ms : List Point) (p : Point) → ms ≡ []
+    → p ≡ record { lines = 0; start = 0; chars = 0; units = 0 } → MarkedTo bs ms 0 p
 MarkedTo_begin bs ms p none is =
     let n = ap length none in
-    record { within = omega arith; is = origin_is bs p is; place = omega (arith, n); each = λ k h d. absurd (omega (arith, h, n)) }
+    record {
+      within = omega arith;
+      is = origin_is bs p is;
+      place = omega (arith, n);
+      each =
+          λ k h d. absurd (omega (arith, h, n));
+    }
 
 marked_more : (bs : List ℕ) (ms : List Point) (x : Point) (k : ℕ) (d : Point) → x ≡ point_of bs (256 * length ms) →
-    ((k : ℕ) → k < length ms → (d : Point) → slice_index_or ms k d ≡ point_of bs (256 * k)) → k < length (ms ++ x ∷ []) →
+    ((k : ℕ) → k < length ms → (d : Point) → slice_index_or ms k d ≡ point_of bs (256 * k))
+    → k < length (ms ++ x ∷ []) →
     slice_index_or (ms ++ x ∷ []) k d ≡ point_of bs (256 * k)
 marked_more bs ms x k d is each h = by_order (nat_lt k (length ms)) refl
   where
@@ -100,7 +137,8 @@ marked_more bs ms x k d is each h = by_order (nat_lt k (length ms)) refl
         let same : length ms ≡ k = omega (arith, le, h, n) in
         get_or_push ms x d k same ∙ is ∙ ap (λ j. point_of bs (256 * j)) same
 
-pub MarkedTo_more : (bs : List ℕ) (ms now : List Point) (at : ℕ) (p q : Point) → MarkedTo bs ms at p → now ≡ ms ++ p ∷ [] → 256 ≤ length bs - at →
+pub MarkedTo_more : (bs : List ℕ) (ms now : List Point) (at : ℕ) (p q : Point) → MarkedTo bs ms at p
+    → now ≡ ms ++ p ∷ [] → 256 ≤ length bs - at →
     q ≡ point_of bs (at + 256) → MarkedTo bs now (at + 256) q
 MarkedTo_more bs ms now at p q i added some is =
     let w = i.within in
@@ -116,7 +154,8 @@ MarkedTo_more bs ms now at p q i added some is =
           ∙ marked_more bs ms p k d here i.each (subst (λ m. k < length m) added h);
     }
 
-pub MarkedTo_over : (bs : List ℕ) (ms now : List Point) (at : ℕ) (p : Point) → MarkedTo bs ms at p → now ≡ ms ++ p ∷ [] → length bs - at < 256 → AreMarks bs now
+pub MarkedTo_over : (bs : List ℕ) (ms now : List Point) (at : ℕ) (p : Point) → MarkedTo bs ms at p → now ≡ ms ++ p ∷ []
+    → length bs - at < 256 → AreMarks bs now
 MarkedTo_over bs ms now at p i added few =
     let w = i.within in
     let pl = i.place in

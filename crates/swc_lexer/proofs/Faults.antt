@@ -8,12 +8,15 @@ use Rattle.swc_lexer.proofs.Lists.{drop_one, drop_none}
 pub FaultsTo_begin : (ts : List TokenAndSpan) → FaultsTo ts 0 []
 FaultsTo_begin ts = record { sum = refl }
 
-pub FaultsTo_more : (ts : List TokenAndSpan) (i : ℕ) (x : TokenAndSpan) (es now : List Error) → FaultsTo ts i es → i < length ts → x ≡ get_or ts i x →
+pub FaultsTo_more : (ts : List TokenAndSpan) (i : ℕ) (x : TokenAndSpan) (es now : List Error) → FaultsTo ts i es
+    → i < length ts → x ≡ get_or ts i x →
     now ≡ es ++ fault_list (legacy_of x) → FaultsTo ts (i + 1) now
 FaultsTo_more ts i x es now f lt is added = record {
-  sum = ap (λ l. l ++ legacy_faults (drop (i + 1) ts)) added ∙ append_assoc es (fault_list (legacy_of x)) (legacy_faults (drop (i + 1) ts))
+  sum = ap (λ l. l ++ legacy_faults (drop (i + 1) ts)) added ∙ append_assoc es (fault_list (legacy_of x))
+      (legacy_faults (drop (i + 1) ts))
       ∙ ap (λ l. es ++ legacy_faults l) (sym (drop_one ts i x lt is)) ∙ f.sum;
 }
 
-pub FaultsTo_over : (ts : List TokenAndSpan) (i : ℕ) (es : List Error) → FaultsTo ts i es → length ts ≤ i → es ≡ legacy_faults ts
+pub FaultsTo_over : (ts : List TokenAndSpan) (i : ℕ) (es : List Error) → FaultsTo ts i es → length ts ≤ i
+    → es ≡ legacy_faults ts
 FaultsTo_over ts i es f over = sym (append-nil es) ∙ ap (λ l. es ++ legacy_faults l) (sym (drop_none ts i over)) ∙ f.sum

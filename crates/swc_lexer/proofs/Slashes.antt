@@ -20,8 +20,11 @@ same : (bs text : List ℕ) (k : ℕ) (r : Bool) → bs ≡ text → r ≡ is_at
 same bs text k r is value hit = ap (λ b. is_at b k 47) (sym is) ∙ sym value ∙ hit
 
 pub at_slash : (bs text : List ℕ) (k : ℕ) (r : Bool) → bs ≡ text → r ≡ is_at bs k 47 → r ≡ true → IsCharBoundary text k
-at_slash bs text k r is value hit = let a = at_is text k 47 (same bs text k r is value hit) in (omega (arith, a.0), λ l h. omega (arith, a.1, h))
+at_slash bs text k r is value hit = let a = at_is text k 47 (same bs text k r is value hit) in
+    (omega (arith, a.0), λ l h. omega (arith, a.1, h))
 
-pub past_slash : (bs text : List ℕ) (n : ℕ) (r : Bool) → IsUtf8 text → bs ≡ text → r ≡ is_at bs (n + 1) 47 → r ≡ true → IsCharBoundary text (n + 2)
+pub past_slash : (bs text : List ℕ) (n : ℕ) (r : Bool) → IsUtf8 text → bs ≡ text → r ≡ is_at bs (n + 1) 47 → r ≡ true
+    → IsCharBoundary text (n + 2)
 past_slash bs text n r u is value hit =
-    let e : n + 1 + 1 ≡ n + 2 = omega arith in subst (IsCharBoundary text) e (after_slash text (n + 1) u (same bs text (n + 1) r is value hit))
+    let e : n + 1 + 1 ≡ n + 2 = omega arith in subst (IsCharBoundary text) e
+    (after_slash text (n + 1) u (same bs text (n + 1) r is value hit))

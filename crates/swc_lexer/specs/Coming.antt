@@ -26,28 +26,34 @@ more_same bs b f g h (Some x) =
       | false ↦ (λ e. refl)
     ] refl
 
-more_none : (bs : List ℕ) (b : ℕ) (f : Reading → List TokenAndSpan) → b ≡ 0 → (o : Option (TokenAndSpan × Reading)) → more bs b f o ≡ []
+more_none : (bs : List ℕ) (b : ℕ) (f : Reading → List TokenAndSpan) → b ≡ 0 → (o : Option (TokenAndSpan × Reading))
+    → more bs b f o ≡ []
 more_none bs b f h None = refl
 more_none bs b f h (Some x) = ap (λ t. if t then x.0 ∷ f x.1 else []) (lt_false (bound bs x.1) b (omega (arith, h)))
 
-more_some : (bs : List ℕ) (b : ℕ) (f : Reading → List TokenAndSpan) (x : TokenAndSpan) (t : Reading) → bound bs t < b → more bs b f (Some (x, t)) ≡ x ∷ f t
+more_some : (bs : List ℕ) (b : ℕ) (f : Reading → List TokenAndSpan) (x : TokenAndSpan) (t : Reading) → bound bs t < b
+    → more bs b f (Some (x, t)) ≡ x ∷ f t
 more_some bs b f x t h = ap (λ c. if c then x ∷ f t else []) (lt_true (bound bs t) b h)
 
 -- as many as are enough
-enough : (n m : ℕ) (e : End) (bs : List ℕ) (r : Reading) → bound bs r ≤ n → bound bs r ≤ m → tokens_in n e bs r ≡ tokens_in m e bs r
+enough : (n m : ℕ) (e : End) (bs : List ℕ) (r : Reading) → bound bs r ≤ n → bound bs r ≤ m
+    → tokens_in n e bs r ≡ tokens_in m e bs r
 unfolding tokens_in
 enough zero zero e bs r h k = refl
-enough zero (suc m) e bs r h k = sym (more_none bs (bound bs r) (λ x. tokens_in m e bs x) (omega (arith, h)) (next_of e bs r))
+enough zero (suc m) e bs r h k = sym (more_none bs (bound bs r) (λ x. tokens_in m e bs x) (omega (arith, h))
+    (next_of e bs r))
 enough (suc n) zero e bs r h k = more_none bs (bound bs r) (λ x. tokens_in n e bs x) (omega (arith, k)) (next_of e bs r)
 enough (suc n) (suc m) e bs r h k =
     more_same bs (bound bs r) (λ x. tokens_in n e bs x) (λ x. tokens_in m e bs x)
     (λ x l. enough n m e bs x (omega (arith, h, l)) (omega (arith, k, l))) (next_of e bs r)
 
-one_step : (n : ℕ) (e : End) (bs : List ℕ) (r t : Reading) (x : TokenAndSpan) → next_of e bs r ≡ Some (x, t) → bound bs t < bound bs r →
+one_step : (n : ℕ) (e : End) (bs : List ℕ) (r t : Reading) (x : TokenAndSpan) → next_of e bs r ≡ Some (x, t)
+    → bound bs t < bound bs r →
     tokens_in (suc n) e bs r ≡ x ∷ tokens_in n e bs t
 unfolding tokens_in
 one_step n e bs r t x h l =
-    ap (λ o. more bs (bound bs r) (λ y. tokens_in n e bs y) o) h ∙ more_some bs (bound bs r) (λ y. tokens_in n e bs y) x t l
+    ap (λ o. more bs (bound bs r) (λ y. tokens_in n e bs y) o) h ∙ more_some bs (bound bs r)
+    (λ y. tokens_in n e bs y) x t l
 
 no_step : (n : ℕ) (e : End) (bs : List ℕ) (r : Reading) → next_of e bs r ≡ None → tokens_in n e bs r ≡ []
 unfolding tokens_in
@@ -55,7 +61,8 @@ no_step zero e bs r h = refl
 no_step (suc n) e bs r h = ap (λ o. more bs (bound bs r) (λ y. tokens_in n e bs y) o) h
 
 -- a token, and then those after it
-pub from_next : (e : End) (bs : List ℕ) (r t : Reading) (x : TokenAndSpan) → next_of e bs r ≡ Some (x, t) → bound bs t < bound bs r →
+pub from_next : (e : End) (bs : List ℕ) (r t : Reading) (x : TokenAndSpan) → next_of e bs r ≡ Some (x, t)
+    → bound bs t < bound bs r →
     tokens_from e bs r ≡ x ∷ tokens_from e bs t
 from_next e bs r t x h l =
     let p : suc (bound bs r - 1) ≡ bound bs r = omega (arith, l) in

@@ -26,11 +26,13 @@ and_more (suc n) cs f = cs ++ f n
 unfoldable pub comments_from : ℕ → ℕ → List ℕ → List Comment
 comments_from at k [] = []
 comments_from at (suc k) (b ∷ bs) = comments_from (at + 1) k bs
-comments_from at zero (b ∷ bs) = and_more (blank_len (b ∷ bs)) (comment_here at (b ∷ bs)) (λ n. comments_from (at + 1) n bs)
+comments_from at zero (b ∷ bs) = and_more (blank_len (b ∷ bs)) (comment_here at (b ∷ bs))
+    (λ n. comments_from (at + 1) n bs)
 
 -- the comments among the blanks with which the text between two places begins
 abbrev pub comments_between : List ℕ → ℕ → ℕ → List Comment
-comments_between bs lo hi = if nat_le lo hi && nat_le hi (length bs) then comments_from lo 0 (slice_range bs lo hi) else []
+comments_between bs lo hi = if nat_le lo hi && nat_le hi (length bs) then comments_from lo 0
+    (slice_range bs lo hi) else []
 
 -- the comments before the tokens, and after the last
 abbrev pub comments_among : List ℕ → ℕ → List TokenAndSpan → List Comment

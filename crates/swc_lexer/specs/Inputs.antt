@@ -74,7 +74,8 @@ new_state e at s bs c x v = record {
 }
 
 -- of a text without numbers and escapes of old scripts it is listed
-pub new_known : (e : End) (at : ℕ) (s : Start) (bs : List ℕ) (c : Context) (x : Syntax) (v : EsVersion) → any_legacy (tokens_of e at s (kind_in c) bs) ≡ false →
+pub new_known : (e : End) (at : ℕ) (s : Start) (bs : List ℕ) (c : Context) (x : Syntax) (v : EsVersion)
+    → any_legacy (tokens_of e at s (kind_in c) bs) ≡ false →
     (new_state e at s bs c x v).known ≡ Some (map plain (tokens_of e at s (kind_in c) bs))
 new_known e at s bs c x v h = ap (λ b. known_if b (map plain (tokens_of e at s (kind_in c) bs))) h
 
@@ -97,11 +98,13 @@ pub record SameText (s t : TextInput) : Type 0 where
   pub text : bytes_of t ≡ bytes_of s
   pub end : t.end ≡ s.end
 
--- the token x was read, after others, with faults of strict code or not: it is given, and its fault is recorded; or this failed
+-- the token x was read, after others, with faults of strict code or not: it is given, and its fault is recorded; or
+-- this failed
 pub data Hands (legacy : Bool) (notes : Source) (x : TokenAndSpan) : Option TokenAndSpan → TextInput → Type 0 where
   handed : {t : TextInput} → t.failed ≡ false → t.held ≡ None → t.legacy ≡ (legacy || is_legacy_token x) →
       notes_of t ≡ noted (legacy_of x) notes → Hands legacy notes x (Some x) t
-  lost : {t : TextInput} → t.failed ≡ true → t.held ≡ Some x → t.legacy ≡ legacy → notes_of t ≡ notes → Hands legacy notes x None t
+  lost : {t : TextInput} → t.failed ≡ true → t.held ≡ Some x → t.legacy ≡ legacy → notes_of t ≡ notes
+      → Hands legacy notes x None t
 
 -- as it is, but for how far it read
 pub record Rests (s t : TextInput) : Type 0 where
@@ -113,7 +116,8 @@ pub record Rests (s t : TextInput) : Type 0 where
 pub data Takes (s : TextInput) : Option TokenAndSpan → TextInput → Type 0 where
   gives : {r : Option TokenAndSpan} {t : TextInput} (x : TokenAndSpan) → s.held ≡ None → s.failed ≡ false →
       Gives s.end (bytes_of s) (reading s) (Some x) (reading t) → Hands s.legacy (notes_of s) x r t → Takes s r t
-  stops : {t : TextInput} → s.failed ≡ false → s.held ≡ None → Gives s.end (bytes_of s) (reading s) None (reading t) → Rests s t → Takes s None t
+  stops : {t : TextInput} → s.failed ≡ false → s.held ≡ None → Gives s.end (bytes_of s) (reading s) None (reading t)
+      → Rests s t → Takes s None t
   rests : {t : TextInput} → t.failed ≡ true → reading t ≡ reading s → Rests s t → Takes s None t
 
 -- a call of `next` that answered r
@@ -129,34 +133,42 @@ or_some : (b : Bool) (o : Option Error) (e : Error) → o ≡ Some e → true �
 or_some true o e h = refl
 or_some false o e h = sym (ap is_some h)
 
-pub hands_none : (l : Bool) (n : Source) (t : TextInput) (x : TokenAndSpan) → legacy_of x ≡ None → t.failed ≡ false → t.held ≡ None → t.legacy ≡ l →
+pub hands_none : (l : Bool) (n : Source) (t : TextInput) (x : TokenAndSpan) → legacy_of x ≡ None → t.failed ≡ false
+    → t.held ≡ None → t.legacy ≡ l →
     notes_of t ≡ n → Hands l n x (Some x) t
-hands_none l n t x none f held legacy notes = handed f held (legacy ∙ or_none l (legacy_of x) none) (notes ∙ ap (λ o. noted o n) (sym none))
+hands_none l n t x none f held legacy notes = handed f held (legacy ∙ or_none l (legacy_of x) none)
+    (notes ∙ ap (λ o. noted o n) (sym none))
 
-pub hands_some : (l : Bool) (n : Source) (t : TextInput) (x : TokenAndSpan) (e : Error) → legacy_of x ≡ Some e → t.failed ≡ false → t.held ≡ None →
+pub hands_some : (l : Bool) (n : Source) (t : TextInput) (x : TokenAndSpan) (e : Error) → legacy_of x ≡ Some e
+    → t.failed ≡ false → t.held ≡ None →
     t.legacy ≡ true → notes_of t ≡ noted (Some e) n → Hands l n x (Some x) t
 hands_some l n t x e some f held legacy notes =
     handed f held (legacy ∙ or_some l (legacy_of x) e some) (notes ∙ ap (λ o. noted o n) (sym some))
 
-pub hands_lost : (l : Bool) (n : Source) (t : TextInput) (x : TokenAndSpan) → t.failed ≡ true → t.held ≡ Some x → t.legacy ≡ l → notes_of t ≡ n →
+pub hands_lost : (l : Bool) (n : Source) (t : TextInput) (x : TokenAndSpan) → t.failed ≡ true → t.held ≡ Some x
+    → t.legacy ≡ l → notes_of t ≡ n →
     Hands l n x None t
 hands_lost l n t x f held legacy notes = lost f held legacy notes
 
-pub next_handed : (s t : TextInput) (r : Option TokenAndSpan) (x : TokenAndSpan) (d : Reading) → s.failed ≡ false → s.held ≡ None →
-    Gives s.end (bytes_of s) (reading s) (Some x) d → bytes_of t ≡ bytes_of s → t.end ≡ s.end → reading t ≡ d → Hands s.legacy (notes_of s) x r t → NextText s r t
+pub next_handed : (s t : TextInput) (r : Option TokenAndSpan) (x : TokenAndSpan) (d : Reading) → s.failed ≡ false
+    → s.held ≡ None →
+    Gives s.end (bytes_of s) (reading s) (Some x) d → bytes_of t ≡ bytes_of s → t.end ≡ s.end → reading t ≡ d
+    → Hands s.legacy (notes_of s) x r t → NextText s r t
 next_handed s t r x d f held g text end is hands = record {
   text = record { text = text; end = end };
   token = gives x held f (subst (λ z. Gives s.end (bytes_of s) (reading s) (Some x) z) (sym is) g) hands;
 }
 
-pub next_stopped : (s t : TextInput) → s.failed ≡ false → s.held ≡ None → Gives s.end (bytes_of s) (reading s) None (reading t) → bytes_of t ≡ bytes_of s →
+pub next_stopped : (s t : TextInput) → s.failed ≡ false → s.held ≡ None
+    → Gives s.end (bytes_of s) (reading s) None (reading t) → bytes_of t ≡ bytes_of s →
     t.end ≡ s.end → t.held ≡ s.held → t.legacy ≡ s.legacy → notes_of t ≡ notes_of s → NextText s None t
 next_stopped s t f none g text end held legacy notes = record {
   text = record { text = text; end = end };
   token = stops f none g (record { held = held; legacy = legacy; notes = notes });
 }
 
-pub next_failed : (s t : TextInput) → t.failed ≡ true → reading t ≡ reading s → bytes_of t ≡ bytes_of s → t.end ≡ s.end → t.held ≡ s.held →
+pub next_failed : (s t : TextInput) → t.failed ≡ true → reading t ≡ reading s → bytes_of t ≡ bytes_of s → t.end ≡ s.end
+    → t.held ≡ s.held →
     t.legacy ≡ s.legacy → notes_of t ≡ notes_of s → NextText s None t
 next_failed s t f is text end held legacy notes = record {
   text = record { text = text; end = end };
@@ -191,7 +203,8 @@ only_held s h = ap (λ o. held_list o ++ tokens_from s.end (bytes_of s) (reading
 none_left : (s : TextInput) → is_over s.reader.ended s.held ≡ true → coming s ≡ []
 none_left s e =
     let o = not_over s.held s.reader.ended e in
-    ap (map plain) (only_held s o.1 ∙ from_end s.end (bytes_of s) (reading s) (next_ended s.end (bytes_of s) (reading s) o.0))
+    ap (map plain) (only_held s o.1 ∙ from_end s.end (bytes_of s) (reading s)
+    (next_ended s.end (bytes_of s) (reading s) o.0))
 
 first_nil : {A : Type 0} (xs ys : List A) → [] ≡ xs ++ ys → xs ≡ []
 first_nil [] ys h = refl
@@ -209,7 +222,8 @@ text_gave s t xs a = record {
   unknown = λ h. ap (λ b. known_if b (coming t)) (a.legacy ∙ known_none (has_legacy s) (coming s) h);
 }
 
-text_joins : (s t u : TextInput) (xs ys : List TokenAndSpan) → TextGives s xs t → TextGives t ys u → TextGives s (xs ++ ys) u
+text_joins : (s t u : TextInput) (xs ys : List TokenAndSpan) → TextGives s xs t → TextGives t ys u
+    → TextGives s (xs ++ ys) u
 text_joins s t u xs ys p q = record {
   list = p.list ∙ ap (λ l. xs ++ l) q.list ∙ sym (append_assoc xs ys (coming u));
   legacy = q.legacy ∙ p.legacy;
@@ -220,7 +234,14 @@ text_joins s t u xs ys p q = record {
 }
 
 pub untouched : (s : TextInput) → TextGives s [] s
-untouched s = record { list = refl; legacy = refl; stays = λ e. e; failed = λ e. (refl, e); syntax = refl; target = refl }
+untouched s = record {
+  list = refl;
+  legacy = refl;
+  stays = λ e. e;
+  failed = λ e. (refl, e);
+  syntax = refl;
+  target = refl;
+}
 
 pub text_laws : Laws text_model
 text_laws = record {
@@ -234,8 +255,16 @@ text_laws = record {
 }
 
 -- a call of what is kept beside the text
-pub notes_called : (s : TextInput) (l : TokensInput) → ListedGives s.notes [] l → TextGives s [] (record s { notes = l })
-notes_called s l g = record { list = refl; legacy = refl; stays = λ e. e; failed = λ e. (refl, e); syntax = g.syntax; target = g.target }
+pub notes_called : (s : TextInput) (l : TokensInput) → ListedGives s.notes [] l
+    → TextGives s [] (record s { notes = l })
+notes_called s l g = record {
+  list = refl;
+  legacy = refl;
+  stays = λ e. e;
+  failed = λ e. (refl, e);
+  syntax = g.syntax;
+  target = g.target;
+}
 
 pub text_unmoved : (s : TextInput) (contexts : TokenContexts) → Unmoved text_model s (with_contexts s contexts)
 text_unmoved s contexts = record {
@@ -249,12 +278,14 @@ abbrev IsNoted : Option Error → Type 0
 IsNoted None = Unit {0}
 IsNoted (Some e) = IsFault e
 
-number_noted : (a b : Bool) (s : Span) → IsNoted (if a then Some (fault s LegacyOctal) else if b then Some (fault s LegacyDecimal) else None)
+number_noted : (a b : Bool) (s : Span)
+    → IsNoted (if a then Some (fault s LegacyOctal) else if b then Some (fault s LegacyDecimal) else None)
 number_noted true b s = λ h. cc
 number_noted false true s = λ h. cc
 number_noted false false s = tt
 
-string_noted : (a b : Bool) (s : Span) → IsNoted (if a then Some (fault s (if b then LegacyDecimal else LegacyOctal)) else None)
+string_noted : (a b : Bool) (s : Span)
+    → IsNoted (if a then Some (fault s (if b then LegacyDecimal else LegacyOctal)) else None)
 string_noted true true s = λ h. cc
 string_noted true false s = λ h. cc
 string_noted false b s = tt
@@ -315,7 +346,8 @@ waiting_kept : (o : Option Error) (s : Source) → IsNoted o → Keeps s.waiting
 waiting_kept None s f = keeps_same s.waiting s.waiting refl
 waiting_kept (Some e) s f = waiting_by s.context.strict e s f
 
-quiet_noted : (o : Option Error) (s : Source) → is_some o ≡ false → ((noted o s).errors ≡ s.errors) × ((noted o s).waiting ≡ s.waiting)
+quiet_noted : (o : Option Error) (s : Source) → is_some o ≡ false
+    → ((noted o s).errors ≡ s.errors) × ((noted o s).waiting ≡ s.waiting)
 quiet_noted None s h = (refl, refl)
 quiet_noted (Some e) s h = cc
 
@@ -330,8 +362,10 @@ or_first true b h = cc
 or_first false b h = (refl, h)
 
 -- the tokens of a text after a call, by the reading that it left
-tokens_by : (s t : TextInput) → SameText s t → tokens_from t.end (bytes_of t) (reading t) ≡ tokens_from s.end (bytes_of s) (reading t)
-tokens_by s t same = ap (λ e. tokens_from e (bytes_of t) (reading t)) same.end ∙ ap (λ b. tokens_from s.end b (reading t)) same.text
+tokens_by : (s t : TextInput) → SameText s t → tokens_from t.end (bytes_of t) (reading t) ≡ tokens_from s.end
+    (bytes_of s) (reading t)
+tokens_by s t same = ap (λ e. tokens_from e (bytes_of t) (reading t)) same.end ∙ ap
+    (λ b. tokens_from s.end b (reading t)) same.text
 
 bound_by : (s t : TextInput) → SameText s t → bound (bytes_of t) (reading t) ≡ bound (bytes_of s) (reading t)
 bound_by s t same = ap (λ b. bound b (reading t)) same.text
@@ -340,14 +374,16 @@ held_len : (o : Option TokenAndSpan) (p : Option TokenAndSpan) → o ≡ p → l
 held_len o p h = ap (λ x. length (held_list x)) h
 
 notes_keeping : (s t : TextInput) (o : Option Error) → IsNoted o → notes_of t ≡ noted o (notes_of s) →
-    ((m : List TokenAndSpan) → known_if (has_legacy s) (coming s) ≡ Some m → is_some o ≡ false) → Keeping (text_state s) (text_state t)
+    ((m : List TokenAndSpan) → known_if (has_legacy s) (coming s) ≡ Some m → is_some o ≡ false)
+    → Keeping (text_state s) (text_state t)
 notes_keeping s t o f is none =
     let b = beside o (notes_of s) in
     record {
       context = ap (λ n. n.context) is ∙ b.context;
       errors = subst (λ n. Keeps s.notes.errors.items n.errors) (sym is) (errors_kept o (notes_of s) f);
       waiting = subst (λ n. Keeps s.notes.module_errors.items n.waiting) (sym is) (waiting_kept o (notes_of s) f);
-      quiet = λ m h. let q = quiet_noted o (notes_of s) (none m h) in (ap (λ n. n.errors) is ∙ q.0, ap (λ n. n.waiting) is ∙ q.1);
+      quiet = λ m h. let q = quiet_noted o (notes_of s) (none m h) in
+          (ap (λ n. n.errors) is ∙ q.0, ap (λ n. n.waiting) is ∙ q.1);
     }
 
 none_some : {A B : Type 0} (x : A) → None ≡ Some x → B
@@ -358,10 +394,12 @@ true_false h = let k : ⊥ = cc in absurd k
 
 -- the token x comes next, and then the tokens that come after the call
 module _ (s t : TextInput) (x : TokenAndSpan) (same : SameText s t) (none : s.held ≡ None) (runs : s.failed ≡ false)
-    (next : next_of s.end (bytes_of s) (reading s) ≡ Some (x, reading t)) (lower : bound (bytes_of s) (reading t) < bound (bytes_of s) (reading s)) where
+    (next : next_of s.end (bytes_of s) (reading s) ≡ Some (x, reading t))
+    (lower : bound (bytes_of s) (reading t) < bound (bytes_of s) (reading s)) where
   comes_next : to_come s ≡ x ∷ tokens_from t.end (bytes_of t) (reading t)
   comes_next =
-      only_held s none ∙ from_next s.end (bytes_of s) (reading s) (reading t) x next lower ∙ ap (λ l. x ∷ l) (sym (tokens_by s t same))
+      only_held s none ∙ from_next s.end (bytes_of s) (reading s) (reading t) x next lower ∙ ap (λ l. x ∷ l)
+      (sym (tokens_by s t same))
 
   never_over : {A : Type 0} → is_over s.reader.ended s.held ≡ true → A
   never_over e =
@@ -377,7 +415,8 @@ module _ (s t : TextInput) (x : TokenAndSpan) (same : SameText s t) (none : s.he
       let b = held_len t.held o is in
       let c = bound_by s t same in omega (arith, a, b, c, lower)
 
-  asked_handed : t.failed ≡ false → t.held ≡ None → t.legacy ≡ (s.legacy || is_legacy_token x) → notes_of t ≡ noted (legacy_of x) (notes_of s) →
+  asked_handed : t.failed ≡ false → t.held ≡ None → t.legacy ≡ (s.legacy || is_legacy_token x)
+      → notes_of t ≡ noted (legacy_of x) (notes_of s) →
       Asked text_model s (Some x) t
   asked_handed f held legacy notes =
       let now : to_come s ≡ x ∷ to_come t = comes_next ∙ ap (λ l. x ∷ l) (sym (only_held t held)) in
@@ -385,7 +424,8 @@ module _ (s t : TextInput) (x : TokenAndSpan) (same : SameText s t) (none : s.he
       record {
         gave = record {
           list = ap (map plain) now;
-          legacy = ap (λ c. c || any_legacy (to_come t)) legacy ∙ or_assoc s.legacy (is_legacy_token x) (any_legacy (to_come t))
+          legacy = ap (λ c. c || any_legacy (to_come t)) legacy ∙ or_assoc s.legacy (is_legacy_token x)
+              (any_legacy (to_come t))
               ∙ ap (λ l. s.legacy || any_legacy l) (sym now);
           stays = λ e. never_over e;
           failed = λ e. never_failed e;
@@ -402,9 +442,11 @@ module _ (s t : TextInput) (x : TokenAndSpan) (same : SameText s t) (none : s.he
         };
       }
 
-  asked_lost : t.failed ≡ true → t.held ≡ Some x → t.legacy ≡ s.legacy → notes_of t ≡ notes_of s → Asked text_model s None t
+  asked_lost : t.failed ≡ true → t.held ≡ Some x → t.legacy ≡ s.legacy → notes_of t ≡ notes_of s
+      → Asked text_model s None t
   asked_lost f held legacy notes =
-      let now : to_come s ≡ to_come t = comes_next ∙ ap (λ o. held_list o ++ tokens_from t.end (bytes_of t) (reading t)) (sym held) in
+      let now : to_come s ≡ to_come t = comes_next ∙ ap (λ o. held_list o ++ tokens_from t.end (bytes_of t) (reading t))
+      (sym held) in
       record {
         gave = record {
           list = ap (map plain) now;
@@ -426,8 +468,10 @@ module _ (s t : TextInput) (x : TokenAndSpan) (same : SameText s t) (none : s.he
   asked_hands r (lost f held legacy notes) = asked_lost f held legacy notes
 
 -- nothing was read
-asked_none : (s t : TextInput) → Rests s t → to_come t ≡ to_come s → (is_over s.reader.ended s.held ≡ true → is_over t.reader.ended t.held ≡ true) →
-    (s.failed ≡ true → t.failed ≡ true) → (t.failed ≡ false → is_over t.reader.ended t.held ≡ true) → left t ≤ left s → Asked text_model s None t
+asked_none : (s t : TextInput) → Rests s t → to_come t ≡ to_come s
+    → (is_over s.reader.ended s.held ≡ true → is_over t.reader.ended t.held ≡ true) →
+    (s.failed ≡ true → t.failed ≡ true) → (t.failed ≡ false → is_over t.reader.ended t.held ≡ true) → left t ≤ left s
+    → Asked text_model s None t
 asked_none s t rest same stays failed ended lower = record {
   gave = record {
     list = ap (map plain) (sym same);
@@ -443,7 +487,8 @@ asked_none s t rest same stays failed ended lower = record {
 over_none : (s : TextInput) → s.held ≡ None → s.reader.ended ≡ true → is_over s.reader.ended s.held ≡ true
 over_none s h e = ap (λ o. is_over s.reader.ended o) h ∙ ap (λ b. b && true) e
 
-asked_stops : (s t : TextInput) → SameText s t → s.failed ≡ false → s.held ≡ None → next_of s.end (bytes_of s) (reading s) ≡ None → (reading t).ended ≡ true →
+asked_stops : (s t : TextInput) → SameText s t → s.failed ≡ false → s.held ≡ None
+    → next_of s.end (bytes_of s) (reading s) ≡ None → (reading t).ended ≡ true →
     Rests s t → Asked text_model s None t
 asked_stops s t same runs none next over rest =
     let held : t.held ≡ None = rest.held ∙ none in
@@ -456,20 +501,24 @@ asked_stops s t same runs none next over rest =
     ∙ sym (only_held s none ∙ from_end s.end (bytes_of s) (reading s) next))
     (λ e. over_none t held over) (λ e. true_false (sym e ∙ runs)) (λ e. over_none t held over) (omega (arith, a, b, z))
 
-asked_rests : (s t : TextInput) → SameText s t → t.failed ≡ true → reading t ≡ reading s → Rests s t → Asked text_model s None t
+asked_rests : (s t : TextInput) → SameText s t → t.failed ≡ true → reading t ≡ reading s → Rests s t
+    → Asked text_model s None t
 asked_rests s t same f is rest =
     let now = tokens_by s t same ∙ ap (λ r. tokens_from s.end (bytes_of s) r) is in
     let a = held_len t.held s.held rest.held in
     let b = bound_by s t same in
     let c = ap (bound (bytes_of s)) is in
-    asked_none s t rest (ap (λ o. held_list o ++ tokens_from t.end (bytes_of t) (reading t)) rest.held ∙ ap (λ l. held_list s.held ++ l) now)
+    asked_none s t rest (ap (λ o. held_list o ++ tokens_from t.end (bytes_of t) (reading t)) rest.held ∙ ap
+    (λ l. held_list s.held ++ l) now)
     (λ e. ap (λ o. is_over t.reader.ended o) rest.held ∙ ap (λ r. is_over r.ended s.held) is ∙ e)
     (λ e. f) (λ h. true_false (sym f ∙ h)) (omega (arith, a, b, c))
 
 pub text_asked : (s : TextInput) (r : Option TokenAndSpan) (t : TextInput) → NextText s r t → Asked text_model s r t
 text_asked s r t n = asked_by s r t n.text n.token
   where
-    asked_by : (s : TextInput) (r : Option TokenAndSpan) (t : TextInput) → SameText s t → Takes s r t → Asked text_model s r t
-    asked_by s r t same (gives x none runs (gave next lower) hands) = asked_hands s t x same none runs next lower r hands
+    asked_by : (s : TextInput) (r : Option TokenAndSpan) (t : TextInput) → SameText s t → Takes s r t
+        → Asked text_model s r t
+    asked_by s r t same (gives x none runs (gave next lower) hands) =
+        asked_hands s t x same none runs next lower r hands
     asked_by s None t same (stops f none (stopped next over) rest) = asked_stops s t same f none next over rest
     asked_by s None t same (rests f is rest) = asked_rests s t same f is rest

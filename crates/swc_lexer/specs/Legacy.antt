@@ -26,7 +26,8 @@ part_of s offset n = if has_part s offset n then between (s.lo.0 + offset) (s.lo
 -- ---- numbers: 010, and 08
 
 abbrev pub in_number : Span → List ℕ → Option Error
-in_number s bs = if is_octal bs then Some (fault s LegacyOctal) else if is_legacy bs then Some (fault s LegacyDecimal) else None
+in_number s bs = if is_octal bs then Some (fault s LegacyOctal) else if is_legacy bs then Some
+    (fault s LegacyDecimal) else None
 
 -- ---- strings: their first escape by digits, but for `\0` before no digit
 
@@ -78,7 +79,8 @@ pub record FaultsTo (ts : List TokenAndSpan) (i : ℕ) (es : List Error) : Type 
 
 -- ---- recording
 
--- a fault of strict code: recorded there, and in a module; elsewhere it waits, since the text may turn out to be a module
+-- a fault of strict code: recorded there, and in a module; elsewhere it waits, since the text may turn out to be a
+-- module
 abbrev pub noted : Option Error → Source → Source
 noted None s = s
 noted (Some e) s = if s.context.strict then with_error e s else with_module_error e s

@@ -37,7 +37,13 @@ units bs n = count (begins_char bs) n + count (is_long bs) n
 
 -- what is known of a place
 abbrev pub point_of : List ℕ → ℕ → Point
-point_of bs n = record { lines = count (ends_line bs) n; start = line_start bs n; chars = chars bs n; units = units bs n }
+point_of bs n = record {
+  lines = count (ends_line bs) n;
+  start = line_start bs n;
+  chars = chars bs n;
+  units =
+      units bs n;
+}
 
 abbrev pub one_if : Bool → ℕ
 one_if b = if b then 1 else 0

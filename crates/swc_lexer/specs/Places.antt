@@ -1,4 +1,5 @@
--- What was read so far, as far as it tells whether a slash that comes next divides (ECMA-262, 12 and 12.10): the token before, the kind
+-- What was read so far, as far as it tells whether a slash that comes next divides (ECMA-262, 12 and 12.10): the token
+-- before, the kind
 -- of the function, and what is opened.
 use Rattle.std.specs.Prelude.{Bool, true, false, not, ◌&&◌, ◌||◌, if◌then◌else◌, Option, Some, None}
 use Rattle.swc_lexical.specs.declared.scan.Goal.{Goal}
@@ -190,12 +191,14 @@ abbrev pub break_within : Option Open → Mark → Break
 break_within below m = if is_in_statements below then Closes mark.Semi before.Statement else break_below below m
 
 abbrev pub break_after_operand : Before → Option Frame → Option Open → Mark → Break
-break_after_operand b top below m = if ends_operand b && begins_operand m && not (is_class_head top) then break_within below m else Nothing
+break_after_operand b top below m = if ends_operand b && begins_operand m && not
+    (is_class_head top) then break_within below m else Nothing
 
 abbrev pub break_after_jump : Option Frame → Break
 break_after_jump top = if is_in_parens top then Nothing else Changes before.Statement
 
--- what a line break does before a token, where `top` is the innermost that is open, and `below` the innermost but for the expressions
+-- what a line break does before a token, where `top` is the innermost that is open, and `below` the innermost but for
+-- the expressions
 -- after `=>` and declarations
 abbrev pub at_break : Before → Option Frame → Option Open → Mark → Break
 at_break before.WantedHere top below m = break_after_jump top
@@ -211,7 +214,12 @@ stays p b = record { closes = false; opens = None; place = record p { before = b
 
 -- it opens something of the kind
 abbrev pub opens : Place → Open → Kind → Before → Move
-opens p o k b = record { closes = false; opens = Some (record { what = o; outer = p.kind }); place = record p { before = b; kind = k } }
+opens p o k b = record {
+  closes = false;
+  opens = Some (record { what = o; outer = p.kind });
+  place =
+      record p { before = b; kind = k };
+}
 
 abbrev pub kind_outside : Kind → Option Frame → Kind
 kind_outside k None = k
@@ -219,7 +227,12 @@ kind_outside k (Some f) = f.outer
 
 -- it closes the innermost
 abbrev pub closing : Place → Option Frame → Before → Move
-closing p top b = record { closes = true; opens = None; place = record p { before = b; kind = kind_outside p.kind top } }
+closing p top b = record {
+  closes = true;
+  opens = None;
+  place =
+      record p { before = b; kind = kind_outside p.kind top };
+}
 
 abbrev pub named : Place → Place
 named p = record p { in_names = true }
@@ -271,7 +284,8 @@ after_block_brace p top = if p.in_names then after_other_brace p top else opens 
 abbrev pub after_brace_of : Before → Place → Option Frame → Move
 after_brace_of (before.Arrow awaits) p top = opens p (opened.Body then_.Arrow) (kind_of awaits false) before.Statement
 after_brace_of (before.Params k t) p top = opens p (opened.Body t) k before.Statement
-after_brace_of (before.Named awaits yields) p top = opens p (opened.Body then_.Member) (kind_of true false) before.Statement
+after_brace_of (before.Named awaits yields) p top = opens p (opened.Body then_.Member)
+    (kind_of true false) before.Statement
 after_brace_of before.Export p top = opens (named p) opened.Names p.kind before.Wanted
 after_brace_of before.Import p top = opens (named p) opened.Names p.kind before.Wanted
 after_brace_of before.Statement p top = after_block_brace p top
@@ -309,7 +323,8 @@ abbrev pub after_bracket : Place → Option Frame → Move
 after_bracket p top = after_bracket_of p.before p top
 
 abbrev pub after_back_quote : Place → Option Frame → Move
-after_back_quote p top = if is_template top then closing p top before.Operand else opens p opened.Template p.kind before.Wanted
+after_back_quote p top = if is_template top then closing p top before.Operand else opens p opened.Template p.kind
+    before.Wanted
 
 abbrev pub after_close_paren : Option Open → Before
 after_close_paren (Some opened.Head) = before.Statement
@@ -403,7 +418,8 @@ text_before b = after_literal b
 
 -- a string ends an import or an export
 abbrev pub after_text : Place → Option Frame → Move
-after_text p top = if p.in_names && not (is_names top) then stays (unnamed p) before.Statement else stays p (text_before p.before)
+after_text p top = if p.in_names && not (is_names top) then stays (unnamed p) before.Statement else stays p
+    (text_before p.before)
 
 -- ---- words
 
@@ -417,7 +433,8 @@ abbrev pub plain_function : Before → Before
 plain_function b = before.Function plain_kind (here b)
 
 abbrev pub after_function : Before → Bool → Before
-after_function (before.Async t) breaks = if breaks then plain_function (before.Async t) else before.Function (kind_of true false) t
+after_function (before.Async t) breaks = if breaks then plain_function (before.Async t) else before.Function
+    (kind_of true false) t
 after_function b breaks = plain_function b
 
 -- a name that follows `async` on its line
@@ -436,7 +453,8 @@ after_first n b = before.Operand
 
 abbrev pub after_name_of : Before → Place → Option Frame → Name → Bool → Move
 after_name_of before.Import p top n breaks = stays (named p) before.Operand
-after_name_of (before.Async t) p top n breaks = if breaks then stays p (after_first n (before.Async t)) else stays p (after_async n top)
+after_name_of (before.Async t) p top n breaks = if breaks then stays p (after_first n (before.Async t)) else stays p
+    (after_async n top)
 after_name_of before.Operand p top n breaks = stays p (after_second n top)
 after_name_of before.ArrowEnd p top n breaks = stays p (after_second n top)
 after_name_of before.Bound p top n breaks = stays p (after_second n top)
@@ -500,7 +518,8 @@ after_word_in_code p top name.Operator breaks = stays p before.Wanted
 
 -- where a name of a class or an object begins
 abbrev pub after_member_word : Place → Name → Bool → Bool → Move
-after_member_word p name.Async awaits yields = if yields then stays p (before.Named awaits yields) else stays p before.NamedAsync
+after_member_word p name.Async awaits yields = if yields then stays p
+    (before.Named awaits yields) else stays p before.NamedAsync
 after_member_word p n awaits yields = stays p (before.Named awaits yields)
 
 abbrev pub after_second_member_word : Place → Name → Bool → Bool → Move
@@ -544,7 +563,8 @@ after_brackets p top mark.RParen = closing p top (after_close_paren (opened_by t
 after_brackets p top mark.RBracket = closing p top (after_close_bracket (opened_by top))
 after_brackets p top m = closing p top (after_close_brace (opened_by top))
 
--- what the token does, where `top` is the innermost that is open; `adjoins` says that no blank is before it, and `breaks` that a line
+-- what the token does, where `top` is the innermost that is open; `adjoins` says that no blank is before it, and
+-- `breaks` that a line
 -- break is
 abbrev pub after : Place → Option Frame → Mark → Bool → Bool → Move
 after p top (mark.Word n) adjoins breaks = after_word p top n breaks
@@ -565,7 +585,8 @@ after p top mark.Prefix adjoins breaks = stays p before.Wanted
 after p top mark.Sign adjoins breaks = stays p before.Wanted
 after p top m adjoins breaks = after_brackets p top m
 
--- what begins before the token comes, of which no bracket tells: the expression after `=>`, or what `let` declares before a `{`
+-- what begins before the token comes, of which no bracket tells: the expression after `=>`, or what `let` declares
+-- before a `{`
 abbrev pub goes_on : Place → Entry
 goes_on p = record { opens = None; place = p }
 
@@ -577,7 +598,11 @@ enters_arrow p awaits =
     }
 
 abbrev pub enters_let : Place → Option Frame → Entry
-enters_let p top = if is_for top then goes_on p else record { opens = Some (record { what = opened.Declaration; outer = p.kind }); place = p }
+enters_let p top = if is_for top then goes_on p else record {
+  opens =
+      Some (record { what = opened.Declaration; outer = p.kind });
+  place = p;
+}
 
 abbrev pub begins_arrow : Mark → Bool
 begins_arrow mark.LBrace = false
@@ -604,4 +629,5 @@ goal_in_code b breaks = if wants_regexp b breaks then goal.RegExp else goal.Div
 
 -- which goal of the lexical grammar comes next, after a line break or not
 abbrev pub goal_at : Place → Option Frame → Bool → Goal
-goal_at p top breaks = if is_template top then (if p.has_text then goal.Delimiter else goal.Text) else goal_in_code p.before breaks
+goal_at p top breaks = if is_template top then (if p.has_text then goal.Delimiter else goal.Text) else goal_in_code
+    p.before breaks

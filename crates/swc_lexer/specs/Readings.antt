@@ -48,7 +48,8 @@ goal_here s bs = stacks.goal s (has_break bs (blanks_len bs))
 -- blanks are left alone, or the `}` before which the text ends
 abbrev pub is_over_in_code : End → State → List ℕ → Bool
 is_over_in_code Whole s bs = nat_eq (blanks_len bs) (length bs)
-is_over_in_code BeforeBrace s bs = nat_eq (blanks_len bs) (length bs) || is_at bs (blanks_len bs) 125 && not (has_brace s.frames)
+is_over_in_code BeforeBrace s bs = nat_eq (blanks_len bs) (length bs) || is_at bs (blanks_len bs) 125 && not
+    (has_brace s.frames)
 
 abbrev pub is_over : End → State → Goal → List ℕ → Bool
 is_over e s goal.Text bs = false
@@ -63,7 +64,8 @@ abbrev pub piece_here : Goal → Bool → List ℕ → Here
 piece_here g asks bs = piece_or_fault asks bs (piece_at g bs)
 
 abbrev pub what_comes : End → State → List ℕ → Here
-what_comes e s bs = if is_over e s (goal_here s bs) bs then here_.Over else piece_here (goal_here s bs) (is_asking s.place) bs
+what_comes e s bs = if is_over e s (goal_here s bs) bs then here_.Over else piece_here (goal_here s bs)
+    (is_asking s.place) bs
 
 abbrev pub IsWithin : Here → ℕ → Type 0
 IsWithin (here_.Piece p) n = p.blanks + p.len ≤ n
@@ -128,7 +130,11 @@ abbrev pub ended : Reading → Reading
 ended r = record r { ended = true }
 
 abbrev pub read : Piece → TokenAndSpan → Reading → Reading
-read p t r = record r { at = r.at + p.blanks + p.len; state = passed (mark_of t.token) (nat_eq p.blanks 0) t.had_line_break r.state }
+read p t r = record r {
+  at = r.at + p.blanks + p.len;
+  state =
+      passed (mark_of t.token) (nat_eq p.blanks 0) t.had_line_break r.state;
+}
 
 abbrev pub given_of : List ℕ → Reading → Piece → Option TokenAndSpan → TokenAndSpan × Reading
 given_of bs r p None = (fault_of_kind p.kind (r.at + p.blanks) p.len bs, ended r)
@@ -165,7 +171,8 @@ next_of e bs r = if r.ended then None else next_in e bs r
 
 -- ---- all tokens
 
--- no more tokens than this are still to come: a token takes a byte at least, but for the text of a template, which one more follows
+-- no more tokens than this are still to come: a token takes a byte at least, but for the text of a template, which one
+-- more follows
 abbrev pub weight : State → ℕ
 weight s = if is_template (innermost s.frames) && not s.place.has_text then 2 else 1
 
@@ -208,5 +215,6 @@ reading_of r = record { at = r.at; state = stacks.state_of r.stack; ended = r.en
 
 -- one call gave a token, or none at the end, and led from one reading to another
 pub data Gives (e : End) (bs : List ℕ) (r : Reading) : Option TokenAndSpan → Reading → Type 0 where
-  gave : {x : TokenAndSpan} {t : Reading} → next_of e bs r ≡ Some (x, t) → bound bs t < bound bs r → Gives e bs r (Some x) t
+  gave : {x : TokenAndSpan} {t : Reading} → next_of e bs r ≡ Some (x, t) → bound bs t < bound bs r
+      → Gives e bs r (Some x) t
   stopped : {t : Reading} → next_of e bs r ≡ None → t.ended ≡ true → Gives e bs r None t

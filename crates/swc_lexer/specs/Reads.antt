@@ -11,7 +11,11 @@ out_of_memory = record { span = record { lo = record { 0 = 0 }; hi = record { 0 
 -- the fault of bytes that are no UTF-8, the first of which is there
 abbrev pub bad_utf8 : ℕ → Error
 bad_utf8 at =
-    let lo = min at 4294967294 in record { span = record { lo = record { 0 = lo }; hi = record { 0 = lo + 1 } }; kind = InvalidUtf8 }
+    let lo = min at 4294967294 in record {
+      span = record { lo = record { 0 = lo }; hi = record { 0 = lo + 1 } };
+      kind =
+          InvalidUtf8;
+    }
 
 abbrev pub is_error : Token → Bool
 is_error (token.Error e) = true

@@ -132,7 +132,8 @@ three a b c =
 -- >>>=
 abbrev pub four : ℕ → ℕ → ℕ → ℕ → Option Token
 four a b c d =
-    if nat_eq a 62 && nat_eq b 62 && nat_eq c 62 && nat_eq d 61 then Some (token.AssignOp assign.ZeroFillRShiftAssign) else None
+    if nat_eq a 62 && nat_eq b 62 && nat_eq c 62 && nat_eq d 61 then Some
+    (token.AssignOp assign.ZeroFillRShiftAssign) else None
 
 -- the sign that is written so
 abbrev pub sign_of : List ℕ → Option Token

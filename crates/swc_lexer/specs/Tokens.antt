@@ -13,13 +13,15 @@ use Rattle.swc_lexical.specs.declared.lexeme.Kind.TheVariants as kind
 abbrev pub has_escape : List ℕ → Bool
 has_escape bs = list_any (λ b. nat_eq b 92) bs
 
--- a word that is written with escapes: a name, and none of the words that are never names (12.7.2), unless a name is wanted
+-- a word that is written with escapes: a name, and none of the words that are never names (12.7.2), unless a name is
+-- wanted
 abbrev pub escaped : Bool → Word → Option Token
 escaped named (word.Ident name) = Some (token.Word (word.Ident name))
 escaped named w = if named then Some (token.Word w) else None
 
 abbrev pub word_token : Bool → List ℕ → Option Token
-word_token named bs = if has_escape bs then escaped named (word_of (meaning true bs)) else Some (token.Word (word_of bs))
+word_token named bs = if has_escape bs then escaped named (word_of (meaning true bs)) else Some
+    (token.Word (word_of bs))
 
 -- what is between the quotes
 abbrev pub inner : List ℕ → List ℕ
@@ -30,19 +32,25 @@ string_token bs = if nat_lt (length bs) 2 then None else Some (token.Str (meanin
 
 -- the fault of a bad escape of so many bytes, at a place
 abbrev pub fault_at : ℕ → ℕ → Error
-fault_at at len = record { span = record { lo = record { 0 = at }; hi = record { 0 = at + len } }; kind = BadCharacterEscapeSequence }
+fault_at at len = record {
+  span = record { lo = record { 0 = at }; hi = record { 0 = at + len } };
+  kind =
+      BadCharacterEscapeSequence;
+}
 
 -- what a text of a template means, or the fault at its first bad escape
 abbrev pub cooked : ℕ → List ℕ → Result (List ℕ) Error
 cooked at bs =
-    if nat_lt (good_len bs) (length bs) then Err (fault_at (at + good_len bs) (bad_len (drop (good_len bs) bs))) else Ok (meaning true bs)
+    if nat_lt (good_len bs) (length bs) then Err (fault_at (at + good_len bs) (bad_len (drop (good_len bs) bs))) else Ok
+    (meaning true bs)
 
 abbrev pub template_token : ℕ → List ℕ → Option Token
 template_token at bs = Some (token.Template (meaning false bs) (cooked at bs))
 
 abbrev pub regexp_of : List ℕ → Option ℕ → Option Token
 regexp_of bs None = None
-regexp_of bs (Some n) = if is_at bs (n + 1) 47 then Some (token.Regex (slice_range bs 1 (n + 1)) (drop (n + 2) bs)) else None
+regexp_of bs (Some n) = if is_at bs (n + 1) 47 then Some
+    (token.Regex (slice_range bs 1 (n + 1)) (drop (n + 2) bs)) else None
 
 abbrev pub regexp_token : List ℕ → Option Token
 regexp_token bs = if is_at bs 0 47 then regexp_of bs (body_len (drop 1 bs)) else None

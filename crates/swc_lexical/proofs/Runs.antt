@@ -16,13 +16,15 @@ unfolding run_from
 run_stop piece [] h = refl
 run_stop piece (b ∷ bs) h = rw h refl
 
-first_piece : (piece : List ℕ → ℕ) (bs : List ℕ) (n : ℕ) → piece bs ≡ suc n → suc n ≤ length bs → run piece bs ≡ suc n + run piece (drop (suc n) bs)
+first_piece : (piece : List ℕ → ℕ) (bs : List ℕ) (n : ℕ) → piece bs ≡ suc n → suc n ≤ length bs
+    → run piece bs ≡ suc n + run piece (drop (suc n) bs)
 unfolding run_from
 first_piece piece [] n h within = absurd (omega arith)
 first_piece piece (b ∷ bs) n h within = rw h (let more = passed piece n bs (omega arith) in omega (arith, more))
 
 -- a piece, and the run after it
-pub run_more : (piece : List ℕ → ℕ) (bs : List ℕ) (n : ℕ) → piece bs ≡ n → 0 < n → n ≤ length bs → run piece bs ≡ n + run piece (drop n bs)
+pub run_more : (piece : List ℕ → ℕ) (bs : List ℕ) (n : ℕ) → piece bs ≡ n → 0 < n → n ≤ length bs
+    → run piece bs ≡ n + run piece (drop n bs)
 run_more piece bs zero h some within = absurd (omega arith)
 run_more piece bs (suc n) h some within = first_piece piece bs n h within
 
@@ -36,7 +38,8 @@ rest_at bs at = take (length bs - at) (drop at bs)
 pub rest_at-drop : (bs : List ℕ) (at : ℕ) → rest_at bs at ≡ drop at bs
 rest_at-drop bs at = ap (λ n. take n (drop at bs)) (sym (length-drop at bs)) ∙ take-length (drop at bs)
 
-pub RunsTo_more : (piece : List ℕ → ℕ) (bs : List ℕ) (at n : ℕ) → RunsTo piece bs at → n ≡ piece (rest_at bs at) → (n ≡ 0 → ⊥) → n ≤ length (rest_at bs at) → RunsTo piece bs (at + n)
+pub RunsTo_more : (piece : List ℕ → ℕ) (bs : List ℕ) (at n : ℕ) → RunsTo piece bs at → n ≡ piece (rest_at bs at)
+    → (n ≡ 0 → ⊥) → n ≤ length (rest_at bs at) → RunsTo piece bs (at + n)
 RunsTo_more piece bs at n r is some within =
     let l = length-drop at bs in
     let same = ap length (rest_at-drop bs at) in
@@ -58,8 +61,11 @@ run_none piece (b ∷ bs) h = absurd (omega (arith, h))
 
 pub RunsTo_over : (piece : List ℕ → ℕ) (bs : List ℕ) (at : ℕ) → RunsTo piece bs at → length bs ≤ at → at ≡ run piece bs
 RunsTo_over piece bs at r over =
-    let none = run_none piece (drop at bs) (let l = length-drop at bs in omega (arith, l)) in let so_far = r.sum in omega (arith, none, so_far)
+    let none = run_none piece (drop at bs) (let l = length-drop at bs in omega (arith, l)) in let so_far = r.sum in
+    omega (arith, none, so_far)
 
-pub RunsTo_end : (piece : List ℕ → ℕ) (bs : List ℕ) (at n : ℕ) → RunsTo piece bs at → n ≡ piece (rest_at bs at) → n ≡ 0 → at ≡ run piece bs
+pub RunsTo_end : (piece : List ℕ → ℕ) (bs : List ℕ) (at n : ℕ) → RunsTo piece bs at → n ≡ piece (rest_at bs at) → n ≡ 0
+    → at ≡ run piece bs
 RunsTo_end piece bs at n r is none =
-    let stop = run_stop piece (drop at bs) (ap piece (sym (rest_at-drop bs at)) ∙ sym is ∙ none) in let so_far = r.sum in omega (arith, stop, so_far)
+    let stop = run_stop piece (drop at bs) (ap piece (sym (rest_at-drop bs at)) ∙ sym is ∙ none) in
+    let so_far = r.sum in omega (arith, stop, so_far)

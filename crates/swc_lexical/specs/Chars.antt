@@ -49,5 +49,6 @@ plain_len bs = if nat_lt 0 (length bs) && nat_eq (terminator_len bs) 0 then 1 el
 
 abbrev pub is_white_space : ℕ → Bool
 is_white_space ch =
-    nat_eq ch 9 || nat_eq ch 11 || nat_eq ch 12 || nat_eq ch 32 || nat_eq ch 0xA0 || nat_eq ch 0xFEFF || nat_eq ch 0x1680
+    nat_eq ch 9 || nat_eq ch 11 || nat_eq ch 12 || nat_eq ch 32 || nat_eq ch 0xA0 || nat_eq ch 0xFEFF
+    || nat_eq ch 0x1680
     || nat_le 0x2000 ch && nat_le ch 0x200A || nat_eq ch 0x202F || nat_eq ch 0x205F || nat_eq ch 0x3000

@@ -80,7 +80,8 @@ unicode_escape bs = if is_at bs 0 123 then longer 1 (in_braces (drop 1 bs)) else
 -- a character that means itself, or another, after the backslash
 abbrev pub single : ℕ → Option ℕ
 single b =
-    if nat_eq b 110 then Some 10 else if nat_eq b 116 then Some 9 else if nat_eq b 114 then Some 13 else if nat_eq b 98 then Some 8
+    if nat_eq b 110 then Some 10 else if nat_eq b 116 then Some 9 else if nat_eq b 114 then Some 13 else if nat_eq b
+    98 then Some 8
     else if nat_eq b 102 then Some 12 else if nat_eq b 118 then Some 11 else None
 
 -- how many bytes an escape takes that begins here with its backslash: 0 where it is a bad one
@@ -123,7 +124,8 @@ abbrev pub octal_at : Option ℕ → Option ℕ
 octal_at None = None
 octal_at (Some b) = if is_digit Octal b then Some (b - 48) else None
 
--- the value and the length of an escape of old scripts, by its octal digits: up to three of them, the first of which is 3 at most
+-- the value and the length of an escape of old scripts, by its octal digits: up to three of them, the first of which is
+-- 3 at most
 abbrev pub after_two : ℕ → ℕ → Option ℕ → ℕ × ℕ
 after_two d e None = (8 * d + e, 3)
 after_two d e (Some f) = if nat_le d 3 then (64 * d + 8 * e + f, 4) else (8 * d + e, 3)
@@ -137,7 +139,8 @@ abbrev pub legacy_of : Option ℕ → List ℕ → Option (ℕ × ℕ)
 legacy_of None bs = with_len 2 (slice_get bs 1)
 legacy_of (Some d) bs = Some (after_one d (octal_at (slice_get bs 2)) (octal_at (slice_get bs 3)))
 
--- an escape by digits (LegacyOctalEscapeSequence, NonOctalDecimalEscapeSequence), from its backslash on, after which a digit comes
+-- an escape by digits (LegacyOctalEscapeSequence, NonOctalDecimalEscapeSequence), from its backslash on, after which a
+-- digit comes
 abbrev pub legacy_escape : List ℕ → Option (Meaning × ℕ)
 legacy_escape bs = as_code (legacy_of (octal_at (slice_get bs 1)) bs)
 

@@ -1,4 +1,5 @@
--- What is wrong where no token begins (ECMA-262, 12): its kind, how many bytes after the place it begins, and how many it takes.
+-- What is wrong where no token begins (ECMA-262, 12): its kind, how many bytes after the place it begins, and how many
+-- it takes.
 use Rattle.std.specs.Prelude.{ℕ, ◌+◌, Bool, true, false, ◌||◌, ◌&&◌, if◌then◌else◌, nat_eq, nat_lt, List, Option, Some, None, slice_get, drop, length}
 use Rattle.std.specs.Char.{is_ascii_digit}
 use Rattle.swc_lexical.specs.{declared.fault.Fault.Fault, declared.fault.Wrong.Wrong, declared.number.Base.TheVariants.Decimal, declared.scan.Goal.Goal, Blanks.blanks_len, Chars.first_char, Chars.plain_len, Escapes.escape_len, Escapes.hex_digit_len, Lexemes.begins_word, Names.more_len, Strings.in_string}
@@ -46,7 +47,8 @@ and_char bs = 1 + char_len (drop 1 bs)
 
 -- a backslash and a character; and after `\u{`, `\u` and `\x` the digits that are there, and the brace
 abbrev pub broken_len : List ℕ → ℕ
-broken_len bs = if opens_brace bs then and_brace (and_digits 3 bs) bs else if wants_digits bs then and_digits 2 bs else and_char bs
+broken_len bs = if opens_brace bs then and_brace (and_digits 3 bs) bs else if wants_digits bs then and_digits 2
+    bs else and_char bs
 
 -- a bad escape, from its backslash on: one that is well written may mean a character that no name may have here
 abbrev pub bad_len : List ℕ → ℕ
@@ -57,7 +59,8 @@ bad_len bs = if nat_lt 0 (escape_len bs) then escape_len bs else broken_len bs
 -- where a digit is wanted, after the letter of an exponent and its sign
 abbrev pub exponent_at : ℕ → List ℕ → ℕ
 exponent_at end bs =
-    if is_at bs end 101 || is_at bs end 69 then (if is_at bs (end + 1) 43 || is_at bs (end + 1) 45 then end + 2 else end + 1) else end
+    if is_at bs end 101 || is_at bs end 69 then (if is_at bs (end + 1) 43 || is_at bs
+    (end + 1) 45 then end + 2 else end + 1) else end
 
 -- up to where a digit is wanted
 abbrev pub digit_at : List ℕ → ℕ
@@ -65,7 +68,8 @@ digit_at bs = if has_base bs then 2 else exponent_at (mantissa (whole_len bs) bs
 
 -- the number and a `_`, or the name or the digits that come right after it
 abbrev pub after_number : ℕ → List ℕ → Fault
-after_number n bs = if is_at bs n 95 then wrong_at wrong.Digit 0 (n + 1) else wrong_at wrong.Name 0 (n + run more_len (drop n bs))
+after_number n bs = if is_at bs n 95 then wrong_at wrong.Digit 0 (n + 1) else wrong_at wrong.Name 0
+    (n + run more_len (drop n bs))
 
 abbrev pub number_of : Option ℕ → List ℕ → Fault
 number_of None bs = wrong_at wrong.Digit 0 (digit_at bs)
@@ -75,7 +79,8 @@ number_of (Some n) bs = after_number n bs
 
 -- at a backslash, before which there are n bytes
 abbrev pub string_escape : ℕ → List ℕ → Fault
-string_escape n bs = if nat_lt (n + 1) (length bs) then wrong_at wrong.Escape n (bad_len (drop n bs)) else wrong_at wrong.String 0 (n + 1)
+string_escape n bs = if nat_lt (n + 1) (length bs) then wrong_at wrong.Escape n
+    (bad_len (drop n bs)) else wrong_at wrong.String 0 (n + 1)
 
 abbrev pub string_at : ℕ → List ℕ → Fault
 string_at n bs = if is_at bs n 92 then string_escape n bs else wrong_at wrong.String 0 n

@@ -20,7 +20,8 @@ is_big bs len = is_at bs len 110 && not (is_legacy bs) && (has_base bs || nat_eq
 
 -- no digit and no name may come after a number
 abbrev pub ended : Kind → ℕ → List ℕ → Option (Kind × ℕ)
-ended k len bs = if test_at (is_digit Decimal) bs len || nat_lt 0 (names.begin_len (drop len bs)) then None else Some (k, len)
+ended k len bs = if test_at (is_digit Decimal) bs len || nat_lt 0 (names.begin_len (drop len bs)) then None else Some
+    (k, len)
 
 abbrev pub number_of : List ℕ → Option ℕ → Option (Kind × ℕ)
 number_of bs None = None
@@ -45,7 +46,8 @@ regexp bs = regexp_of bs (body_len (drop 1 bs))
 
 -- `/` begins no token where it begins a comment, and `#` none without a name after it
 abbrev pub is_stray : List ℕ → Bool
-is_stray bs = is_at bs 0 47 && (is_at bs 1 42 || is_at bs 1 47) || is_at bs 0 35 && nat_eq (names.begin_len (drop 1 bs)) 0
+is_stray bs = is_at bs 0 47 && (is_at bs 1 42 || is_at bs 1 47) || is_at bs 0 35 && nat_eq
+    (names.begin_len (drop 1 bs)) 0
 
 abbrev pub sign : List ℕ → Option (Kind × ℕ)
 sign bs = some_of kind.Sign (sign_len bs)

@@ -1,4 +1,5 @@
--- What the texts of strings and templates mean, and how templates' are written (ECMA-262, 12.9.4.2 and 12.9.6.1), in UTF-8. A half of
+-- What the texts of strings and templates mean, and how templates' are written (ECMA-262, 12.9.4.2 and 12.9.6.1), in
+-- UTF-8. A half of
 -- a pair by which UTF-16 writes a character, without the other half, is U+FFFD.
 use Rattle.std.specs.Prelude.{◌≡◌, ◌≤◌, ℕ, suc, zero, ◌+◌, ◌*◌, ◌-◌, ◌<◌, Bool, not, ◌&&◌, if◌then◌else◌, nat_lt, nat_le, length, List, [], ◌∷◌, ◌++◌, Option, Some, None, drop, IfSome, encode_utf8}
 use Rattle.swc_lexical.specs.{declared.escape.Meaning.Meaning, declared.escape.Meaning.TheVariants.Code, declared.escape.Meaning.TheVariants.Nothing, Runs.is_at, Chars.first_char, Chars.terminator_len, Escapes.string_escape, Names.scalar}
@@ -66,7 +67,8 @@ unfoldable pub meaning_from : Bool → ℕ → Option ℕ → List ℕ → List 
 meaning_from cooks k half [] = text_of (lone half)
 meaning_from cooks (suc k) half (b ∷ bs) = meaning_from cooks k half bs
 meaning_from cooks zero half (b ∷ bs) =
-    given half (piece cooks (b ∷ bs)).0 ++ meaning_from cooks ((piece cooks (b ∷ bs)).1 - 1) (left half (piece cooks (b ∷ bs)).0) bs
+    given half (piece cooks (b ∷ bs)).0 ++ meaning_from cooks ((piece cooks (b ∷ bs)).1 - 1)
+    (left half (piece cooks (b ∷ bs)).0) bs
 
 -- what a text means, in which a CR, with an LF after it or not, is an LF; and where it isn't cooked, how it is written
 abbrev pub meaning : Bool → List ℕ → List ℕ

@@ -13,7 +13,8 @@ is_digit Hexadecimal b = is_ascii_hexdigit b
 
 -- a digit, or `_` and a digit
 abbrev pub digit_len : Base → List ℕ → ℕ
-digit_len base bs = if test_at (is_digit base) bs 0 then 1 else if is_at bs 0 95 && test_at (is_digit base) bs 1 then 2 else 0
+digit_len base bs = if test_at (is_digit base) bs 0 then 1 else if is_at bs 0 95 && test_at
+    (is_digit base) bs 1 then 2 else 0
 
 -- digits, with a `_` between two of them or not: 0 where none is here
 abbrev pub digits_len : Base → List ℕ → ℕ
@@ -27,7 +28,8 @@ then_some n k = if nat_eq k 0 then None else Some (n + k)
 abbrev pub exponent_len : List ℕ → Option ℕ
 exponent_len bs =
     if is_at bs 0 101 || is_at bs 0 69
-    then (if is_at bs 1 43 || is_at bs 1 45 then then_some 2 (digits_len Decimal (drop 2 bs)) else then_some 1 (digits_len Decimal (drop 1 bs)))
+    then (if is_at bs 1 43 || is_at bs 1 45 then then_some 2 (digits_len Decimal (drop 2 bs)) else then_some 1
+    (digits_len Decimal (drop 1 bs)))
     else Some 0
 
 abbrev pub plus : ℕ → Option ℕ → Option ℕ
@@ -49,7 +51,8 @@ plain_digit_len base bs = if test_at (is_digit base) bs 0 then 1 else 0
 abbrev pub plain_digits_len : Base → List ℕ → ℕ
 plain_digits_len base bs = run (plain_digit_len base) bs
 
--- a number of old scripts: a 0 and a digit. It is octal where all its digits are (LegacyOctalIntegerLiteral, and otherwise
+-- a number of old scripts: a 0 and a digit. It is octal where all its digits are (LegacyOctalIntegerLiteral, and
+-- otherwise
 -- NonOctalDecimalIntegerLiteral)
 abbrev pub is_legacy : List ℕ → Bool
 is_legacy bs = is_at bs 0 48 && test_at (is_digit Decimal) bs 1
@@ -64,11 +67,13 @@ whole_len bs = if is_legacy bs then plain_digits_len Decimal bs else if is_at bs
 -- 0b, 0o or 0x
 abbrev pub has_base : List ℕ → Bool
 has_base bs =
-    is_at bs 0 48 && (is_at bs 1 98 || is_at bs 1 66 || is_at bs 1 111 || is_at bs 1 79 || is_at bs 1 120 || is_at bs 1 88)
+    is_at bs 0 48 && (is_at bs 1 98 || is_at bs 1 66 || is_at bs 1 111 || is_at bs 1 79 || is_at bs 1 120
+    || is_at bs 1 88)
 
 -- by the letter after the 0
 abbrev pub base_of : List ℕ → Base
-base_of bs = if is_at bs 1 98 || is_at bs 1 66 then Binary else if is_at bs 1 111 || is_at bs 1 79 then Octal else Hexadecimal
+base_of bs = if is_at bs 1 98 || is_at bs 1 66 then Binary else if is_at bs 1 111
+    || is_at bs 1 79 then Octal else Hexadecimal
 
 abbrev pub in_base : Base → List ℕ → Option ℕ
 in_base base bs = then_some 2 (digits_len base (drop 2 bs))

@@ -18,7 +18,13 @@ in_code goal wants bs = piece_of goal (blanks_len bs) (lexeme wants (drop (blank
 
 abbrev pub delimiter : List ℕ → Option Piece
 delimiter bs =
-    if is_end bs then Some (record { goal = Delimiter; blanks = 0; kind = kind.Sign; len = if is_at bs 0 96 then 1 else 2 }) else None
+    if is_end bs then Some (record {
+      goal = Delimiter;
+      blanks = 0;
+      kind = kind.Sign;
+      len =
+          if is_at bs 0 96 then 1 else 2;
+    }) else None
 
 -- the token that is here, by the goal
 abbrev pub piece_at : Goal → List ℕ → Option Piece

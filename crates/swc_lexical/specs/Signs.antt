@@ -9,7 +9,8 @@ with_equal bs len longer = if is_at bs len 61 then longer else len
 -- a byte that is a sign of its own, with which no other begins: ( ) [ ] { } ; , : ` ~ # @
 abbrev pub is_lone : ℕ → Bool
 is_lone b =
-    nat_eq b 40 || nat_eq b 41 || nat_eq b 91 || nat_eq b 93 || nat_eq b 123 || nat_eq b 125 || nat_eq b 59 || nat_eq b 44 || nat_eq b 58
+    nat_eq b 40 || nat_eq b 41 || nat_eq b 91 || nat_eq b 93 || nat_eq b 123 || nat_eq b 125 || nat_eq b 59
+    || nat_eq b 44 || nat_eq b 58
     || nat_eq b 96 || nat_eq b 126 || nat_eq b 35 || nat_eq b 64
 
 -- `/`, `%` and `^`: alone, or with `=`
@@ -24,7 +25,8 @@ abbrev pub is_step : ℕ → Bool
 is_step b = nat_eq b 43 || nat_eq b 45
 
 abbrev pub angle_len : List ℕ → ℕ
-angle_len bs = if is_at bs 1 62 then (if is_at bs 2 62 then with_equal bs 3 4 else with_equal bs 2 3) else with_equal bs 1 2
+angle_len bs = if is_at bs 1 62 then (if is_at bs 2 62 then with_equal bs 3 4 else with_equal bs 2 3) else with_equal bs
+    1 2
 
 abbrev pub sign_of : List ℕ → ℕ → ℕ
 sign_of bs b =

@@ -25,6 +25,7 @@ in_good bs = if is_end bs then 0 else if is_at bs 0 92 then escape_len bs else o
 abbrev pub text_len : List ℕ → Option ℕ
 text_len bs = let len = run in_text bs in if nat_lt len (length bs) then Some len else None
 
--- how many bytes come before the first bad escape of the text, or before its end: the text means something where they are all
+-- how many bytes come before the first bad escape of the text, or before its end: the text means something where they
+-- are all
 abbrev pub good_len : List ℕ → ℕ
 good_len bs = run in_good bs

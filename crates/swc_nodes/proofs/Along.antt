@@ -148,8 +148,7 @@ module _ {F C K : Type 0} where
       prop-along (prop.Method k f) h =
           rw (
             key-along k (same-first at by (key_parts k) (flat param_parts f.params.items) h),
-            function-along block_at
-                f (same-second at by (key_parts k) (flat param_parts f.params.items) h),
+            function-along block_at f (same-second at by (key_parts k) (flat param_parts f.params.items) h),
           ) refl
       prop-along (prop.Getter s k b) h = rw (key-along k h) refl
       prop-along (prop.Setter s k p b) h =
@@ -185,8 +184,7 @@ module _ {F C K : Type 0} where
       node-along (n.Call s c xs) h =
           rw (
             callee-along c (same-first at by (callee_parts c) (args_parts xs) h),
-            items-along xs.items
-                (same-second at by (callee_parts c) (args_parts xs) h),
+            items-along xs.items (same-second at by (callee_parts c) (args_parts xs) h),
           ) refl
       node-along (n.New s c xs) h = rw (h.0, if-along args_parts (args_tree ats) (args_tree bys) args-along xs h.1) refl
       node-along (n.OptChain c) h = rw (base-along c.base.value h) refl
@@ -201,7 +199,8 @@ module _ {F C K : Type 0} where
       node-along (n.Yield s a d) h = rw (if-along one_expr ats bys expr-along a h) refl
       node-along (n.PatArray s elems) h =
           ap (λ v. node array s (trees v)) (list-along (if_some pat_elem_part) (or_hole (pat_elem_of at))
-          (or_hole (pat_elem_of by)) (if-along pat_elem_part (pat_elem_of at) (pat_elem_of by) elem-along) elems.items h)
+          (or_hole (pat_elem_of by)) (if-along pat_elem_part (pat_elem_of at) (pat_elem_of by) elem-along)
+          elems.items h)
       node-along (n.PatObject s props) h = ap (λ v. node object s (trees v))
           (list-along pat_prop_parts _ _ pat-prop-along props.items h)
       node-along (n.PatRest s d p) h = rw h.0 refl

@@ -355,7 +355,8 @@ pat-prop-suit (pat_prop.KeyValue s k v) =
 pat-prop-suit (pat_prop.Assign s k v) = suit-kept (if_some one_expr v)
 pat-prop-suit (pat_prop.Rest s d p) = rest-suit s p
 
-default-suit : (F C K : Type 0) (r : Role) (s : Span) (o : AssignOp) (l : TargetNode) (e : ExprId) → suits r expr ≡ true →
+default-suit : (F C K : Type 0) (r : Role) (s : Span) (o : AssignOp) (l : TargetNode) (e : ExprId)
+    → suits r expr ≡ true →
     suit (dues_by {F = F} {C = C} {K = K} (by_op o) r (n.Assign s o l e)) ≡ true
 default-suit F C K r s op.Assign l e h = left-suit r l (keep (expr_part e) ∷ []) h refl
 default-suit F C K r s o l e h = refl
@@ -376,7 +377,8 @@ module _ {F C K : Type 0} where
   dues-suit role.Keep x = suit-kept (slots x)
   dues-suit role.Nothing x = refl
   dues-suit role.Bind (n.Array s elems comma) = elems-suit role.Bind elems.items refl
-  dues-suit role.Bind (n.Object s props comma) = listed-suit (prop_dues role.Bind) (λ p. prop-suit role.Bind p refl) props.items
+  dues-suit role.Bind (n.Object s props comma) = listed-suit (prop_dues role.Bind)
+      (λ p. prop-suit role.Bind p refl) props.items
   dues-suit role.Bind (n.Assign s o l e) = default-suit F C K role.Bind s o l e refl
   dues-suit role.Bind x = refl
   dues-suit role.Assign (n.Ident i) = refl

@@ -24,7 +24,8 @@ module _ {F C K : Type 0} (fun_at : F → Span) (class_at : C → Span) (block_a
   cover-is (prop.Getter s k b) = refl
   cover-is (prop.Setter s k p b) = refl
 
-  covers : (ps : List (PropNode K)) → no_cover (trees (map (prop_of fun_at class_at block_at at) ps)) ≡ not (has_cover ps)
+  covers : (ps : List (PropNode K)) → no_cover (trees (map (prop_of fun_at class_at block_at at) ps)) ≡ not
+      (has_cover ps)
   covers [] = refl
   covers (p ∷ ps) =
       ap (λ v. not v && no_cover (trees (map (prop_of fun_at class_at block_at at) ps))) (cover-is p)
@@ -32,7 +33,8 @@ module _ {F C K : Type 0} (fun_at : F → Span) (class_at : C → Span) (block_a
 
 module _ {F C K : Type 0} {fg : Ghosts F} {cg : Ghosts C} {kg : Ghosts K} where
   pub object-covers : {ns : Nodes F C K fg cg kg} {i : ℕ} (s : Span) (props : Vec (PropNode K) Global)
-      (comma : Option Span) → Stood ns i (n.Object s props comma) → no_cover_in (tree_at ns i) ≡ not (has_cover props.items)
+      (comma : Option Span) → Stood ns i (n.Object s props comma)
+      → no_cover_in (tree_at ns i) ≡ not (has_cover props.items)
   object-covers {ns} {i} s props comma t =
       ap (λ v. no_cover_in v.tree) t.stands
       ∙ covers fg.place cg.place kg.place (λ j. (seat_before i ns j).tree) props.items
@@ -41,6 +43,7 @@ module _ {F C K : Type 0} {fg : Ghosts F} {cg : Ghosts C} {kg : Ghosts K} where
       (comma : Option Span) → Stood ns i (n.Object s props comma) → i < count ns → IsObject ns i props
   object-is {ns} {i} s props comma t lt =
       let was = λ (j : ℕ). (seat_before i ns j).tree in
-      let same = list-same was (tree_at ns) prop_parts (prop_of fg.place cg.place kg.place was) (prop_of fg.place cg.place kg.place (tree_at ns))
+      let same = list-same was (tree_at ns) prop_parts (prop_of fg.place cg.place kg.place was)
+      (prop_of fg.place cg.place kg.place (tree_at ns))
       (prop-same fg.place cg.place kg.place was (tree_at ns)) props.items (stood-trees t lt) in
       record { span = s; comma = comma; stands = ap (λ v. v.tree) t.stands ∙ ap (node (object_with comma) s) same }

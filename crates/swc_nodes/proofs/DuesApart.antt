@@ -67,8 +67,7 @@ module _ {F C K : Type 0} (at : ℕ → Seat F C K) (hi : ℕ) where
   kept-are : (ks ps : List Part) (qs : List Due) → Apart ps (map part_of_due qs) →
       Apart (ks ++ ps) (map part_of_due (map keep ks ++ qs))
   kept-are [] ps qs next = next
-  kept-are (k ∷ ks) ps qs next =
-      with-one k (ks ++ ps) (map part_of_due (map keep ks ++ qs)) (kept-are ks ps qs next)
+  kept-are (k ∷ ks) ps qs next = with-one k (ks ++ ps) (map part_of_due (map keep ks ++ qs)) (kept-are ks ps qs next)
 
   item-apart : (r : Role) (last : Bool) (s : Option Span) (e : ExprId) (ps : List Part) (qs : List Due) →
       Apart ps (map part_of_due qs) → Apart (expr_part e ∷ ps) (map part_of_due (item_dues r last s e ++ qs))
@@ -91,13 +90,15 @@ module _ {F C K : Type 0} (at : ℕ → Seat F C K) (hi : ℕ) where
       let whole = kept-are (key_parts k) (expr_part v ∷ ps) (expr_due r v ∷ qs)
       (with-one (expr_part v) ps (map part_of_due qs) next) lo
       (ap (λ u. chain at lo u hi) (sym (append_assoc (key_parts k) (one_expr v) ps)) ∙ h) in
-      ap (λ u. chain at lo (map part_of_due u) hi) (append_assoc (map keep (key_parts k)) (expr_due r v ∷ []) qs) ∙ whole
+      ap (λ u. chain at lo (map part_of_due u) hi) (append_assoc (map keep (key_parts k)) (expr_due r v ∷ []) qs)
+      ∙ whole
   prop-apart r (prop.Assign p) ps qs next = with-one (expr_part p.value) ps (map part_of_due qs) next
   prop-apart r (prop.Method k f) ps qs next = λ lo h. next lo (skip (prop_parts (prop.Method k f)) ps lo h)
   prop-apart r (prop.Getter s k b) ps qs next = λ lo h. next lo (skip (prop_parts (prop.Getter s k b)) ps lo h)
   prop-apart r (prop.Setter s k p b) ps qs next = λ lo h. next lo (skip (prop_parts (prop.Setter s k p b)) ps lo h)
 
-  pub props-apart : (r : Role) (xs : List (PropNode K)) → Apart (flat prop_parts xs) (map part_of_due (flat (prop_dues r) xs))
+  pub props-apart : (r : Role) (xs : List (PropNode K))
+      → Apart (flat prop_parts xs) (map part_of_due (flat (prop_dues r) xs))
   props-apart r [] = λ lo h. h
   props-apart r (x ∷ xs) = prop-apart r x (flat prop_parts xs) (flat (prop_dues r) xs) (props-apart r xs)
 
@@ -130,8 +131,7 @@ module _ {F C K : Type 0} (at : ℕ → Seat F C K) (hi : ℕ) where
   pub pat-elems-apart : (es : List (Option PatElem)) →
       Apart (flat (if_some pat_elem_part) es) (map part_of_due (flat pat_elem_dues es))
   pat-elems-apart [] = λ lo h. h
-  pat-elems-apart (e ∷ es) =
-      elem-apart e (flat (if_some pat_elem_part) es) (flat pat_elem_dues es) (pat-elems-apart es)
+  pat-elems-apart (e ∷ es) = elem-apart e (flat (if_some pat_elem_part) es) (flat pat_elem_dues es) (pat-elems-apart es)
 
   none-apart : (ps : List Part) → Apart ps []
   none-apart ps lo h = le-leb lo hi (chain-bound at lo ps hi h)
@@ -174,8 +174,7 @@ module _ {F C K : Type 0} (at : ℕ → Seat F C K) (hi : ℕ) where
   object-apart r x = none-apart (slots x)
 
   default-apart : (r : Role) (x : Node F C K) → Apart (slots x) (map part_of_due (default_dues r x))
-  default-apart r (n.Assign s o l e) =
-      left-apart r l (one_expr e) (map keep (one_expr e)) (all-kept (one_expr e))
+  default-apart r (n.Assign s o l e) = left-apart r l (one_expr e) (map keep (one_expr e)) (all-kept (one_expr e))
   default-apart r x = none-apart (slots x)
 
   dues-by-apart : (b : Becomes) (r : Role) (x : Node F C K) → Apart (slots x) (map part_of_due (dues_by b r x))

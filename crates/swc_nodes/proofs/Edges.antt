@@ -90,7 +90,8 @@ module _ {F C K : Type 0} (fun_at : F → Span) (class_at : C → Span) (block_a
   begins-of (n.Bin s op l r) e h = let same : l ≡ e = cc in ap (λ v. begins_in_invalid (at v.0)) same
   begins-of x e h = cc
 
-  begins-own : (x : Node F C K) → begins_in_invalid (marked_tree fun_at class_at block_at at x) ≡ false → own_start x ≡ None
+  begins-own : (x : Node F C K) → begins_in_invalid (marked_tree fun_at class_at block_at at x) ≡ false
+      → own_start x ≡ None
   begins-own (n.Invalid i) h = cc
   begins-own x h = refl
 
@@ -107,7 +108,8 @@ module _ {F C K : Type 0} (fun_at : F → Span) (class_at : C → Span) (block_a
   ends-own x h = refl
 
 module _ {F C K : Type 0} {fg : Ghosts F} {cg : Ghosts C} {kg : Ghosts K} where
-  none-begins : (ns : Nodes F C K fg cg kg) (k i : ℕ) → i < k → i < count ns → begins_in_invalid (tree_at ns i) ≡ false →
+  none-begins : (ns : Nodes F C K fg cg kg) (k i : ℕ) → i < k → i < count ns
+      → begins_in_invalid (tree_at ns i) ≡ false →
       (seat_at ns i).refused_start ≡ None
   none-begins ns zero i le lt h = absurd (omega arith)
   none-begins ns (suc k) i le lt h =
@@ -121,7 +123,8 @@ module _ {F C K : Type 0} {fg : Ghosts F} {cg : Ghosts C} {kg : Ghosts K} where
             let l = left-leads x a e t lt in
             let below = l.below in
             sym (left-same x a e t lt) ∙ none-begins ns k a.0 (omega arith) l.from.within
-            (ap (λ s. begins_in_invalid s.tree) (sym l.same) ∙ sym (begins-of fg.place cg.place kg.place _ x a e) ∙ here))
+            (ap (λ s. begins_in_invalid s.tree) (sym l.same) ∙ sym
+            (begins-of fg.place cg.place kg.place _ x a e) ∙ here))
       ] refl
 
   none-ends : (ns : Nodes F C K fg cg kg) (k i : ℕ) → i < k → i < count ns → ends_in_invalid (tree_at ns i) ≡ false →

@@ -90,10 +90,12 @@ module _ {F C K : Type 0} (fun_at : F → Span) (class_at : C → Span) (block_a
     pub whole : chain (seat_in fun_at class_at block_at (take (suc root.part.at) ns)) 0 (root.part ∷ [])
         (suc root.part.at) ≡ true
     pub pending : (k : ℕ) →
-        chain (seat_in fun_at class_at block_at (take (suc root.part.at) ns)) k (root.part ∷ []) (suc root.part.at) ≡ true →
+        chain (seat_in fun_at class_at block_at (take (suc root.part.at) ns)) k (root.part ∷ [])
+        (suc root.part.at) ≡ true →
         chain (seat_in fun_at class_at block_at (take (suc root.part.at) ns)) k (map part_of_due qs) first ≡ true
     pub suits : suit qs ≡ true
-    pub promise : Promise fun_at class_at block_at (take (suc root.part.at) ns) first qs mid (suc root.part.at) (root ∷ []) []
+    pub promise : Promise fun_at class_at block_at (take (suc root.part.at) ns) first qs mid (suc root.part.at)
+        (root ∷ []) []
     pub ranges : Ranges (seat_in fun_at class_at block_at (take (suc root.part.at) ns)) 0 cs (suc root.part.at)
 
   module _ (ns : List (Node F C K)) (root : Due) where
@@ -194,7 +196,8 @@ module _ {F C K : Type 0} (fun_at : F → Span) (class_at : C → Span) (block_a
       now-is : now ≡ take (i + 1) ns ++ (after ++ drop hi ns)
       now-is =
           let b = below in
-          ap (λ v. v ++ (no_nodes (first - (i + 1)) ++ drop ((i + 1) + (first - (i + 1))) ys)) (front-ys (i + 1) (omega arith))
+          ap (λ v. v ++ (no_nodes (first - (i + 1)) ++ drop ((i + 1) + (first - (i + 1))) ys))
+          (front-ys (i + 1) (omega arith))
           ∙ ap (λ v. take (i + 1) ns ++ (no_nodes (first - (i + 1)) ++ v)) rest-done
           ∙ ap (λ v. take (i + 1) ns ++ v) (sym (append_assoc (no_nodes (first - (i + 1))) w.mid (drop hi ns)))
 
@@ -228,8 +231,7 @@ module _ {F C K : Type 0} (fun_at : F → Span) (class_at : C → Span) (block_a
           omega arith
 
       pub now-ready : ready q.role (form (node_at now i)) ≡ true
-      now-ready =
-          ap (λ z. ready q.role (form z)) node-now ∙ suit-ready q.role q.part.view (form x) suited view
+      now-ready = ap (λ z. ready q.role (form z)) node-now ∙ suit-ready q.role q.part.view (form x) suited view
 
       pub now-parts : PartsIn (take i now) (slots (node_at now i))
       now-parts =
@@ -245,7 +247,8 @@ module _ {F C K : Type 0} (fun_at : F → Span) (class_at : C → Span) (block_a
       onward : Promise fun_at class_at block_at xs (suc i) (qs ++ q ∷ []) after hi (root ∷ []) []
       onward =
           let b = below in
-          promise-then fun_at class_at block_at xs (suc i) (qs ++ q ∷ []) (no_nodes (first - (i + 1))) first (qs ++ q ∷ [])
+          promise-then fun_at class_at block_at xs (suc i) (qs ++ q ∷ []) (no_nodes (first - (i + 1))) first
+          (qs ++ q ∷ [])
           [] w.mid hi (root ∷ []) []
           (promise-leaves fun_at class_at block_at xs (suc i) (first - (i + 1)) first qs q (omega arith)) w.promise
 
@@ -259,7 +262,8 @@ module _ {F C K : Type 0} (fun_at : F → Span) (class_at : C → Span) (block_a
           let c = counted in
           let same : take i t.over ≡ take i xs = t.same ∙ front-xs i (omega arith) in
           let h = recast-below fun_at class_at block_at xs w.order t.over i same (omega arith) q.role t.node
-          (subst (λ z. RecastIn fun_at class_at block_at t.over (becomes_as q.role z) q.role z t.node) node-now t.recast) in
+          (subst (λ z. RecastIn fun_at class_at block_at t.over (becomes_as q.role z) q.role z t.node) node-now
+          t.recast) in
           let dues : bs ≡ qs ++ dues_of q.role x = t.dues ∙ ap (λ z. qs ++ dues_of q.role z) node-now in
           let own-step = promise-node fun_at class_at block_at xs w.order q t.node (omega arith) suited view h qs in
           let whole-step = promise-then fun_at class_at block_at xs i (qs ++ dues_of q.role x) (t.node ∷ []) (suc i)
@@ -280,15 +284,18 @@ module _ {F C K : Type 0} (fun_at : F → Span) (class_at : C → Span) (block_a
             pending = λ k g.
                 subst (λ v. chain at_of k (map part_of_due v) i ≡ true) (sym dues)
                 (pending-next fun_at class_at block_at xs w.order qs q k first (omega arith) (w.pending k g));
-            suits = ap suit dues ∙ suit-both qs (dues_of q.role x) (suit-first qs (q ∷ []) w.suits) (dues-suit q.role x);
-            promise = subst (λ v. Promise fun_at class_at block_at xs i v (t.node ∷ after) hi (root ∷ []) []) (sym dues) whole-step;
+            suits = ap suit dues ∙ suit-both qs (dues_of q.role x) (suit-first qs (q ∷ []) w.suits)
+                (dues-suit q.role x);
+            promise = subst (λ v. Promise fun_at class_at block_at xs i v (t.node ∷ after) hi (root ∷ []) [])
+                (sym dues) whole-step;
             ranges = ranges-up at_of 0 ds (i + 1) hi (omega arith)
                 (ranges-dropped at_of (i + 1) 0 cs ds hi (omega arith) w.ranges d);
           }
 
       -- ---- it is settled
 
-      before-kept : (s : Settled) → s.last ≡ i → IsSettled at_of s → take s.first ns ++ drop s.first (take (suc s.last) xs)
+      before-kept : (s : Settled) → s.last ≡ i → IsSettled at_of s
+          → take s.first ns ++ drop s.first (take (suc s.last) xs)
           ≡ take (i + 1) ns
       before-kept s e k =
           let b = below in
@@ -303,7 +310,8 @@ module _ {F C K : Type 0} (fun_at : F → Span) (class_at : C → Span) (block_a
           ∙ take-append-drop s.first (take (suc s.last) xs) ∙ f
 
       step-kept : (s : Settled) → s.last ≡ i → q.role ≡ role.Keep → IsSettled at_of s →
-          Promise fun_at class_at block_at xs s.first qs (drop s.first (take (suc s.last) xs) ++ after) hi (root ∷ []) []
+          Promise fun_at class_at block_at xs s.first qs (drop s.first (take (suc s.last) xs) ++ after) hi
+          (root ∷ []) []
       step-kept s e r k =
           let b = below in
           let n = w.within in
@@ -313,9 +321,11 @@ module _ {F C K : Type 0} (fun_at : F → Span) (class_at : C → Span) (block_a
           let v : view_ok q.part.view (at_of i).form ≡ true = (fitting at_of 0 q.part (both_true own).0).view in
           let p = promise-kept fun_at class_at block_at xs w.order s (omega arith) k q.part (sym e) v qs in
           let m = drop s.first (take (suc s.last) xs) in
-          let p1 = subst (λ z. Promise fun_at class_at block_at xs s.first qs m (suc s.last) (qs ++ z ∷ []) []) same p in
+          let p1 = subst (λ z. Promise fun_at class_at block_at xs s.first qs m (suc s.last) (qs ++ z ∷ []) [])
+          same p in
           let p2 = subst (λ z. Promise fun_at class_at block_at xs s.first qs m z (qs ++ q ∷ []) []) l p1 in
-          promise-then fun_at class_at block_at xs s.first qs m (suc i) (qs ++ q ∷ []) [] after hi (root ∷ []) [] p2 onward
+          promise-then fun_at class_at block_at xs s.first qs m (suc i) (qs ++ q ∷ []) [] after hi
+          (root ∷ []) [] p2 onward
 
       settled-next : (s : Settled) (ds : List Settled) → s.last ≡ i → q.role ≡ role.Keep → IsSettled at_of s →
           DroppedFrom (i + 1) cs ds → going s.first now qs ds
@@ -345,10 +355,12 @@ module _ {F C K : Type 0} (fun_at : F → Span) (class_at : C → Span) (block_a
           }
 
       pub going-stays : (zs : List (Node F C K)) (bs : List Due) (ds : List Settled) (f : ℕ) →
-          Stays fun_at class_at block_at now zs i q.role qs bs ds f → DroppedFrom (i + 1) cs ds → (going f zs bs ds) × (f ≤ i)
+          Stays fun_at class_at block_at now zs i q.role qs bs ds f → DroppedFrom (i + 1) cs ds
+          → (going f zs bs ds) × (f ≤ i)
       going-stays zs bs ds f t d =
           let k = range-last at_of 0 t.before t.range (i + 1)
-          (subst (λ v. Ranges at_of 0 v (i + 1)) t.found (ranges-dropped at_of (i + 1) 0 cs ds hi (omega arith) w.ranges d)) in
+          (subst (λ v. Ranges at_of 0 v (i + 1)) t.found
+          (ranges-dropped at_of (i + 1) 0 cs ds hi (omega arith) w.ranges d)) in
           let o = k.0.order in
           let l = t.last in
           let g = settled-next t.range ds t.last t.keeps k.0 d in

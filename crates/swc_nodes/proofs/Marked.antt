@@ -412,8 +412,7 @@ module _ {F C K : Type 0} (fun_at : F → Span) (class_at : C → Span) (block_a
       })
 
   twin-chain : (ss tt : List (Seat F C K)) → Twins ss tt → (lo : ℕ) (ps : List Part) (hi : ℕ)
-      → chain (found ss) lo ps hi ≡ true
-      → chain (found tt) lo ps hi ≡ true
+      → chain (found ss) lo ps hi ≡ true → chain (found tt) lo ps hi ≡ true
   twin-chain ss tt w lo [] hi h = h
   twin-chain ss tt w lo (p ∷ ps) hi h =
       let b = both_true h in true_both (twin-fits ss tt w lo p b.0) (twin-chain ss tt w (suc p.at) ps hi b.1)
@@ -487,8 +486,7 @@ module _ {F C K : Type 0} (fun_at : F → Span) (class_at : C → Span) (block_a
       }
 
   twins-after : (ss tt : List (Seat F C K)) (xs : List (Node F C K)) → Twins ss tt
-      → ordered fun_at class_at block_at ss xs ≡ true
-      → Twins (after ss xs) (after tt (map (marked_node m) xs))
+      → ordered fun_at class_at block_at ss xs ≡ true → Twins (after ss xs) (after tt (map (marked_node m) xs))
       × (ordered fun_at class_at block_at tt (map (marked_node m) xs) ≡ true)
   twins-after ss tt [] w o = (w, refl)
   twins-after ss tt (x ∷ xs) w o =
@@ -616,8 +614,7 @@ module _ {F C K : Type 0} {fg : Ghosts F} {cg : Ghosts C} {kg : Ghosts K} {m : M
 
   pub marks-apart : {j : ℕ} {ps : List Part} → Apart j ns ps → Apart j ms ps
   marks-apart {j} {ps} a = record {
-    chained = ap (chain (seat_at ms) j ps) w.counted
-        ∙ marks-chain j ps (count ns) a.chained;
+    chained = ap (chain (seat_at ms) j ps) w.counted ∙ marks-chain j ps (count ns) a.chained;
   }
 
   chain-marked : (lo : ℕ) (ps : List Part) → k ≤ lo → chain (seat_at ns) lo ps (count ns) ≡ true

@@ -40,8 +40,7 @@ module _ {F C K : Type 0} (fun_at : F → Span) (class_at : C → Span) (block_a
 
   -- ---- the nodes as they were
 
-  whole : (i : ℕ) → i < length xs →
-      (xs ≡ take i xs ++ node_at xs i ∷ drop (i + 1) xs) × (length (take i xs) ≡ i)
+  whole : (i : ℕ) → i < length xs → (xs ≡ take i xs ++ node_at xs i ∷ drop (i + 1) xs) × (length (take i xs) ≡ i)
   whole i lt = split_at xs i (node_at xs i) lt (get_or_default xs i no_node (node_at xs i) lt)
 
   pub seat-split : (i : ℕ) → i < length xs →
@@ -76,7 +75,8 @@ module _ {F C K : Type 0} (fun_at : F → Span) (class_at : C → Span) (block_a
       ap (λ s. kind_of s.tree) (seat-split t lt)
       ∙ kind-alone fun_at class_at block_at (trees_of (take t xs)) (λ j. no_tree) (node_at xs t)
 
-  no-held : (f g : ℕ → Tree F C K) (x : Node F C K) → view_ok expr (form x) ≡ true → HeldPlace fun_at class_at block_at f g x
+  no-held : (f g : ℕ → Tree F C K) (x : Node F C K) → view_ok expr (form x) ≡ true
+      → HeldPlace fun_at class_at block_at f g x
   no-held f g (n.PatExpr e) h = absurd cc
   no-held f g x h = tt
 
@@ -117,7 +117,8 @@ module _ {F C K : Type 0} (fun_at : F → Span) (class_at : C → Span) (block_a
 
   same-place : (ws : List (Node F C K)) (v : View) (t : ℕ) → t < length xs → node_at ws t ≡ node_at xs t →
       view_ok v (form (node_at xs t)) ≡ true →
-      SamePlace (node_at ws) (node_at xs) (λ i. span_of (bare_tree fun_at class_at block_at ws i)) (λ i. span_of (trees_of xs i)) v t
+      SamePlace (node_at ws) (node_at xs) (λ i. span_of (bare_tree fun_at class_at block_at ws i))
+      (λ i. span_of (trees_of xs i)) v t
   same-place ws expr t lt e h =
       ap (λ x. span_of (marked_tree fun_at class_at block_at (λ j. no_tree) x)) e ∙ place-at t lt h
   same-place ws v t lt e h = tt
@@ -125,7 +126,8 @@ module _ {F C K : Type 0} (fun_at : F → Span) (class_at : C → Span) (block_a
   -- among nodes that are the same below a number
   alike-below : (ws : List (Node F C K)) (i : ℕ) → take i ws ≡ take i xs → i ≤ length xs → (lo : ℕ) (ps : List Part) →
       chain (at_of xs) lo ps i ≡ true →
-      Alike (node_at ws) (node_at xs) (λ t. span_of (bare_tree fun_at class_at block_at ws t)) (λ t. span_of (trees_of xs t)) ps
+      Alike (node_at ws) (node_at xs) (λ t. span_of (bare_tree fun_at class_at block_at ws t))
+      (λ t. span_of (trees_of xs t)) ps
   alike-below ws i e le lo [] c = tt
   alike-below ws i e le lo (p ∷ ps) c =
       let b = both_true c in
@@ -193,7 +195,8 @@ module _ {F C K : Type 0} (fun_at : F → Span) (class_at : C → Span) (block_a
 
     parts-are : slots y ≡ parts due_then
     parts-are =
-        slots-are (node_at xs) (λ t. span_of (trees_of xs t)) (own_place fun_at class_at block_at (trees_of xs)) q.role x y h
+        slots-are (node_at xs) (λ t. span_of (trees_of xs t))
+        (own_place fun_at class_at block_at (trees_of xs)) q.role x y h
 
     node-met : (qs : List Due) (k : ℕ) (zs : List (Node F C K)) → length zs ≡ i → in_order zs →
         chain (at_of zs) k (parts (qs ++ due_then)) i ≡ true →
@@ -244,15 +247,18 @@ module _ {F C K : Type 0} (fun_at : F → Span) (class_at : C → Span) (block_a
       meets = λ k zs l oz c. node-met qs k zs l oz c;
       became = λ S law k zs l oz c g.
           let us = zs ++ y ∷ [] in
-          let split : parts (qs ++ due_then) ≡ parts qs ++ parts due_then = map-append (turned (node_at xs)) qs due_then in
-          let d : chain (at_of zs) k (parts qs ++ parts due_then) i ≡ true = ap (λ v. chain (at_of zs) k v i) (sym split) ∙ c in
+          let split : parts (qs ++ due_then) ≡ parts qs ++ parts due_then =
+          map-append (turned (node_at xs)) qs due_then in
+          let d : chain (at_of zs) k (parts qs ++ parts due_then) i ≡ true =
+          ap (λ v. chain (at_of zs) k v i) (sym split) ∙ c in
           let front = chain-first (at_of zs) k (parts qs) (parts due_then) i d in
           let back = chain-second (at_of zs) k (parts qs) (parts due_then) i d in
           let under = floor-under (at_of zs) 0 (parts due_then) i back in
           let same : (t : ℕ) → t < floor (at_of zs) i (parts due_then) → at_of zs t ≡ at_of us t =
           λ t less. seat-front fun_at class_at block_at zs (y ∷ []) t (omega arith) in
           let own = became-second fun_at class_at block_at S (node_at xs) (trees_of xs) (trees_of zs) qs due_then g in
-          let now = law.law (node_at xs) (trees_of xs) (trees_of zs) q.role x y (suit-ready q.role q.part.view (form x) u v)
+          let now = law.law (node_at xs) (trees_of xs) (trees_of zs) q.role x y
+          (suit-ready q.role q.part.view (form x) u v)
           (kinds-of 0 (slots x) i (omega arith) (parts-whole i lt)) h own in
           became-both fun_at class_at block_at S (node_at xs) (trees_of xs) (trees_of us) qs (q ∷ [])
           (became-same fun_at class_at block_at S (node_at xs) (trees_of xs) (at_of zs) (at_of us) k

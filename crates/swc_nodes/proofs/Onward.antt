@@ -29,7 +29,8 @@ no-nodes-long : (F C K : Type 0) (n : ℕ) → length (no_nodes {F = F} {C = C} 
 no-nodes-long F C K zero = refl
 no-nodes-long F C K (suc n) = ap suc (no-nodes-long F C K n)
 
-pub cleared-next : {F C K : Type 0} (from i : ℕ) (xs ys : List (Node F C K)) (x : Node F C K) → from ≤ i → i < length xs →
+pub cleared-next : {F C K : Type 0} (from i : ℕ) (xs ys : List (Node F C K)) (x : Node F C K) → from ≤ i
+    → i < length xs →
     ys ≡ cleared from (i - from) xs → x ≡ no_node → slice_set ys i x ≡ cleared from ((i + 1) - from) xs
 cleared-next {F = F} {C = C} {K = K} from i xs ys x le lt e k =
     let n = i - from in
@@ -39,7 +40,8 @@ cleared-next {F = F} {C = C} {K = K} from i xs ys x le lt e k =
     let w = no-nodes-long F C K n in
     let long : i ≡ length front = omega arith in
     let at : from + n ≡ i = omega arith in
-    let rest : drop (from + n) xs ≡ slice_index_or xs i x ∷ drop (i + 1) xs = ap (λ v. drop v xs) at ∙ drop_more xs i x lt in
+    let rest : drop (from + n) xs ≡ slice_index_or xs i x ∷ drop (i + 1) xs =
+    ap (λ v. drop v xs) at ∙ drop_more xs i x lt in
     let whole : ys ≡ front ++ slice_index_or xs i x ∷ drop (i + 1) xs =
     e ∙ ap (λ v. take from xs ++ (no_nodes n ++ v)) rest
     ∙ sym (append_assoc (take from xs) (no_nodes n) (slice_index_or xs i x ∷ drop (i + 1) xs)) in
@@ -129,8 +131,10 @@ module _ {F C K : Type 0} (fun_at : F → Span) (class_at : C → Span) (block_a
     became-same at by lo hi [] same c h = tt
     became-same at by lo hi (a ∷ qs) same c h =
         let b = both_true c in
-        let w = chain-bound at (suc a.part.at) (map (turned n) qs) hi b.1 in
-        (ap (λ s. s.tree) (sym (same a.part.at (omega arith))) ∙ h.0, became-same at by (suc a.part.at) hi qs same b.1 h.1)
+        let w = chain-bound at (suc a.part.at) (map (turned n) qs) hi b.1 in (
+          ap (λ s. s.tree) (sym (same a.part.at (omega arith))) ∙ h.0,
+          became-same at by (suc a.part.at) hi qs same b.1 h.1,
+        )
 
   -- ---- nodes after others
 
@@ -187,11 +191,13 @@ module _ {F C K : Type 0} (fun_at : F → Span) (class_at : C → Span) (block_a
       long = omega arith;
       meets = λ k zs l o c. subst (λ u. met k zs u i qs i qs []) (sym (append-nil zs)) (none-met k zs i qs o c);
       became = λ S law k zs l o c h.
-          subst (λ u. Became fun_at class_at block_at S (node_at xs) (trees_of xs) (trees_of u) qs) (sym (append-nil zs)) h;
+          subst (λ u. Became fun_at class_at block_at S (node_at xs) (trees_of xs) (trees_of u) qs)
+          (sym (append-nil zs)) h;
     }
 
     -- nodes, and then more
-    two-met : (k : ℕ) (zs us ws : List (Node F C K)) (i : ℕ) (qs : List Due) (j : ℕ) (bs : List Due) (l : ℕ) (es : List Due)
+    two-met : (k : ℕ) (zs us ws : List (Node F C K)) (i : ℕ) (qs : List Due) (j : ℕ) (bs : List Due) (l : ℕ)
+        (es : List Due)
         (ms : List (Node F C K)) (cs ds : List Settled) → length us ≡ j → ws ≡ us ++ ms →
         met k zs us i qs j bs cs → met k us ws j bs l es ds → met k zs ws i qs l es (cs ++ ds)
     two-met k zs us ws i qs j bs l es ms cs ds lu e p q =
@@ -229,7 +235,8 @@ module _ {F C K : Type 0} (fun_at : F → Span) (class_at : C → Span) (block_a
           became = λ S law k zs lz o c h.
               let a = p.meets k zs lz o c in
               let lu = length-append zs m1 in
-              subst (λ u. Became fun_at class_at block_at S (node_at xs) (trees_of xs) (trees_of u) es) (append_assoc zs m1 m2)
+              subst (λ u. Became fun_at class_at block_at S (node_at xs) (trees_of xs) (trees_of u) es)
+              (append_assoc zs m1 m2)
               (q.became S law k (zs ++ m1) (omega arith) a.order a.apart (p.became S law k zs lz o c h));
         }
 
@@ -290,7 +297,8 @@ module _ {F C K : Type 0} (fun_at : F → Span) (class_at : C → Span) (block_a
           meets = λ k zs l o c.
               let n = chain-bound (at_of zs) k (parts qs) i c in
               let a = p.meets i zs l o (le-leb i i (omega arith)) in
-              let same : (t : ℕ) → t < i → at_of zs t ≡ at_of (zs ++ mid) t = λ t lt. seat-front zs mid t (omega arith) in
+              let same : (t : ℕ) → t < i → at_of zs t ≡ at_of (zs ++ mid) t =
+              λ t lt. seat-front zs mid t (omega arith) in
               let split : parts (qs ++ q ∷ []) ≡ parts qs ++ turned (node_at xs) q ∷ [] =
               map-append (turned (node_at xs)) qs (q ∷ []) in
               let moved = chain-same (at_of zs) (at_of (zs ++ mid)) k (parts qs) i same c in
@@ -306,7 +314,8 @@ module _ {F C K : Type 0} (fun_at : F → Span) (class_at : C → Span) (block_a
                 ranges = a.ranges;
               };
           became = λ S law k zs l o c h.
-              let same : (t : ℕ) → t < i → at_of zs t ≡ at_of (zs ++ mid) t = λ t lt. seat-front zs mid t (omega arith) in
+              let same : (t : ℕ) → t < i → at_of zs t ≡ at_of (zs ++ mid) t =
+              λ t lt. seat-front zs mid t (omega arith) in
               became-both S (node_at xs) (trees_of xs) (trees_of (zs ++ mid)) qs (q ∷ [])
               (became-same S (node_at xs) (trees_of xs) (at_of zs) (at_of (zs ++ mid)) k i qs same c h)
               (p.became S law i zs l o (le-leb i i (omega arith)) tt);

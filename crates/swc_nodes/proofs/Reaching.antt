@@ -187,7 +187,8 @@ module _ {F C K : Type 0} {fg : Ghosts F} {cg : Ghosts C} {kg : Ghosts K} where
     number_of : (before behind : List Part) (x q : Part) → found ≡ before ++ x ∷ behind → Contains (parts_at ns x.at) q
         → q.at < count ns
     number_of before behind x q s h =
-        let in_found = subst (λ v. Contains v x) (sym s) (Contains-append_right before (x ∷ behind) x (here x behind)) in
+        let in_found = subst (λ v. Contains v x) (sym s)
+        (Contains-append_right before (x ∷ behind) x (here x behind)) in
         part_number ns x.at q (reached_number ns ps x (g.only x in_found)) h
 
     -- it has no node
@@ -325,7 +326,11 @@ module _ {F C K : Type 0} {fg : Ghosts F} {cg : Ghosts C} {kg : Ghosts K} where
 
   module _ {ns : Nodes F C K fg cg kg} {ps found : List Part} (g : Going ns ps [] found) where
     pub parts-first : PartsFirst ns found
-    parts-first before behind p q s h = elim (g.closed before behind p q s h) [ inl i ↦ absurd (in_none q i) | inr i ↦ i ]
+    parts-first before behind p q s h = elim (g.closed before behind p q s h) [
+      | inl i ↦ absurd (in_none q i)
+      | inr
+          i ↦ i
+    ]
 
     complete : (q : Part) → Reaches ns ps q → Contains found q
     complete q (itself h lt) = elim (g.given q h lt) [ inl i ↦ absurd (in_none q i) | inr i ↦ i ]

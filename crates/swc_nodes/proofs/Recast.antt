@@ -189,7 +189,8 @@ module _ {F C K : Type 0} (at : ℕ → Node F C K) where
       flat parts (map new xs) ≡ map (turned at) (flat own xs)
   listed-are parts new own same [] = refl
   listed-are parts new own same (x ∷ xs) =
-      ap (λ v. v ++ flat parts (map new xs)) (same x) ∙ ap (λ v. map (turned at) (own x) ++ v) (listed-are parts new own same xs)
+      ap (λ v. v ++ flat parts (map new xs)) (same x) ∙ ap (λ v. map (turned at) (own x) ++ v)
+      (listed-are parts new own same xs)
       ∙ sym (map-append (turned at) (own x) (flat own xs))
 
   pub bound-elems : (es : List (Option PatElem)) →

@@ -1,4 +1,5 @@
--- The literals of a node's tree are the node itself, if it is one, and those of its parts' trees; and what is remembered of them.
+-- The literals of a node's tree are the node itself, if it is one, and those of its parts' trees; and what is
+-- remembered of them.
 use Rattle.std.proofs.Common.{◌≡◌, ℕ, ◌<◌, List, [], ◌∷◌, ◌++◌, Option, Some, None, map, refl, sym, ap, subst, ◌∙◌, append_assoc}
 use Rattle.std.proofs.lemmas.List.{append-nil, map-append}
 use Rattle.std.specs.{Prelude.nat_eq, Prelude.if◌then◌else◌, declared.alloc.Global.Global, declared.vec.Vec.Vec}
@@ -19,24 +20,29 @@ module _ {F C K : Type 0} (at : ℕ → Tree F C K) where
   pub part-append : (ps qs : List Part) → commas_by (ps ++ qs) ≡ commas_by qs ++ commas_by ps
   part-append [] qs = sym (append-nil (commas_by qs))
   part-append (p ∷ ps) qs =
-      ap (λ v. v ++ commas_in (at p.at)) (part-append ps qs) ∙ append_assoc (commas_by qs) (commas_by ps) (commas_in (at p.at))
+      ap (λ v. v ++ commas_in (at p.at)) (part-append ps qs) ∙ append_assoc (commas_by qs) (commas_by ps)
+      (commas_in (at p.at))
 
   -- two parts of a tree, one after another
   both : (ps qs : List Part) (x y : List Literal) → x ≡ commas_by ps → y ≡ commas_by qs → y ++ x ≡ commas_by (ps ++ qs)
   both ps qs x y d e = ap (λ v. y ++ v) d ∙ ap (λ v. v ++ commas_by ps) e ∙ sym (part-append ps qs)
 
   -- lists of parts
-  listed : {X : Type 0} (f : X → Tree F C K) (parts : X → List Part) → ((x : X) → commas_in (f x) ≡ commas_by (parts x)) → (xs : List X)
+  listed : {X : Type 0} (f : X → Tree F C K) (parts : X → List Part) → ((x : X) → commas_in (f x) ≡ commas_by (parts x))
+      → (xs : List X)
       → commas_of_all (trees (map f xs)) ≡ commas_by (flat parts xs)
   listed f parts same [] = refl
   listed f parts same (x ∷ xs) = both (parts x) (flat parts xs) _ _ (same x) (listed f parts same xs)
 
   texts : {X : Type 0} (f : X → Tree F C K) (parts : X → List Part) → ((x : X) → commas_in (f x) ≡ commas_by (parts x))
-      → (qs : List TplElement) (xs : List X) → commas_of_all (trees (map quasi_tree qs ++ map f xs)) ≡ commas_by (flat parts xs)
+      → (qs : List TplElement) (xs : List X) → commas_of_all (trees (map quasi_tree qs ++ map f xs)) ≡ commas_by
+      (flat parts xs)
   texts f parts same [] xs = listed f parts same xs
-  texts f parts same (q ∷ qs) xs = append-nil (commas_of_all (trees (map quasi_tree qs ++ map f xs))) ∙ texts f parts same qs xs
+  texts f parts same (q ∷ qs) xs = append-nil (commas_of_all (trees (map quasi_tree qs ++ map f xs)))
+      ∙ texts f parts same qs xs
 
-  module _ {X : Type 0} (f : X → Tree F C K) (parts : X → List Part) (same : (x : X) → commas_in (f x) ≡ commas_by (parts x)) where
+  module _ {X : Type 0} (f : X → Tree F C K) (parts : X → List Part)
+      (same : (x : X) → commas_in (f x) ≡ commas_by (parts x)) where
     if_there : (o : Option X) → commas_in (or_hole f o) ≡ commas_by (if_some parts o)
     if_there None = refl
     if_there (Some x) = same x
@@ -94,17 +100,20 @@ module _ {F C K : Type 0} (at : ℕ → Tree F C K) where
   pub tpl-commas : (t : Tpl ExprId) → commas_in (tpl_tree expr t) ≡ commas_by (flat one_expr t.exprs.items)
   tpl-commas t = texts expr one_expr expr_same t.quasis.items t.exprs.items
 
-  args_if : (o : Option (Vec (ExprOrSpread ExprId) Global)) → commas_in (or_hole (args_tree expr) o) ≡ commas_by (if_some args_parts o)
+  args_if : (o : Option (Vec (ExprOrSpread ExprId) Global))
+      → commas_in (or_hole (args_tree expr) o) ≡ commas_by (if_some args_parts o)
   args_if = if_there (args_tree expr) args_parts args-commas
 
-  function_commas : (block_at : K → Span) (x : Function PatId K) → commas_in (function_tree block_at pat x) ≡ commas_by (flat param_parts x.params.items)
+  function_commas : (block_at : K → Span) (x : Function PatId K)
+      → commas_in (function_tree block_at pat x) ≡ commas_by (flat param_parts x.params.items)
   function_commas block_at x = append-nil _ ∙ listed (param_tree pat) param_parts (λ p. refl) x.params.items
 
 module _ {F C K : Type 0} (fun_at : F → Span) (class_at : C → Span) (block_at : K → Span) (at : ℕ → Tree F C K) where
   abbrev commas_now : List Part → List Literal
   commas_now = part_commas at
 
-  target_commas : (t : TargetNode) → commas_in (target_of fun_at class_at block_at at t) ≡ commas_now (target_part t ∷ [])
+  target_commas : (t : TargetNode) → commas_in (target_of fun_at class_at block_at at t) ≡ commas_now
+      (target_part t ∷ [])
   target_commas (target.Simple e) = refl
   target_commas (target.Pat p) = refl
 
@@ -113,7 +122,8 @@ module _ {F C K : Type 0} (fun_at : F → Span) (class_at : C → Span) (block_a
   prop-commas (prop.Shorthand i) = refl
   prop-commas (prop.KeyValue s k v) = both at (key_parts k) (one_expr v) _ _ (key-commas at k) refl
   prop-commas (prop.Assign p) = append-nil (commas_in (at p.value.0))
-  prop-commas (prop.Method k f) = both at (key_parts k) (flat param_parts f.params.items) _ _ (key-commas at k) (function_commas at block_at f)
+  prop-commas (prop.Method k f) = both at (key_parts k) (flat param_parts f.params.items) _ _ (key-commas at k)
+      (function_commas at block_at f)
   prop-commas (prop.Getter s k b) = key-commas at k
   prop-commas (prop.Setter s k p b) = both at (key_parts k) (one_pat p) _ _ (key-commas at k) refl
 
@@ -125,15 +135,18 @@ module _ {F C K : Type 0} (fun_at : F → Span) (class_at : C → Span) (block_a
   elem-commas (elem.Item p) = part-commas p
   elem-commas (elem.Rest s d p) = append-nil (commas_in (part_tree at p)) ∙ part-commas p
 
-  pub pat-prop-commas : (p : PatPropNode) → commas_in (pat_prop_of fun_at class_at block_at at p) ≡ commas_now (pat_prop_parts p)
+  pub pat-prop-commas : (p : PatPropNode) → commas_in (pat_prop_of fun_at class_at block_at at p) ≡ commas_now
+      (pat_prop_parts p)
   pat-prop-commas (pat_prop.KeyValue s k v) = both at (key_parts k) (part_parts v) _ _ (key-commas at k) (part-commas v)
   pat-prop-commas (pat_prop.Assign s k v) = append-nil _ ∙ if_there at (λ (e : ExprId). at e.0) one_expr (λ e. refl) v
   pat-prop-commas (pat_prop.Rest s d p) = append-nil (commas_in (part_tree at p)) ∙ part-commas p
 
-  pub node-commas : (x : Node F C K) → commas_in (marked_tree fun_at class_at block_at at x) ≡ node_comma x ++ commas_now (outer_parts x)
+  pub node-commas : (x : Node F C K) → commas_in (marked_tree fun_at class_at block_at at x) ≡ node_comma x
+      ++ commas_now (outer_parts x)
   node-commas (n.Array s elems comma) =
       ap (λ v. (s.lo.0, comma) ∷ v)
-      (listed at (or_hole (item_tree (λ (e : ExprId). at e.0))) (if_some item_parts) (if_there at (item_tree (λ (e : ExprId). at e.0)) item_parts (an_item at)) elems.items)
+      (listed at (or_hole (item_tree (λ (e : ExprId). at e.0))) (if_some item_parts)
+      (if_there at (item_tree (λ (e : ExprId). at e.0)) item_parts (an_item at)) elems.items)
   node-commas (n.Object s props comma) =
       ap (λ v. (s.lo.0, comma) ∷ v) (listed at (prop_of fun_at class_at block_at at) prop_parts prop-commas props.items)
   node-commas (n.Assign s op l r) = both at (target_part l ∷ []) (one_expr r) _ _ (target_commas l) refl
@@ -144,14 +157,17 @@ module _ {F C K : Type 0} (fun_at : F → Span) (class_at : C → Span) (block_a
   node-commas (n.New s c xs) = both at (one_expr c) (if_some args_parts xs) _ _ refl (args_if at xs)
   node-commas (n.OptChain c) = base_commas at c.base.value
   node-commas (n.Tpl t) = tpl-commas at t
-  node-commas (n.TaggedTpl s t q) = both at (one_expr t) (flat one_expr q.value.exprs.items) _ _ refl (tpl-commas at q.value)
+  node-commas (n.TaggedTpl s t q) = both at (one_expr t) (flat one_expr q.value.exprs.items) _ _ refl
+      (tpl-commas at q.value)
   node-commas (n.Arrow s ps b a) = listed at (λ (p : PatId). at p.0) one_pat (λ p. refl) ps.items
   node-commas (n.Yield s a d) = if_there at (λ (e : ExprId). at e.0) one_expr (λ e. refl) a
   node-commas (n.PatArray s elems) =
       ap (λ v. (s.lo.0, None) ∷ v)
-      (listed at (or_hole (pat_elem_of at)) (if_some pat_elem_part) (if_there at (pat_elem_of at) pat_elem_part elem-commas) elems.items)
+      (listed at (or_hole (pat_elem_of at)) (if_some pat_elem_part)
+      (if_there at (pat_elem_of at) pat_elem_part elem-commas) elems.items)
   node-commas (n.PatObject s props) =
-      ap (λ v. (s.lo.0, None) ∷ v) (listed at (pat_prop_of fun_at class_at block_at at) pat_prop_parts pat-prop-commas props.items)
+      ap (λ v. (s.lo.0, None) ∷ v) (listed at (pat_prop_of fun_at class_at block_at at) pat_prop_parts pat-prop-commas
+      props.items)
   node-commas (n.PatAssign s l r) = both at (part_parts l) (one_expr r) _ _ (part-commas l) refl
   node-commas (n.PatRest s d p) = append-nil (commas_in (at p.0))
   node-commas x = refl
@@ -204,7 +220,8 @@ module _ {F C K : Type 0} (at by : ℕ → Tree F C K) where
   parts_same : (ps : List Part) → SameTrees at by ps → part_commas at ps ≡ part_commas by ps
   parts_same [] h = refl
   parts_same (p ∷ ps) h =
-      ap (λ v. v ++ commas_in (at p.at)) (parts_same ps (same_rest h)) ∙ ap (λ t. part_commas by ps ++ commas_in t) (same_first h)
+      ap (λ v. v ++ commas_in (at p.at)) (parts_same ps (same_rest h)) ∙ ap (λ t. part_commas by ps ++ commas_in t)
+      (same_first h)
 
 module _ {F C K : Type 0} {fg : Ghosts F} {cg : Ghosts C} {kg : Ghosts K} where
   pub stood-commas : {ns : Nodes F C K fg cg kg} {i : ℕ} {x : Node F C K} → Stood ns i x → i < count ns
@@ -217,7 +234,8 @@ module _ {F C K : Type 0} {fg : Ghosts F} {cg : Ghosts C} {kg : Ghosts K} where
 
 -- ---- what is remembered
 
-recalled_append : (ls ms : List Literal) (at : ℕ) (was : Option Span) → recalled (ls ++ ms) at was ≡ recalled ms at (recalled ls at was)
+recalled_append : (ls ms : List Literal) (at : ℕ) (was : Option Span)
+    → recalled (ls ++ ms) at was ≡ recalled ms at (recalled ls at was)
 recalled_append [] ms at was = refl
 recalled_append (l ∷ ls) ms at was = recalled_append ls ms at (if nat_eq l.0 at then l.1 else was)
 
@@ -226,10 +244,14 @@ pub taken : (a b : List PartId) (p : PartId) → a ≡ b ++ p ∷ [] → map par
 taken a b p e = ap (map part_of) e ∙ map-append part_of b (p ∷ [])
 
 module _ {F C K : Type 0} {fg : Ghosts F} {cg : Ghosts C} {kg : Ghosts K} where
-  -- Those of the parts a are still to be remembered; the last of them is taken, remembered itself, and its parts put in its place.
-  pub turn_commas : (ns : Nodes F C K fg cg kg) (a b r : List Part) (p : Part) (x : Node F C K) (old new : TrailingCommas)
-      → a ≡ b ++ p ∷ [] → r ≡ b ++ outer_parts x → Stood ns p.at x → p.at < count ns → Recalls (node_comma x) old new → (at : ℕ)
-      → recalled (part_commas (tree_at ns) r) at (comma_at new at) ≡ recalled (part_commas (tree_at ns) a) at (comma_at old at)
+  -- Those of the parts a are still to be remembered; the last of them is taken, remembered itself, and its parts put in
+  -- its place.
+  pub turn_commas : (ns : Nodes F C K fg cg kg) (a b r : List Part) (p : Part) (x : Node F C K)
+      (old new : TrailingCommas)
+      → a ≡ b ++ p ∷ [] → r ≡ b ++ outer_parts x → Stood ns p.at x → p.at < count ns → Recalls (node_comma x) old new
+      → (at : ℕ)
+      → recalled (part_commas (tree_at ns) r) at (comma_at new at) ≡ recalled (part_commas (tree_at ns) a) at
+      (comma_at old at)
   turn_commas ns a b r p x old new taken put stood lt done at =
       let by = part_commas (tree_at ns) in
       let left : by r ≡ by (outer_parts x) ++ by b = ap by put ∙ part-append (tree_at ns) b (outer_parts x) in

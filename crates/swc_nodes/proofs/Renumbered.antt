@@ -14,7 +14,8 @@ use Rattle.swc_nodes.proofs.Lists.{trees-both}
 pub args-same : {F C K : Type 0} {ts us : Trees F C K} → node args no_span ts ≡ node args no_span us → ts ≡ us
 args-same e = cc
 
-pub trees-after : {F C K : Type 0} (ts us vs : List (Tree F C K)) → trees us ≡ trees vs → trees (ts ++ us) ≡ trees (ts ++ vs)
+pub trees-after : {F C K : Type 0} (ts us vs : List (Tree F C K)) → trees us ≡ trees vs
+    → trees (ts ++ us) ≡ trees (ts ++ vs)
 trees-after ts us vs e = trees-both ts us ∙ ap (trees_append (trees ts)) e ∙ sym (trees-both ts vs)
 
 -- ---- numbers from 0 on are the list itself
@@ -126,5 +127,6 @@ module _ {F C K X : Type 0} (parts : X → List Part) (of : (ℕ → Tree F C K)
       let each : Each old.items new = λ k d g. r.visited k d (omega arith) g in
       record {
         placed = ap (flat parts) is ∙ each-placed old.items new l each;
-        stands = λ at. ap (λ ts. node args no_span (trees ts)) (ap (map (of at)) is ∙ each-stands at old.items new l each);
+        stands = λ at. ap (λ ts. node args no_span (trees ts))
+            (ap (map (of at)) is ∙ each-stands at old.items new l each);
       }

@@ -64,7 +64,8 @@ module _ {F C K : Type 0} (fun_at : F → Span) (class_at : C → Span) (block_a
             let a = p.meets k zs l o c in
             record {
               order = a.order;
-              apart = subst (λ v. chain (seat_in fun_at class_at block_at (zs ++ mid)) k (v ∷ []) j ≡ true) same a.apart;
+              apart = subst (λ v. chain (seat_in fun_at class_at block_at (zs ++ mid)) k (v ∷ []) j ≡ true) same
+                  a.apart;
               lowest = subst (λ v. floor (seat_in fun_at class_at block_at (zs ++ mid)) j (v ∷ []) ≡ i) same a.lowest;
               above = a.above;
               ranges = a.ranges;
@@ -218,7 +219,8 @@ module _ {F C K : Type 0} (fun_at : F → Span) (class_at : C → Span) (block_a
       own-above =
           let c = chain-last at_of 0 (map part_of_due qs) q.part end (pending-parts 0 w.whole) in
           ap (λ v. chain (seat_in fun_at class_at block_at v) (at_of i).first (q.part ∷ []) (suc i)) upto
-          ∙ chain-same at_of (seat_in fun_at class_at block_at (up_to q ns)) (at_of i).first (q.part ∷ []) (suc i) same-seat
+          ∙ chain-same at_of (seat_in fun_at class_at block_at (up_to q ns)) (at_of i).first (q.part ∷ [])
+          (suc i) same-seat
           (chain-raise at_of (at_of i).first (q.part ∷ []) (suc i) c (omega arith))
 
       back-ranges : (es : List Settled) (n : ℕ) → n ≤ suc i →
@@ -238,7 +240,8 @@ module _ {F C K : Type 0} (fun_at : F → Span) (class_at : C → Span) (block_a
           let lp = r.promise.long in
           let le : f ≤ suc i = omega arith in
           let o = r.above (at_of i).first own-above in
-          let p1 = subst (λ v. Promise fun_at class_at block_at v f [] r.mid (suc i) (q ∷ []) (range ∷ [])) upto r.promise in
+          let p1 = subst (λ v. Promise fun_at class_at block_at v f [] r.mid (suc i) (q ∷ []) (range ∷ [])) upto
+          r.promise in
           let seat = same-seat i (omega arith) in
           let p2 = promise-same (up_to q ns) ns q f r.mid (suc i) (range ∷ [])
           (node-below (up_to q ns) ns (suc i) i (take-take (suc i) (suc i) ns (omega arith)) (omega arith))
@@ -247,7 +250,8 @@ module _ {F C K : Type 0} (fun_at : F → Span) (class_at : C → Span) (block_a
           let p4 = promise-leaves fun_at class_at block_at ns (suc i) (end - (i + 1)) end qs q (omega arith) in
           let p5 = promise-then fun_at class_at block_at ns (suc i) (qs ++ q ∷ []) (no_nodes (end - (i + 1))) end
           (qs ++ q ∷ []) [] w.mid w.hi all (reverse bs) p4 w.promise in
-          let p6 = promise-then fun_at class_at block_at ns f qs r.mid (suc i) (qs ++ q ∷ []) (range ∷ []) after w.hi all
+          let p6 = promise-then fun_at class_at block_at ns f qs r.mid (suc i) (qs ++ q ∷ [])
+          (range ∷ []) after w.hi all
           (reverse bs) p3 p5 in
           let l : suc i ≡ i + 1 = omega arith in
           let rest : drop (suc i) now ≡ after =
@@ -301,7 +305,8 @@ module _ {F C K : Type 0} (fun_at : F → Span) (class_at : C → Span) (block_a
 
       -- its range can't be held
       pub all-stopped : (f : ℕ) (zs ks : List (Node F C K)) (es : List Settled) →
-          RootDone fun_at class_at block_at now q f zs es → ks ≡ take f zs → AllKept fun_at class_at block_at ns all ks es
+          RootDone fun_at class_at block_at now q f zs es → ks ≡ take f zs
+          → AllKept fun_at class_at block_at ns all ks es
       all-stopped f zs ks es r e =
           let b = below in
           let n = w.within in
@@ -322,7 +327,8 @@ module _ {F C K : Type 0} (fun_at : F → Span) (class_at : C → Span) (block_a
             (ap (ordered fun_at class_at block_at []) (take-append-drop end ns) ∙ w.order)
 
         all-met : Met fun_at class_at block_at ns 0 (take end ns) (take end ns ++ w.mid) end [] w.hi all (reverse bs)
-        all-met = w.promise.meets 0 (take end ns) (length-take-le end ns w.within) front-ordered (le-leb 0 end (omega arith))
+        all-met = w.promise.meets 0 (take end ns) (length-take-le end ns w.within) front-ordered
+            (le-leb 0 end (omega arith))
 
         pub all-ranges : (Ranges (seat_in fun_at class_at block_at ys) 0 cs end)
             × Ranges (seat_in fun_at class_at block_at ys) end (reverse bs) (length ys)
@@ -339,7 +345,8 @@ module _ {F C K : Type 0} (fun_at : F → Span) (class_at : C → Span) (block_a
             ∙ ap (λ v. seat_in fun_at class_at block_at v j) (sym w.nodes) in (
               ranges-same at_of (seat_in fun_at class_at block_at ys) 0 cs end same h,
               subst (λ v. Ranges (seat_in fun_at class_at block_at ys) end (reverse bs) v) l
-                  (subst (λ v. Ranges (seat_in fun_at class_at block_at v) end (reverse bs) w.hi) (sym w.nodes) (all-met).ranges),
+                  (subst (λ v. Ranges (seat_in fun_at class_at block_at v) end (reverse bs) w.hi) (sym w.nodes)
+                  (all-met).ranges),
             )
 
         pub all-kept : (es : List Settled) → Ranges (seat_in fun_at class_at block_at ys) 0 es (length ys) →
@@ -355,7 +362,8 @@ module _ {F C K : Type 0} (fun_at : F → Span) (class_at : C → Span) (block_a
               kept = λ k g.
                   let b = leb-true k end (w.pending k g) in (
                     sym (take-take k end ys b)
-                        ∙ ap (take k) (ap (take end) w.nodes ∙ take_at (take end ns) w.mid end t) ∙ take-take k end ns b,
+                        ∙ ap (take k) (ap (take end) w.nodes ∙ take_at (take end ns) w.mid end t)
+                        ∙ take-take k end ns b,
                     omega arith,
                   );
             }

@@ -50,7 +50,8 @@ module _ {F C K : Type 0} {fg : Ghosts F} {cg : Ghosts C} {kg : Ghosts K} where
       let u = f.above in let v = f.first in
       from-down (omega arith) (from-nth (suc y.0) ys j x (omega arith) e (record { chained = b.1 }))
 
-  pub one-made : {ns : Nodes F C K fg cg kg} (xs : List ExprId) (x : ExprId) → length xs ≡ 1 → x ≡ slice_index_or xs 0 x →
+  pub one-made : {ns : Nodes F C K fg cg kg} (xs : List ExprId) (x : ExprId) → length xs ≡ 1
+      → x ≡ slice_index_or xs 0 x →
       (k : ℕ) → Apart k ns (flat one_expr xs) →
       Made k ns (expr_part x) (seq_between (first_start ns xs) (last_end ns xs) (trees (map (λ e. tree_at ns e.0) xs)))
   one-made [] x l e k a = absurd (omega arith)
@@ -59,7 +60,8 @@ module _ {F C K : Type 0} {fg : Ghosts F} {cg : Ghosts C} {kg : Ghosts K} where
   one-made (y ∷ z ∷ zs) x l e k a = absurd (omega arith)
 
   -- where the first one begins, and where the last one ends
-  pub first-is : (ns : Nodes F C K fg cg kg) (xs : List ExprId) (x : ExprId) → 1 ≤ length xs → x ≡ slice_index_or xs 0 x →
+  pub first-is : (ns : Nodes F C K fg cg kg) (xs : List ExprId) (x : ExprId) → 1 ≤ length xs
+      → x ≡ slice_index_or xs 0 x →
       start_at ns x.0 ≡ first_start ns xs
   first-is ns [] x le e = absurd (omega arith)
   first-is ns (y ∷ ys) x le e = ap (λ v. start_at ns v.0) e
@@ -91,7 +93,8 @@ module _ {F C K : Type 0} {fg : Ghosts F} {cg : Ghosts C} {kg : Ghosts K} where
       }
 
   -- what items hold lies apart as the items do, and what is made of it is made of them
-  pub held-apart : {ns : Nodes F C K fg cg kg} {k : ℕ} (es : Vec ExprId Global) (items : Vec (ExprOrSpread ExprId) Global) →
+  pub held-apart : {ns : Nodes F C K fg cg kg} {k : ℕ} (es : Vec ExprId Global)
+      (items : Vec (ExprOrSpread ExprId) Global) →
       es.items ≡ map (λ x. x.expr) items.items → Apart k ns (args_parts items) → Apart k ns (exprs_parts es)
   held-apart {ns} {k} es items e a =
       let same = ap (flat one_expr) e ∙ held-parts items.items in

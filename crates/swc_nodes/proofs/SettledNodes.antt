@@ -46,7 +46,8 @@ module _ {F C K : Type 0} (fun_at : F → Span) (class_at : C → Span) (block_a
             (λ i lt. seat-front fun_at class_at block_at xs ms i lt) h.ranges);
       }
 
-  pub settled-pushed : {A B : Type 0} (r : Result A B) (xs ys : List (Node F C K)) (x : Node F C K) (bs : List Settled) →
+  pub settled-pushed : {A B : Type 0} (r : Result A B) (xs ys : List (Node F C K)) (x : Node F C K)
+      (bs : List Settled) →
       ys ≡ (if is_ok r then xs ++ x ∷ [] else xs) → settled xs bs → settled ys bs
   settled-pushed (Ok a) xs ys x bs e h = subst (λ v. settled v bs) (sym e) (settled-more xs (x ∷ []) bs h)
   settled-pushed (Err a) xs ys x bs e h = subst (λ v. settled v bs) (sym e) h

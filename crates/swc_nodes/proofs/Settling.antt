@@ -14,7 +14,8 @@ use Rattle.swc_nodes.proofs.Along.{Same, node-along}
 use Rattle.swc_nodes.proofs.Chains.{both_true, true_both, Fitting, fitting, fits-of, chain-cons}
 use Rattle.swc_nodes.proofs.Marked.{more}
 
-same-length : {X : Type 0} (xs ys : List X) (x y : X) → length xs ≡ length ys → length (xs ++ x ∷ []) ≡ length (ys ++ y ∷ [])
+same-length : {X : Type 0} (xs ys : List X) (x y : X) → length xs ≡ length ys
+    → length (xs ++ x ∷ []) ≡ length (ys ++ y ∷ [])
 same-length xs ys x y l = let a = length-append xs (x ∷ []) in let b = length-append ys (y ∷ []) in omega arith
 
 -- the seats of parts are the same
@@ -140,10 +141,13 @@ module _ {F C K : Type 0} (fun_at : F → Span) (class_at : C → Span) (block_a
       let here : seat_of (found ss) (length ss) x ≡ seat_of (found us) (length us) x =
       seat-along (found ss) (found us) fun_at class_at block_at (length ss) x parts
       ∙ ap (λ m. seat_of (found us) m x) (sym l) in
-      let longer : length (us ++ seat_of (found us) (length us) x ∷ []) ≡ length (ss ++ seat_of (found ss) (length ss) x ∷ []) =
+      let longer : length (us ++ seat_of (found us) (length us) x ∷ []) ≡ length
+      (ss ++ seat_of (found ss) (length ss) x ∷ []) =
       same-length us ss (seat_of (found us) (length us) x) (seat_of (found ss) (length ss) x) l in
-      let next = over k (ss ++ seat_of (found ss) (length ss) x ∷ []) (us ++ seat_of (found us) (length us) x ∷ []) xs longer
-      (more (λ i s t. k ≤ i → s ≡ t) ss us (seat_of (found ss) (length ss) x) (seat_of (found us) (length us) x) no_seat l
+      let next = over k (ss ++ seat_of (found ss) (length ss) x ∷ [])
+      (us ++ seat_of (found us) (length us) x ∷ []) xs longer
+      (more (λ i s t. k ≤ i → s ≡ t) ss us (seat_of (found ss) (length ss) x)
+      (seat_of (found us) (length us) x) no_seat l
       (λ i lt. same i) (λ le. here) (λ i lt le. refl)) b.1 a.1 in
       record {
         order = true_both (ap (chain (found us) 0 (slots x)) l ∙ now) next.order;

@@ -102,7 +102,8 @@ module _ {F C K : Type 0} (fun_at : F → Span) (class_at : C → Span) (block_a
           ∙ ap (λ z. z.first) (seat-taken fun_at class_at block_at xs o (suc b.last) j (omega arith) (omega arith)) in
           omega arith)
 
-      module _ (zs : List (Node F C K)) (l : length zs ≡ b.first) (oz : ordered fun_at class_at block_at [] zs ≡ true) where
+      module _ (zs : List (Node F C K)) (l : length zs ≡ b.first)
+          (oz : ordered fun_at class_at block_at [] zs ≡ true) where
         long-after : length (after zs) ≡ length (after front)
         long-after =
             let f = long-front in
@@ -116,7 +117,8 @@ module _ {F C K : Type 0} (fun_at : F → Span) (class_at : C → Span) (block_a
             let a = after_length fun_at class_at block_at [] zs in
             let c = after_length fun_at class_at block_at [] front in
             over fun_at class_at block_at b.first (after front) (after zs) range_nodes long-after
-            (λ i le. get_or_past (after front) i no_seat (omega arith) ∙ sym (get_or_past (after zs) i no_seat (omega arith)))
+            (λ i le. get_or_past (after front) i no_seat (omega arith) ∙ sym
+            (get_or_past (after zs) i no_seat (omega arith)))
             (ordered_back fun_at class_at block_at [] front range_nodes ordered-ws) range-above
 
         range-seat : (t : ℕ) → b.first ≤ t → t < suc b.last → at_of xs t ≡ at_of (zs ++ range_nodes) t
@@ -127,7 +129,8 @@ module _ {F C K : Type 0} (fun_at : F → Span) (class_at : C → Span) (block_a
             ∙ (range-over).same t lo
             ∙ sym (ap (λ v. found v t) (after_append fun_at class_at block_at [] zs range_nodes))
 
-      module _ (p : Part) (e : p.at ≡ b.last) (v : view_ok p.view (seat_in fun_at class_at block_at xs p.at).form ≡ true) where
+      module _ (p : Part) (e : p.at ≡ b.last) (v : view_ok p.view
+          (seat_in fun_at class_at block_at xs p.at).form ≡ true) where
         abbrev q : Due
         q = keep p
 
@@ -144,7 +147,12 @@ module _ {F C K : Type 0} (fun_at : F → Span) (class_at : C → Span) (block_a
             let first : (at_of us p.at).first ≡ b.first =
             ap (λ z. z.first) (sym here) ∙ ap (λ i. (at_of xs i).first) e ∙ s.first in
             let fit : Fitting (at_of us) b.first p =
-            record { above = omega arith; first = omega arith; view = ap (λ z. view_ok p.view z.form) (sym here) ∙ v } in
+            record {
+              above = omega arith;
+              first = omega arith;
+              view =
+                  ap (λ z. view_ok p.view z.form) (sym here) ∙ v;
+            } in
             let last = chain-one (at_of us) b.first p (suc b.last) fit (omega arith) in
             let moved = chain-same (at_of zs) (at_of us) k (parts qs) b.first same c in
             let bound = chain-bound (at_of zs) k (parts qs) b.first c in
@@ -175,7 +183,8 @@ module _ {F C K : Type 0} (fun_at : F → Span) (class_at : C → Span) (block_a
                   let same : (t : ℕ) → t < b.first → at_of zs t ≡ at_of us t =
                   λ t less. seat-front fun_at class_at block_at zs range_nodes t (omega arith) in
                   became-both fun_at class_at block_at S (node_at xs) (trees_of xs) (trees_of us) qs (q ∷ [])
-                  (became-same fun_at class_at block_at S (node_at xs) (trees_of xs) (at_of zs) (at_of us) k b.first qs same c g)
+                  (became-same fun_at class_at block_at S (node_at xs) (trees_of xs) (at_of zs)
+                  (at_of us) k b.first qs same c g)
                   (ap (λ z. z.tree) (sym (range-seat zs l oz p.at (omega arith) (omega arith))), tt);
             }
 

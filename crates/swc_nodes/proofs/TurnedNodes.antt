@@ -13,7 +13,8 @@ use Rattle.swc_nodes.specs.Turning.{node_at, AllTurned, Became, DuesApart, KeptB
 use Rattle.swc_nodes.specs.{declared.nodes.Nodes.Nodes, declared.turning.Settled.Settled}
 use Rattle.swc_nodes.proofs.Standing.{ordered_front}
 
-module _ {F C K : Type 0} {fg : Ghosts F} {cg : Ghosts C} {kg : Ghosts K} (ns : Nodes F C K fg cg kg) (qs : List Due) where
+module _ {F C K : Type 0} {fg : Ghosts F} {cg : Ghosts C} {kg : Ghosts K} (ns : Nodes F C K fg cg kg)
+    (qs : List Due) where
   pub turn-ready : DuesApart 0 ns qs → suit qs ≡ true →
       AllReady fg.place cg.place kg.place ns.nodes.items qs ns.settled.items
   unfolding seat_at
@@ -46,11 +47,13 @@ module _ {F C K : Type 0} {fg : Ghosts F} {cg : Ghosts C} {kg : Ghosts K} (ns : 
       record {
         apart = record {
           chained = subst
-              (λ v. chain (seat_in fg.place cg.place kg.place ms.nodes.items) k (map (turned (node_at xs)) qs) v ≡ true) n
+              (λ v. chain (seat_in fg.place cg.place kg.place ms.nodes.items) k
+              (map (turned (node_at xs)) qs) v ≡ true) n
               (subst (λ v. chain (seat_in fg.place cg.place kg.place v) k (map (turned (node_at xs)) qs) d.end ≡ true)
               (sym d.nodes) m.apart);
         };
         stands = subst
-            (λ v. Became fg.place cg.place kg.place S (node_at xs) (tree_at ns) (tree_in fg.place cg.place kg.place v) qs)
+            (λ v. Became fg.place cg.place kg.place S (node_at xs) (tree_at ns)
+            (tree_in fg.place cg.place kg.place v) qs)
             (sym d.nodes) b;
       }

@@ -27,8 +27,7 @@ last-is xs x e =
 
 pub last-read : {A : Type 0} (xs us : List A) (r : Option (Bor A)) (p : Bor A) → us ≡ xs →
     option_copied r ≡ slice_get us (length us - 1) → r ≡ Some p → slice_get xs (length xs - 1) ≡ Some p.now
-last-read xs us r p e s i =
-    sym (subst (λ v. option_copied r ≡ slice_get v (length v - 1)) e s) ∙ ap option_copied i
+last-read xs us r p e s i = sym (subst (λ v. option_copied r ≡ slice_get v (length v - 1)) e s) ∙ ap option_copied i
 
 none-there : {A : Type 0} (xs : List A) → slice_get xs (length xs - 1) ≡ None → xs ≡ []
 none-there [] e = refl

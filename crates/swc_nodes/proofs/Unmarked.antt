@@ -19,7 +19,8 @@ module _ {F C K : Type 0} where
   unmarked-list f g same (x ∷ xs) =
       ap (λ v. cons v (all_unmarked (trees (map f xs)))) (same x) ∙ ap (cons (g x)) (unmarked-list f g same xs)
 
-  unmarked-texts : {X : Type 0} (f g : X → Tree F C K) → ((x : X) → unmarked (f x) ≡ g x) → (qs : List TplElement) (xs : List X)
+  unmarked-texts : {X : Type 0} (f g : X → Tree F C K) → ((x : X) → unmarked (f x) ≡ g x)
+      → (qs : List TplElement) (xs : List X)
       → all_unmarked (trees (map quasi_tree qs ++ map f xs)) ≡ trees (map quasi_tree qs ++ map g xs)
   unmarked-texts f g same [] xs = unmarked-list f g same xs
   unmarked-texts f g same (q ∷ qs) xs = ap (cons (quasi_tree q)) (unmarked-texts f g same qs xs)
@@ -39,7 +40,8 @@ module _ {F C K : Type 0} where
     unmarked-items : (xs : List (ExprOrSpread X)) → all_unmarked (item_trees f xs) ≡ item_trees g xs
     unmarked-items = unmarked-list (item_tree f) (item_tree g) unmarked-item
 
-    unmarked-args : (o : Option (Vec (ExprOrSpread X) Global)) → unmarked (or_hole (args_tree f) o) ≡ or_hole (args_tree g) o
+    unmarked-args : (o : Option (Vec (ExprOrSpread X) Global))
+        → unmarked (or_hole (args_tree f) o) ≡ or_hole (args_tree g) o
     unmarked-args None = refl
     unmarked-args (Some xs) = ap (node args no_span) (unmarked-items xs.items)
 
@@ -56,8 +58,7 @@ module _ {F C K : Type 0} where
     unmarked-super p = refl
 
     unmarked-base : (b : OptChainBase X) → unmarked (base_tree f b) ≡ base_tree g b
-    unmarked-base (base.Member m) =
-        rw (same m.obj, unmarked-member m.prop) refl
+    unmarked-base (base.Member m) = rw (same m.obj, unmarked-member m.prop) refl
     unmarked-base (base.Call c) = rw (same c.callee, unmarked-items c.args.items) refl
 
     unmarked-callee : (c : Callee X) → unmarked (callee_tree f c) ≡ callee_tree g c
@@ -67,13 +68,16 @@ module _ {F C K : Type 0} where
     unmarked-tpl : (t : Tpl X) → unmarked (tpl_tree f t) ≡ tpl_tree g t
     unmarked-tpl t = ap (node tpl t.span) (unmarked-texts f g same t.quasis.items t.exprs.items)
 
-    unmarked-body : (block_at : K → Span) (b : BlockStmtOrExpr X K) → unmarked (body_tree block_at f b) ≡ body_tree block_at g b
+    unmarked-body : (block_at : K → Span) (b : BlockStmtOrExpr X K)
+        → unmarked (body_tree block_at f b) ≡ body_tree block_at g b
     unmarked-body block_at (body.BlockStmt k) = refl
     unmarked-body block_at (body.Expr e) = same e
 
-    unmarked-function : (block_at : K → Span) (x : Function X K) → unmarked (function_tree block_at f x) ≡ function_tree block_at g x
+    unmarked-function : (block_at : K → Span) (x : Function X K)
+        → unmarked (function_tree block_at f x) ≡ function_tree block_at g x
     unmarked-function block_at x =
-        rw (unmarked-list (param_tree f) (param_tree g) (λ p. ap (λ v. node param p.span (cons v nil)) (same p.pat)) x.params.items) refl
+        rw (unmarked-list (param_tree f) (param_tree g)
+        (λ p. ap (λ v. node param p.span (cons v nil)) (same p.pat)) x.params.items) refl
 
 module _ {F C K : Type 0} (fun_at : F → Span) (class_at : C → Span) (block_at : K → Span) (at : ℕ → Tree F C K) where
   -- the trees given for numbers, without their marks
@@ -98,11 +102,13 @@ module _ {F C K : Type 0} (fun_at : F → Span) (class_at : C → Span) (block_a
   pat-same : (p : PatId) → unmarked (pat_now p) ≡ pat_bare p
   pat-same p = refl
 
-  unmarked-target : (t : TargetNode) → unmarked (target_of fun_at class_at block_at at t) ≡ target_of fun_at class_at block_at bare t
+  unmarked-target : (t : TargetNode) → unmarked (target_of fun_at class_at block_at at t) ≡ target_of fun_at class_at
+      block_at bare t
   unmarked-target (target.Simple e) = refl
   unmarked-target (target.Pat p) = refl
 
-  pub unmarked-prop : (p : PropNode K) → unmarked (prop_of fun_at class_at block_at at p) ≡ prop_of fun_at class_at block_at bare p
+  pub unmarked-prop : (p : PropNode K) → unmarked (prop_of fun_at class_at block_at at p) ≡ prop_of fun_at class_at
+      block_at bare p
   unmarked-prop (prop.Spread s) = refl
   unmarked-prop (prop.Shorthand i) = refl
   unmarked-prop (prop.KeyValue s k v) = rw (unmarked-key expr_now expr_bare expr-same k) refl
@@ -120,12 +126,14 @@ module _ {F C K : Type 0} (fun_at : F → Span) (class_at : C → Span) (block_a
   unmarked-elem (elem.Item p) = unmarked-part p
   unmarked-elem (elem.Rest s d p) = rw (unmarked-part p) refl
 
-  pub unmarked-pat-prop : (p : PatPropNode) → unmarked (pat_prop_of fun_at class_at block_at at p) ≡ pat_prop_of fun_at class_at block_at bare p
+  pub unmarked-pat-prop : (p : PatPropNode) → unmarked
+      (pat_prop_of fun_at class_at block_at at p) ≡ pat_prop_of fun_at class_at block_at bare p
   unmarked-pat-prop (pat_prop.KeyValue s k v) = rw (unmarked-key expr_now expr_bare expr-same k, unmarked-part v) refl
   unmarked-pat-prop (pat_prop.Assign s k v) = rw (unmarked-if expr_now expr_bare expr-same v) refl
   unmarked-pat-prop (pat_prop.Rest s d p) = rw (unmarked-part p) refl
 
-  pub unmarked-node : (x : Node F C K) → unmarked (marked_tree fun_at class_at block_at at x) ≡ node_tree fun_at class_at block_at bare x
+  pub unmarked-node : (x : Node F C K) → unmarked (marked_tree fun_at class_at block_at at x) ≡ node_tree fun_at
+      class_at block_at bare x
   unmarked-node (n.Array s elems comma) =
       ap (node array s) (unmarked-list (or_hole (item_tree expr_now)) (or_hole (item_tree expr_bare))
       (unmarked-if (item_tree expr_now) (item_tree expr_bare) (unmarked-item expr_now expr_bare expr-same)) elems.items)
@@ -141,7 +149,10 @@ module _ {F C K : Type 0} (fun_at : F → Span) (class_at : C → Span) (block_a
   unmarked-node (n.Tpl t) = unmarked-tpl expr_now expr_bare expr-same t
   unmarked-node (n.TaggedTpl s t q) = rw (unmarked-tpl expr_now expr_bare expr-same q.value) refl
   unmarked-node (n.Arrow s ps b a) =
-      rw (unmarked-body expr_now expr_bare expr-same block_at b.value, unmarked-list pat_now pat_bare pat-same ps.items) refl
+      rw (
+        unmarked-body expr_now expr_bare expr-same block_at b.value,
+        unmarked-list pat_now pat_bare pat-same ps.items,
+      ) refl
   unmarked-node (n.Yield s a d) = rw (unmarked-if expr_now expr_bare expr-same a) refl
   unmarked-node (n.PatArray s elems) =
       ap (node array s) (unmarked-list (or_hole (pat_elem_of at)) (or_hole (pat_elem_of bare))

@@ -25,7 +25,8 @@ module _ {A : Type 0} where
     pub more_is : more ≡ rest ++ x ∷ []
     pub whole : b ≡ before ++ rest
 
-  last_of : (before more b : List A) (x : A) → b ++ x ∷ [] ≡ before ++ more → length before ≤ length b → Last b before more x
+  last_of : (before more b : List A) (x : A) → b ++ x ∷ [] ≡ before ++ more → length before ≤ length b
+      → Last b before more x
   last_of [] more b x e le = record { rest = b; more_is = sym e; whole = refl }
   last_of (y ∷ before) more [] x e le = absurd (let no : ⊥ = omega arith in no)
   last_of (y ∷ before) more (z ∷ b) x e le =
@@ -52,49 +53,61 @@ module _ (at : ℕ → List Part) (ps : List Part) where
           more = l.rest;
           split = l.whole;
           counted = counted;
-          under = λ q i. d.under q (subst (λ v. Contains v q) (sym l.more_is) (Contains-append_left l.rest (p ∷ []) q i));
+          under = λ q i. d.under q (subst (λ v. Contains v q) (sym l.more_is)
+              (Contains-append_left l.rest (p ∷ []) q i));
           outer = d.outer;
         },
       )
 
-  due_first : (o : Open) (os : List Open) (due : List Part) → length due ≤ o.rest → Due at ps (o ∷ os) due → Due at ps os due
+  due_first : (o : Open) (os : List Open) (due : List Part) → length due ≤ o.rest → Due at ps (o ∷ os) due
+      → Due at ps os due
   due_first o os due le d =
       let counted = d.counted in
-      let none : d.more ≡ [] = none_more d.before d.more (subst (λ v. length v ≤ length d.before) d.split (omega arith)) in
+      let none : d.more ≡ [] = none_more d.before d.more
+      (subst (λ v. length v ≤ length d.before) d.split (omega arith)) in
       subst (λ v. Due at ps os v) (sym (d.split ∙ ap (λ v. d.before ++ v) none ∙ append-nil d.before)) d.outer
 
   pub goes_first : (due : List Part) → due ≡ ps → Goes at ps due [] []
   goes_first due e = record { walked = over; under = λ p i. subst (λ v. Contains v p) e i }
 
   -- the innermost node is entered
-  pub goes_enter : (due : List Part) (vs us : List Visit) (os ws : List Open) (o : Open) → os ≡ ws ++ o ∷ [] → us ≡ vs ++ entering o.part (opened ws) ∷ []
+  pub goes_enter : (due : List Part) (vs us : List Visit) (os ws : List Open) (o : Open) → os ≡ ws ++ o ∷ []
+      → us ≡ vs ++ entering o.part (opened ws) ∷ []
       → length due ≤ o.rest → Goes at ps due vs os → Goes at ps due us ws
   goes_enter due vs us os ws o e f le g =
       let r = last_first ws os o e in
-      let w : Walked at ps (reverse vs) (o.part ∷ opened ws) = subst (λ v. Walked at ps (reverse vs) (map (λ x. x.part) v)) r g.walked in
+      let w : Walked at ps (reverse vs) (o.part ∷ opened ws) =
+      subst (λ v. Walked at ps (reverse vs) (map (λ x. x.part) v)) r g.walked in
       record {
-        walked = subst (λ v. Walked at ps v (opened ws)) (sym (last_first vs us (entering o.part (opened ws)) f)) (enters w);
+        walked = subst (λ v. Walked at ps v (opened ws)) (sym (last_first vs us (entering o.part (opened ws)) f))
+            (enters w);
         under = due_first o (reverse ws) due le (subst (λ v. Due at ps v due) r g.under);
       }
 
   -- the last part that is due is left out, or left: then its own parts are due
-  pub goes_past : (a b : List Part) (p : Part) (vs : List Visit) (os : List Open) → a ≡ b ++ p ∷ [] → IsReady (length a) (reverse os) → Goes at ps a vs os
+  pub goes_past : (a b : List Part) (p : Part) (vs : List Visit) (os : List Open) → a ≡ b ++ p ∷ []
+      → IsReady (length a) (reverse os) → Goes at ps a vs os
       → Goes at ps b vs os
   goes_past a b p vs os e ready g =
       let n : length a ≡ suc (length b) = let l = length-append b (p ∷ []) in ap length e ∙ omega arith in
-      let d = due_last (reverse os) b p (subst (λ v. IsReady v (reverse os)) n ready) (subst (λ v. Due at ps (reverse os) v) e g.under) in
+      let d = due_last (reverse os) b p (subst (λ v. IsReady v (reverse os)) n ready)
+      (subst (λ v. Due at ps (reverse os) v) e g.under) in
       record { walked = g.walked; under = d.1 }
 
-  pub goes_leave : (a b c more : List Part) (id : PartId) (rest : ℕ) (vs us : List Visit) (os ws : List Open) → a ≡ b ++ part_of id ∷ [] → c ≡ b ++ more
-      → at (part_of id).at ≡ more → rest ≡ length b → us ≡ vs ++ leaving id (opened os) ∷ [] → ws ≡ os ++ opening id rest ∷ []
+  pub goes_leave : (a b c more : List Part) (id : PartId) (rest : ℕ) (vs us : List Visit) (os ws : List Open)
+      → a ≡ b ++ part_of id ∷ [] → c ≡ b ++ more
+      → at (part_of id).at ≡ more → rest ≡ length b → us ≡ vs ++ leaving id (opened os) ∷ []
+      → ws ≡ os ++ opening id rest ∷ []
       → IsReady (length a) (reverse os) → Goes at ps a vs os → Goes at ps c us ws
   goes_leave a b c more id rest vs us os ws e put parts counted f h ready g =
       let p = part_of id in
       let n : length a ≡ suc (length b) = let l = length-append b (p ∷ []) in ap length e ∙ omega arith in
-      let d = due_last (reverse os) b p (subst (λ v. IsReady v (reverse os)) n ready) (subst (λ v. Due at ps (reverse os) v) e g.under) in
+      let d = due_last (reverse os) b p (subst (λ v. IsReady v (reverse os)) n ready)
+      (subst (λ v. Due at ps (reverse os) v) e g.under) in
       let r = last_first os ws (opening id rest) h in
       let w : Walked at ps (reverse us) (id ∷ opened os) =
-      subst (λ v. Walked at ps v (id ∷ opened os)) (sym (last_first vs us (leaving id (opened os)) f)) (leaves d.0 g.walked) in
+      subst (λ v. Walked at ps v (id ∷ opened os)) (sym (last_first vs us (leaving id (opened os)) f))
+      (leaves d.0 g.walked) in
       let due : Due at ps (opening id rest ∷ reverse os) c = record {
         before = b;
         more = more;
@@ -108,23 +121,28 @@ module _ (at : ℕ → List Part) (ps : List Part) where
         under = subst (λ v. Due at ps v c) (sym r) due;
       }
 
-  pub goes_done : (due : List Part) (vs : List Visit) (os : List Open) → IsReady 0 (reverse os) → Goes at ps due vs os → Walked at ps (reverse vs) []
+  pub goes_done : (due : List Part) (vs : List Visit) (os : List Open) → IsReady 0 (reverse os) → Goes at ps due vs os
+      → Walked at ps (reverse vs) []
   goes_done due vs os ready g = done (reverse os) ready g.walked
     where
-      done : (ws : List Open) → IsReady 0 ws → Walked at ps (reverse vs) (map (λ x. x.part) ws) → Walked at ps (reverse vs) []
+      done : (ws : List Open) → IsReady 0 ws → Walked at ps (reverse vs) (map (λ x. x.part) ws)
+          → Walked at ps (reverse vs) []
       done [] r w = w
       done (o ∷ ws) r w = absurd (let no : ⊥ = omega arith in no)
 
 -- what a visit leaves
-pub left_after : (vs us : List Visit) (p : PartId) (around : List PartId) → us ≡ vs ++ leaving p around ∷ [] → left_in (reverse us) ≡ p ∷ left_in (reverse vs)
+pub left_after : (vs us : List Visit) (p : PartId) (around : List PartId) → us ≡ vs ++ leaving p around ∷ []
+    → left_in (reverse us) ≡ p ∷ left_in (reverse vs)
 left_after vs us p around e = ap (λ v. left_in v) (last_first vs us (leaving p around) e)
 
-pub entered_after : (vs us : List Visit) (p : PartId) (around : List PartId) → us ≡ vs ++ entering p around ∷ [] → left_in (reverse us) ≡ left_in (reverse vs)
+pub entered_after : (vs us : List Visit) (p : PartId) (around : List PartId) → us ≡ vs ++ entering p around ∷ []
+    → left_in (reverse us) ≡ left_in (reverse vs)
 entered_after vs us p around e = ap (λ v. left_in v) (last_first vs us (entering p around) e)
 
 -- ---- a turn of the walk
 
-module _ {F C K : Type 0} {fg : Ghosts F} {cg : Ghosts C} {kg : Ghosts K} (ns : Nodes F C K fg cg kg) (ps : List Part) where
+module _ {F C K : Type 0} {fg : Ghosts F} {cg : Ghosts C} {kg : Ghosts K} (ns : Nodes F C K fg cg kg)
+    (ps : List Part) where
   -- where the walk is
   pub record Walks (due : List PartId) (around : List Open) (visits : List Visit) : Type 0 where
     pub going : Going ns ps (map part_of due) (map part_of (left_in (reverse visits)))
@@ -134,7 +152,8 @@ module _ {F C K : Type 0} {fg : Ghosts F} {cg : Ghosts C} {kg : Ghosts K} (ns : 
   walks_first due e g = record { going = g; goes = goes_first (parts_at ns) ps (map part_of due) e }
 
   -- the last part that is due is taken, and a turn made of it
-  pub turned : (a b c : List PartId) (id : PartId) (os ws : List Open) (vs us : List Visit) → map part_of a ≡ map part_of b ++ part_of id ∷ []
+  pub turned : (a b c : List PartId) (id : PartId) (os ws : List Open) (vs us : List Visit)
+      → map part_of a ≡ map part_of b ++ part_of id ∷ []
       → IsReady (length a) (reverse os) → Walks a os vs → Turns ns id b os vs c ws us → Walks c ws us
   turned a b c id os ws vs us taken ready w (past le) = record {
     going = going_past (map part_of b) (part_of id) taken w.going le;
@@ -142,16 +161,22 @@ module _ {F C K : Type 0} {fg : Ghosts F} {cg : Ghosts C} {kg : Ghosts K} (ns : 
         (subst (λ v. IsReady v (reverse os)) (sym (length-map a part_of)) ready) w.goes;
   }
   turned a b c id os ws vs us taken ready w (left {x} {rest} lt stood same put f h) = record {
-    going = subst (λ v. Going ns ps (map part_of c) v) (sym (ap (λ v. map part_of v) (left_after vs us id (opened os) h)))
+    going = subst (λ v. Going ns ps (map part_of c) v)
+        (sym (ap (λ v. map part_of v) (left_after vs us id (opened os) h)))
         (going_on (map part_of b) (part_of id) taken w.going stood lt put);
-    goes = goes_leave (parts_at ns) ps (map part_of a) (map part_of b) (map part_of c) (slots x) id rest vs us os ws taken put stood.parts
-        (same ∙ sym (length-map b part_of)) h f (subst (λ v. IsReady v (reverse os)) (sym (length-map a part_of)) ready) w.goes;
+    goes = goes_leave (parts_at ns) ps (map part_of a) (map part_of b) (map part_of c)
+        (slots x) id rest vs us os ws taken put stood.parts
+        (same ∙ sym (length-map b part_of)) h f (subst (λ v. IsReady v (reverse os)) (sym (length-map a part_of)) ready)
+        w.goes;
   }
 
-  pub turned_less : (a b c : List PartId) (id : PartId) (os ws : List Open) (vs us : List Visit) → map part_of a ≡ map part_of b ++ part_of id ∷ []
-      → Walks a os vs → Turns ns id b os vs c ws us → left_over ns (ats (map part_of c)) < left_over ns (ats (map part_of a))
+  pub turned_less : (a b c : List PartId) (id : PartId) (os ws : List Open) (vs us : List Visit)
+      → map part_of a ≡ map part_of b ++ part_of id ∷ []
+      → Walks a os vs → Turns ns id b os vs c ws us → left_over ns (ats (map part_of c)) < left_over ns
+      (ats (map part_of a))
   turned_less a b c id os ws vs us taken w (past le) = past_less (map part_of b) (part_of id) taken w.going
-  turned_less a b c id os ws vs us taken w (left {x} {rest} lt stood same put f h) = on_less (map part_of b) (part_of id) taken w.going stood lt put
+  turned_less a b c id os ws vs us taken w (left {x} {rest} lt stood same put f h) =
+      on_less (map part_of b) (part_of id) taken w.going stood lt put
 
   pub entered : (due : List PartId) (os ws : List Open) (vs us : List Visit) (n : ℕ) → n ≡ length due
       → ((at : ℕ → List Part) (qs ds : List Part) → length ds ≡ n → Goes at qs ds vs os → Goes at qs ds us ws)
@@ -162,17 +187,20 @@ module _ {F C K : Type 0} {fg : Ghosts F} {cg : Ghosts C} {kg : Ghosts K} (ns : 
   }
 
   -- the end: nothing is due, and so nothing is around
-  going_none : (due : List PartId) (found : List Part) → length due ≡ 0 → Going ns ps (map part_of due) found → Going ns ps [] found
+  going_none : (due : List PartId) (found : List Part) → length due ≡ 0 → Going ns ps (map part_of due) found
+      → Going ns ps [] found
   going_none [] found e g = g
   going_none (d ∷ due) found e g = absurd (let no : ⊥ = omega arith in no)
 
-  pub all_left : (due : Vec PartId Global) (os : List Open) (vs list : List Visit) → vec_len due ≡ 0 → list ≡ reverse vs → Walks due.items os vs
+  pub all_left : (due : Vec PartId Global) (os : List Open) (vs list : List Visit) → vec_len due ≡ 0 → list ≡ reverse vs
+      → Walks due.items os vs
       → Going ns ps [] (map part_of (left_in list))
   all_left due os vs list none e w =
       let o = due.ok.0 in
       subst (λ v. Going ns ps [] (map part_of (left_in v))) (sym e) (going_none due.items _ (omega arith) w.going)
 
-  pub all_walked : (due : Vec PartId Global) (os : List Open) (vs list : List Visit) → vec_len due ≡ 0 → list ≡ reverse vs
+  pub all_walked : (due : Vec PartId Global) (os : List Open) (vs list : List Visit) → vec_len due ≡ 0
+      → list ≡ reverse vs
       → IsReady (length due.items) (reverse os) → Walks due.items os vs → Walked (parts_at ns) ps list []
   all_walked due os vs list none e ready w =
       let o = due.ok.0 in

@@ -92,8 +92,7 @@ module _ {F C K : Type 0} {fg : Ghosts F} {cg : Ghosts C} {kg : Ghosts K} where
   pub operands-more : {ns ms : Nodes F C K fg cg kg} {k : ℕ} (ws : List PendingOperator) (w : PendingOperator)
       (e : ExprId) → Grows ns ms → Apart k ns (operand_parts ws w.left) → From (count ns) ms (expr_part e)
       → Apart k ms (operand_parts (ws ++ w ∷ []) e)
-  operands-more {ns} {ms} {k} ws w e g a f =
-      subst (Apart k ms) (sym (parts_more ws w e)) (apart-more-one g a f)
+  operands-more {ns} {ms} {k} ws w e g a f = subst (Apart k ms) (sym (parts_more ws w e)) (apart-more-one g a f)
 
   -- the left operand of the operator on top, and its right one after it
   pub operands-top : {ns : Nodes F C K fg cg kg} {k : ℕ} (ws : List PendingOperator) (w : PendingOperator) (e : ExprId)
@@ -102,8 +101,7 @@ module _ {F C K : Type 0} {fg : Ghosts F} {cg : Ghosts C} {kg : Ghosts K} where
   operands-top [] w e a =
       let r = from-apart (expr_part e) [] (apart-rest (expr_part w.left) (expr_part e ∷ []) a) in
       (from-down (omega arith) (from-apart (expr_part w.left) (expr_part e ∷ []) a), from-down (omega arith) r)
-  operands-top (v ∷ ws) w e a =
-      operands-top ws w e (apart-rest (expr_part v.left) (operand_parts (ws ++ w ∷ []) e) a)
+  operands-top (v ∷ ws) w e a = operands-top ws w e (apart-rest (expr_part v.left) (operand_parts (ws ++ w ∷ []) e) a)
 
   -- these are joined to a node
   pub operands-joined : {ns ms : Nodes F C K fg cg kg} {k : ℕ} (ws : List PendingOperator) (w : PendingOperator)

@@ -27,7 +27,8 @@ own_comma (array_with comma) s = (s.lo.0, comma) ∷ []
 own_comma (object_with comma) s = (s.lo.0, comma) ∷ []
 own_comma k s = []
 
--- All literals of a tree, but for those in the bodies of arrow functions: a node before its parts, and these from the last one on, in the
+-- All literals of a tree, but for those in the bodies of arrow functions: a node before its parts, and these from the
+-- last one on, in the
 -- order of the source.
 abbrev mutual
   pub commas_in : {F C K : Type 0} → Tree F C K → List Literal
@@ -62,7 +63,8 @@ node_comma x = []
 
 -- ---- remembering literals
 
--- what is remembered at a position once literals were remembered, one after another: the comma of the last one that begins there, and what
+-- what is remembered at a position once literals were remembered, one after another: the comma of the last one that
+-- begins there, and what
 -- there was where none does
 abbrev pub recalled : List Literal → ℕ → Option Span → Option Span
 recalled [] at was = was

@@ -46,7 +46,8 @@ module _ {F C K : Type 0} (fun_at : F → Span) (class_at : C → Span) (block_a
         : Type 0 where
       pub long : i + length mid ≡ j
       pub meets : (k : ℕ) (zs : List (Node F C K)) → length zs ≡ i → ordered fun_at class_at block_at [] zs ≡ true →
-          chain (seat_in fun_at class_at block_at zs) k (turned_parts xs qs) i ≡ true → Met k zs (zs ++ mid) i qs j bs cs
+          chain (seat_in fun_at class_at block_at zs) k (turned_parts xs qs) i ≡ true
+          → Met k zs (zs ++ mid) i qs j bs cs
       pub became : (S : Role → Tree F C K → Tree F C K) → Law fun_at class_at block_at S →
           (k : ℕ) (zs : List (Node F C K)) → length zs ≡ i → ordered fun_at class_at block_at [] zs ≡ true →
           chain (seat_in fun_at class_at block_at zs) k (turned_parts xs qs) i ≡ true →
@@ -87,7 +88,8 @@ module _ {F C K : Type 0} (fun_at : F → Span) (class_at : C → Span) (block_a
     pub ranges : Ranges (seat_in fun_at class_at block_at (up_to q xs)) 0 cs (suc q.part.at)
 
   -- it became what it is to, and f is the smallest number that is reached from it then
-  pub record RootDone (xs : List (Node F C K)) (q : Due) (f : ℕ) (ys : List (Node F C K)) (cs : List Settled) : Type 0 where
+  pub record RootDone (xs : List (Node F C K)) (q : Due) (f : ℕ) (ys : List (Node F C K))
+      (cs : List Settled) : Type 0 where
     pub mid : List (Node F C K)
     pub nodes : ys ≡ take f xs ++ (mid ++ drop (suc q.part.at) xs)
     pub promise : Promise (up_to q xs) f [] mid (suc q.part.at) (q ∷ []) (record { first = f; last = q.part.at } ∷ [])
@@ -129,7 +131,8 @@ module _ {F C K : Type 0} (fun_at : F → Span) (class_at : C → Span) (block_a
         chain (seat_in fun_at class_at block_at xs) k (map part_of_due qs) (length xs) ≡ true → k ≤ first
 
   -- the nodes are ordered, and those below all that is reached from the parts stay
-  pub record AllKept (xs : List (Node F C K)) (qs : List Due) (ys : List (Node F C K)) (cs : List Settled) : Type 0 where
+  pub record AllKept (xs : List (Node F C K)) (qs : List Due) (ys : List (Node F C K))
+      (cs : List Settled) : Type 0 where
     pub order : ordered fun_at class_at block_at [] ys ≡ true
     pub ranges : Ranges (seat_in fun_at class_at block_at ys) 0 cs (length ys)
     pub kept : (k : ℕ) →

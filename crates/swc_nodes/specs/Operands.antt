@@ -1,4 +1,5 @@
--- The operand with which a node begins where it does, and the one with which it ends where it does, if there is such a one.
+-- The operand with which a node begins where it does, and the one with which it ends where it does, if there is such a
+-- one.
 use Rattle.std.specs.Prelude.{true, Option, Some, None}
 use Rattle.swc_context.specs.declared.span.BytePos.{BytePos}
 use Rattle.swc_nodes.specs.{declared.node.ExprId.ExprId, declared.node.Node.Node, declared.node.Node.Node as n}

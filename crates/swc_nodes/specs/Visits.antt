@@ -29,13 +29,17 @@ abbrev pub parts_under : (ℕ → List Part) → List Part → List PartId → L
 parts_under at ps [] = ps
 parts_under at ps (q ∷ qs) = at (part_of q).at
 
--- The visits go over what is reached from the parts ps, where `at` gives the parts of a number. The nodes around were entered before them,
--- and not left. So what is entered is left after all that was entered after it; each is a part of the innermost node around it, and that is
+-- The visits go over what is reached from the parts ps, where `at` gives the parts of a number. The nodes around were
+-- entered before them,
+-- and not left. So what is entered is left after all that was entered after it; each is a part of the innermost node
+-- around it, and that is
 -- its parent.
 pub data Walked (at : ℕ → List Part) (ps : List Part) : List Visit → List PartId → Type 0 where
   over : Walked at ps [] []
-  enters : {p : PartId} {around : List PartId} {vs : List Visit} → Walked at ps vs (p ∷ around) → Walked at ps (entering p around ∷ vs) around
-  leaves : {p : PartId} {around : List PartId} {vs : List Visit} → Contains (parts_under at ps around) (part_of p) → Walked at ps vs around
+  enters : {p : PartId} {around : List PartId} {vs : List Visit} → Walked at ps vs (p ∷ around)
+      → Walked at ps (entering p around ∷ vs) around
+  leaves : {p : PartId} {around : List PartId} {vs : List Visit} → Contains (parts_under at ps around) (part_of p)
+      → Walked at ps vs around
       → Walked at ps (leaving p around ∷ vs) (p ∷ around)
 
 -- ---- how the walk goes: from the last visit to the first
@@ -47,7 +51,8 @@ opened os = map (λ o. o.part) (reverse os)
 abbrev pub opening : PartId → ℕ → Open
 opening p rest = record { part = p; rest = rest }
 
--- Of the parts that are due the last ones are parts of the innermost node around, and those before them are due outside it.
+-- Of the parts that are due the last ones are parts of the innermost node around, and those before them are due outside
+-- it.
 pub record Within (parts : List Part) (rest : ℕ) (Outer : List Part → Type 0) (due : List Part) : Type 0 where
   pub before : List Part
   pub more : List Part
@@ -71,10 +76,12 @@ IsReady due [] = Unit {0}
 IsReady due (o ∷ os) = o.rest < due
 
 -- The part was left, before which its own parts are due; or it was left out, since no node has its number.
-pub data Turns {F C K : Type 0} {fg : Ghosts F} {cg : Ghosts C} {kg : Ghosts K} (ns : Nodes F C K fg cg kg) (id : PartId)
+pub data Turns {F C K : Type 0} {fg : Ghosts F} {cg : Ghosts C} {kg : Ghosts K} (ns : Nodes F C K fg cg kg)
+    (id : PartId)
     (due : List PartId) (around : List Open) (visits : List Visit) : List PartId → List Open → List Visit → Type 0 where
   past : count ns ≤ (part_of id).at → Turns ns id due around visits due around visits
-  left : {x : Node F C K} {rest : ℕ} {more : List PartId} {os : List Open} {vs : List Visit} → (part_of id).at < count ns
+  left : {x : Node F C K} {rest : ℕ} {more : List PartId} {os : List Open} {vs : List Visit}
+      → (part_of id).at < count ns
       → Stood ns (part_of id).at x → rest ≡ length due → map part_of more ≡ map part_of due ++ slots x
       → os ≡ around ++ opening id rest ∷ [] → vs ≡ visits ++ leaving id (opened around) ∷ []
       → Turns ns id due around visits more os vs

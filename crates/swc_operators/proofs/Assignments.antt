@@ -65,19 +65,18 @@ module _ {F C K : Type 0} (hook : Hook F C K) where
   seqs_splits es x (t ∷ ts) = by_comma (is_comma t.token) refl
     where
       more : (o : Out (Tree F C K))
-          → and_then o (λ e us. exec hook (run hook) None (read (seqs (trees_append es (cons e nil))) x (λ v. gives v)) us)
+          → and_then o (λ e us. exec hook (run hook) None
+          (read (seqs (trees_append es (cons e nil))) x (λ v. gives v)) us)
           ≡ (o >>= (λ p. run hook (seqs (trees_append es (cons p.0 nil))) x p.1))
       more None = refl
       more (Some p) = last hook None (seqs (trees_append es (cons p.0 nil))) x p.1 refl
 
       by_comma : (b : Bool) → is_comma t.token ≡ b
           → run hook (seqs es) x (t ∷ ts) ≡ (eaten_by (is_comma t.token) (t ∷ ts) >>= (λ p. seqs_by hook es p.0 x p.1))
-      by_comma true e =
-          knot hook (seqs es) x (t ∷ ts) ∙ rw e (rw e (more (run hook (at Assign) x ts)))
+      by_comma true e = knot hook (seqs es) x (t ∷ ts) ∙ rw e (rw e (more (run hook (at Assign) x ts)))
       by_comma false e = knot hook (seqs es) x (t ∷ ts) ∙ rw e refl
 
-  pub seqs_more_splits : (es : Trees F C K) (x : Scope) (ts : List TokenAndSpan)
-      → seqs_more hook es x ts
+  pub seqs_more_splits : (es : Trees F C K) (x : Scope) (ts : List TokenAndSpan) → seqs_more hook es x ts
       ≡ (run hook (at Assign) x ts >>= (λ p. run hook (seqs (trees_append es (cons p.0 nil))) x p.1))
   unfolding seqs_more
   seqs_more_splits es x ts = refl
@@ -92,9 +91,9 @@ module _ {F C K : Type 0} (hook : Hook F C K) where
   alt_reads l e x t us = ap (λ o. if is_colon t.token then o else None) (calls (run hook (at Assign) x us) _)
 
   -- after the middle of a conditional
-  colon_reads : (l e : Tree F C K) (x : Scope) (us : List TokenAndSpan)
-      → exec hook (run hook) None
-      (take (λ t. check (is_colon t.token) (read (at Assign) x (λ a. gives (cond_e (to (span_of l) (span_of a)) l e a))))) us
+  colon_reads : (l e : Tree F C K) (x : Scope) (us : List TokenAndSpan) → exec hook (run hook) None
+      (take (λ t. check (is_colon t.token) (read (at Assign) x
+      (λ a. gives (cond_e (to (span_of l) (span_of a)) l e a))))) us
       ≡ cond_colon hook (span_of l).lo l e x us
   colon_reads l e x [] = then_token is_colon x [] (λ q vs. cond_close hook (span_of l).lo l e x vs)
   colon_reads l e x (t ∷ us) =
@@ -110,8 +109,7 @@ module _ {F C K : Type 0} (hook : Hook F C K) where
       ∙ rw h (rw h (then_calls (run hook (at Assign) (with_in x) ts) _ (λ e us. cond_colon hook (span_of l).lo l e x us)
       (λ e us. colon_reads l e x us)))
 
-  assign_is : (t : Token) (op : AssignOp) → assign_of t ≡ Some op
-      → (is_question t ≡ false) × (is_assign t ≡ true)
+  assign_is : (t : Token) (op : AssignOp) → assign_of t ≡ Some op → (is_question t ≡ false) × (is_assign t ≡ true)
   assign_is (token.AssignOp o) op h = (refl, refl)
   assign_is t op h = absurd cc
 
@@ -197,8 +195,7 @@ module _ {F C K : Type 0} (hook : Hook F C K) where
       (sym (h t refl))
 
   writes_pattern : (l : Tree F C K) (x : Scope) (t : TokenAndSpan) (ts : List TokenAndSpan) → is_pattern l ≡ true
-      → is_equals t.token ≡ true
-      → exec hook (run hook) (Some 1) (plan (writes_tail x l)) (t ∷ ts)
+      → is_equals t.token ≡ true → exec hook (run hook) (Some 1) (plan (writes_tail x l)) (t ∷ ts)
       ≡ pattern_by hook (as_literal x.context.strict l) x ts
   writes_pattern l x t ts k e =
       ap (λ v. exec hook (run hook) (Some 1) (plan v) (t ∷ ts)) (if_on (is_pattern l) _ _ k)
@@ -283,7 +280,8 @@ module _ {F C K : Type 0} (hook : Hook F C K) where
 
       by_tests : (o k b : Bool) → yield_ok x.context ≡ o → goes_on_yield_at (first us) ≡ k
           → at_token is_star (first us) ≡ b
-          → exec hook (run hook) (Some 14) (chosen {s = Assign} {c = x} (yield_choice {F = F} {C = C} {K = K} x (first us))) (a ∷ us)
+          → exec hook (run hook) (Some 14) (chosen {s = Assign} {c = x}
+          (yield_choice {F = F} {C = C} {K = K} x (first us))) (a ∷ us)
           ≡ (if yield_ok x.context then yield_go hook s x us else None)
       by_tests false k b h i j =
           ap (λ v. exec hook (run hook) (Some 14) (chosen {s = Assign} {c = x} v) (a ∷ us))
@@ -379,12 +377,14 @@ module _ {F C K : Type 0} (hook : Hook F C K) where
 
   -- after what binary operators join: a conditional, or something else; all of it, where the conditional begins where
   -- what it tests does
-  pub from_question : (lo : BytePos) (l : Tree F C K) (x : Scope) (ts : List TokenAndSpan) → at_token is_question (first ts) ≡ true
+  pub from_question : (lo : BytePos) (l : Tree F C K) (x : Scope) (ts : List TokenAndSpan)
+      → at_token is_question (first ts) ≡ true
       → assigns_from hook lo l x ts ≡ behind (cond_tail hook lo l) x ts
   unfolding assigns_from
   from_question lo l x ts h = rw h refl
 
-  pub from_other : (lo : BytePos) (l : Tree F C K) (x : Scope) (ts : List TokenAndSpan) → at_token is_question (first ts) ≡ false
+  pub from_other : (lo : BytePos) (l : Tree F C K) (x : Scope) (ts : List TokenAndSpan)
+      → at_token is_question (first ts) ≡ false
       → assigns_from hook lo l x ts ≡ assigned_by hook (assign_at (first ts) l) l x ts
   unfolding assigns_from
   from_other lo l x ts h = rw h refl
@@ -493,7 +493,8 @@ module _ {F C K : Type 0} (hook : Hook F C K) where
 
 -- ---- the parts of a conditional (13.14), each in a context of its own, which is put back
 
-module _ {S : Type 0} (model : Model S) (sure : Bool) {F C K T : Type 0} (hook : Hook F C K) (tree : T → Tree F C K) where
+module _ {S : Type 0} (model : Model S) (sure : Bool) {F C K T : Type 0} (hook : Hook F C K)
+    (tree : T → Tree F C K) where
   pub in_middle : {b c d e : Buffer S} (ctx : Context) (r : Result T Error) → ctx ≡ context model b → Moves model b c
       → context model c ≡ cond_middle ctx → Parses model sure tree (run hook (at Assign)) c r d → Moves model d e
       → context model e ≡ ctx → Parses model sure tree (inside hook) b r e

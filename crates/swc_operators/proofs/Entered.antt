@@ -26,8 +26,7 @@ module _ {S A : Type 0} {model : Model S} {sure : Bool} {w : Context → Context
 
   -- the text is of the kind that it was
   pub text : {ctx : Context} (d : Buffer S) → ((x : Context) → (w x).«module» ≡ x.«module») → ctx ≡ context model b
-      → Entered model sure w f g b c → context model d ≡ context model c
-      → ctx.«module» ≡ (context model d).«module»
+      → Entered model sure w f g b c → context model d ≡ context model c → ctx.«module» ≡ (context model d).«module»
   text d same before x now =
       ap (λ v. v.«module») before
       ∙ sym (ap (λ v. v.«module») (now ∙ x.on.leads.read.context)
@@ -80,8 +79,7 @@ module _ {S H F C K : Type 0} {fg : Ghosts F} {cg : Ghosts C} {kg : Ghosts K} {m
   -- what is read in a context that decides the same
   pub aside : {b : Buffer S} → ctx ≡ context model p.input → Moves model p.input b
       → deciding (context model b) ≡ deciding (context model p.input)
-      → Produces model sure held view f k (record p { input = b }) r q
-      → Moves model q.input e → context model e ≡ ctx
+      → Produces model sure held view f k (record p { input = b }) r q → Moves model q.input e → context model e ≡ ctx
       → Produces model sure held view f k p r (record q { input = e })
   aside before to inside h back kept =
       within {f = f} {g = f} (λ v. v) (λ v. refl) (λ v ts. refl) before to inside h refl back kept
@@ -89,8 +87,7 @@ module _ {S H F C K : Type 0} {fg : Ghosts F} {cg : Ghosts C} {kg : Ghosts K} {m
   pub left : {g : Reader A} {c : Buffer S} → ctx ≡ context model p.input
       → (x : Entered model sure (λ v. v) f g p.input c)
       → Produces model sure held view f k (record p { input = x.at }) r q
-      → Moves model q.input e → context model e ≡ ctx
-      → Produces model sure held view f k p r (record q { input = e })
+      → Moves model q.input e → context model e ≡ ctx → Produces model sure held view f k p r (record q { input = e })
   left before x h back kept = aside before x.moves x.inside h back kept
 
 module _ {S H F C K : Type 0} {fg : Ghosts F} {cg : Ghosts C} {kg : Ghosts K} {model : Model S} {sure : Bool}

@@ -19,8 +19,7 @@ module _ {S H F C K : Type 0} {fg : Ghosts F} {cg : Ghosts C} {kg : Ghosts K} {m
     {view : Nodes F C K fg cg kg → T → A} where
   -- q reads r in the context that w gives, and o, which is r, is answered where the context is set back
   pub within : {f g : Reader A} {k : ℕ} {p q : Productions S H F C K fg cg kg} {b e : Buffer S} {ctx : Context}
-      {r o : Result T Error} (w : Context → Context)
-      → ((x : Context) → (w x).ignore_error ≡ x.ignore_error)
+      {r o : Result T Error} (w : Context → Context) → ((x : Context) → (w x).ignore_error ≡ x.ignore_error)
       → ((x : Scope) (ts : List TokenAndSpan) → f x ts ≡ g (in_context w x) ts)
       → ctx ≡ context model p.input → Moves model p.input b
       → deciding (context model b) ≡ w (deciding (context model p.input))
@@ -34,8 +33,7 @@ module _ {S H F C K : Type 0} {fg : Ghosts F} {cg : Ghosts C} {kg : Ghosts K} {m
 
   -- the same, where no assignment expression begins
   pub within_inner : {f g : Reader A} {k : ℕ} {p q : Productions S H F C K fg cg kg} {b e : Buffer S} {ctx : Context}
-      {r o : Result T Error} (w : Context → Context)
-      → ((x : Context) → (w x).ignore_error ≡ x.ignore_error)
+      {r o : Result T Error} (w : Context → Context) → ((x : Context) → (w x).ignore_error ≡ x.ignore_error)
       → ((x : Scope) (ts : List TokenAndSpan) → f x ts ≡ g (inner (in_context w x)) ts)
       → ctx ≡ context model p.input → Moves model p.input b
       → deciding (context model b) ≡ w (deciding (context model p.input))

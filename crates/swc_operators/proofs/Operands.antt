@@ -31,5 +31,4 @@ module _ {F C K : Type 0} (hook : Hook F C K) where
   pub private_first : (f : Bool) (x : Scope) (ts : List TokenAndSpan) → x.head ≡ false → is_private_here f x ts ≡ true
       → operand hook f x ts ≡ (private_operand hook x ts >>= behind x)
   unfolding operand behind_operand
-  private_first f x ts none h =
-      rw h (ap (λ y. private_operand hook x ts >>= behind y) (inner_is x none))
+  private_first f x ts none h = rw h (ap (λ y. private_operand hook x ts >>= behind y) (inner_is x none))

@@ -104,8 +104,7 @@ module _ {F C K : Type 0} (hook : Hook F C K) where
 
   -- no operator that binds tighter follows the operand
   pub climb_ends : (l : Tree F C K) (m : ℕ) (x : Scope) (ts : List TokenAndSpan)
-      → operator_above m (operator_at x.context (first ts)) ≡ None
-      → run hook (climb l m) x ts ≡ turned hook l None x ts
+      → operator_above m (operator_at x.context (first ts)) ≡ None → run hook (climb l m) x ts ≡ turned hook l None x ts
   climb_ends l m x ts h =
       rule.climb_splits hook l m x ts
       ∙ ap (λ o. o >>= (λ p. turned hook p.0.0 p.0.1 x p.1))
@@ -113,8 +112,7 @@ module _ {F C K : Type 0} (hook : Hook F C K) where
 
   -- where no assignment expression begins
   bin_op_here : (op : BinaryOp) (l : Tree F C K) (m : ℕ) (x : Scope) (ts : List TokenAndSpan) → x.head ≡ false
-      → exp_ok op l ≡ true
-      → bin_op hook op l m x ts
+      → exp_ok op l ≡ true → bin_op hook op l m x ts
       ≡ (run hook (at (Level (suc (min_right op)))) x ts >>= (λ p. bin_op_node hook op l m p.0 p.1))
   bin_op_here op l m x ts none h =
       rule.bin_op_splits hook op l m x ts h
@@ -129,8 +127,7 @@ module _ {F C K : Type 0} (hook : Hook F C K) where
       ∙ ap (λ y. operand hook (nat_lt m 7) x ts >>= (λ p. run hook (climb p.0 m) y p.1)) (s.inner_is x none)
 
   takes_by : (b : Bool) (op : BinaryOp) (l : Tree F C K) (m : ℕ) (x : Scope) (ts : List TokenAndSpan)
-      → x.head ≡ false → exp_ok op l ≡ b
-      → (bin_op hook op l m x (rest ts) >>= (λ p. turned hook p.0.0 p.0.1 x p.1))
+      → x.head ≡ false → exp_ok op l ≡ b → (bin_op hook op l m x (rest ts) >>= (λ p. turned hook p.0.0 p.0.1 x p.1))
       ≡ (operator_taken op l x ts >>= (λ p. on_operand hook op l m x p.1))
   unfolding operator_taken
   takes_by true op l m x ts none h =
@@ -150,8 +147,7 @@ module _ {F C K : Type 0} (hook : Hook F C K) where
       ∙ takes_by (exp_ok op l) op l m x ts none refl
 
   joins_well : (b : Bool) (op : BinaryOp) (l r : Tree F C K) (m : ℕ) (x : Scope) (ts : List TokenAndSpan)
-      → left_ok (joined op l r) ≡ b
-      → turned hook (joined op l r) (Some m) x ts
+      → left_ok (joined op l r) ≡ b → turned hook (joined op l r) (Some m) x ts
       ≡ (turned hook (joined op l r) None x ts >>= (λ p. run hook (climb p.0 m) x p.1))
   joins_well true op l r m x ts h =
       rw (rule.turned_well hook (joined op l r) (Some m) x ts h, rule.turned_well hook (joined op l r) None x ts h) refl
@@ -184,8 +180,7 @@ module _ {F C K : Type 0} (hook : Hook F C K) where
   -- ---- all that wait
 
   pub through_push : (tree : ExprId → Tree F C K) (m : ℕ) (ws : List PendingOperator) (w : PendingOperator) (x : Scope)
-      (o : Out (Tree F C K))
-      → through hook tree m (ws ++ w ∷ []) x o
+      (o : Out (Tree F C K)) → through hook tree m (ws ++ w ∷ []) x o
       ≡ through hook tree m ws x (o >>= (λ p. on_joined hook w.op (tree w.left) (least_above m ws) p.0 x p.1))
   through_push tree m [] w x o = refl
   through_push tree m (v ∷ ws) w x o =
@@ -205,8 +200,7 @@ module _ {F C K : Type 0} (hook : Hook F C K) where
   -- the left operands keep their trees
   pub through_later : {fg : Ghosts F} {cg : Ghosts C} {kg : Ghosts K} {ns ms : Nodes F C K fg cg kg} {k : ℕ} (m : ℕ)
       (ws : List PendingOperator) (e : ExprId) (x : Scope) (o : Out (Tree F C K)) → Grows ns ms
-      → Apart k ns (operand_parts ws e)
-      → through hook (tree_of ns) m ws x o ≡ through hook (tree_of ms) m ws x o
+      → Apart k ns (operand_parts ws e) → through hook (tree_of ns) m ws x o ≡ through hook (tree_of ms) m ws x o
   through_later m [] e x o g a = refl
   through_later {ns = ns} {ms = ms} m (w ∷ ws) e x o g a =
       let same : tree_of ms w.left ≡ tree_of ns w.left =
@@ -227,8 +221,7 @@ module _ {F C K : Type 0} (hook : Hook F C K) where
 
   -- what waits on top is joined with its operands
   top_joins : (tree : ExprId → Tree F C K) (ws vs : List PendingOperator) (w : PendingOperator) (e : ExprId)
-      → ws ≡ vs ++ w ∷ [] → (x : Scope) (ts : List TokenAndSpan)
-      → pending_left hook tree ws e x ts
+      → ws ≡ vs ++ w ∷ [] → (x : Scope) (ts : List TokenAndSpan) → pending_left hook tree ws e x ts
       ≡ through hook tree 0 vs x (join hook w.op (tree w.left) (tree e) x ts
       >>= (λ p. run hook (climb p.0 (least_above 0 vs)) x p.1))
   top_joins tree ws vs w e popped x ts =
@@ -270,8 +263,7 @@ module _ {S F C K : Type 0} {model : Model S} {sure : Bool} (hook : Hook F C K) 
 
   -- the operator that is current binds tighter
   takes : {b c : Buffer S} (l : Tree F C K) (m : ℕ) (op : BinaryOp) → Here model b c
-      → Some op ≡ operator_above m (operator_at (context model c) (seen c))
-      → On model sure (run hook (climb l m))
+      → Some op ≡ operator_above m (operator_at (context model c) (seen c)) → On model sure (run hook (climb l m))
       (λ x ts. operator_taken op l x ts >>= (λ p. on_operand hook op l m x p.1)) b c
   takes {b} {c} l m op here is =
       let a = above_some m (operator_at (context model c) (seen c)) op (sym is) in
@@ -282,8 +274,7 @@ module _ {S F C K : Type 0} {model : Model S} {sure : Bool} (hook : Hook F C K) 
   pub on_taken : {f : s.Reader (Tree F C K)} {a b c d : Buffer S} (tree : ExprId → Tree F C K)
       (ws : List PendingOperator) (e : ExprId) (op : BinaryOp) → On model sure f (pending_reads hook tree ws e) a b
       → Here model b c → Some op ≡ operator_above (least_above 0 ws) (operator_at (context model c) (seen c))
-      → Heard model sure (operator_taken op (tree e)) tt c d
-      → On model sure f (pending_operand hook tree ws e op) a d
+      → Heard model sure (operator_taken op (tree e)) tt c d → On model sure f (pending_operand hook tree ws e op) a d
   unfolding pending_reads
   on_taken tree ws e op o here is took =
       let m = least_above 0 ws in
@@ -293,8 +284,7 @@ module _ {S F C K : Type 0} {model : Model S} {sure : Bool} (hook : Hook F C K) 
   pub unheard_taken : {f : s.Reader (Tree F C K)} {a b c d : Buffer S} {r : Error} (tree : ExprId → Tree F C K)
       (ws : List PendingOperator) (e : ExprId) (op : BinaryOp) → On model sure f (pending_reads hook tree ws e) a b
       → Here model b c → Some op ≡ operator_above (least_above 0 ws) (operator_at (context model c) (seen c))
-      → Unheard model sure (operator_taken op (tree e)) c r d
-      → Unheard model sure f a r d
+      → Unheard model sure (operator_taken op (tree e)) c r d → Unheard model sure f a r d
   unfolding pending_reads
   unheard_taken tree ws e op o here is u =
       let m = least_above 0 ws in
@@ -360,8 +350,7 @@ module _ {S F C K : Type 0} {model : Model S} {sure : Bool} (hook : Hook F C K) 
       {f : s.Reader (Tree F C K)} {a b c : Buffer S} (ws vs : List PendingOperator) (w : PendingOperator) (e n : ExprId)
       → ws ≡ vs ++ w ∷ [] → On model sure f (pending_left hook (tree_of ns) ws e) a b
       → On model sure (join hook w.op (tree_of ns w.left) (tree_of ns e)) (s.give (tree_of ms n)) b c → Grows ns ms
-      → Apart k ns (operand_parts ws e)
-      → On model sure f (pending_reads hook (tree_of ms) vs n) a c
+      → Apart k ns (operand_parts ws e) → On model sure f (pending_reads hook (tree_of ms) vs n) a c
   unfolding pending_reads
   on_join {ns = ns} {ms = ms} {k = k} ws vs w e n popped o made g apart =
       let m = least_above 0 vs in
@@ -373,8 +362,7 @@ module _ {S F C K : Type 0} {model : Model S} {sure : Bool} (hook : Hook F C K) 
   pub unheard_join : {f : s.Reader (Tree F C K)} {a b c : Buffer S} {x : Error} (tree : ExprId → Tree F C K)
       (ws vs : List PendingOperator) (w : PendingOperator) (e : ExprId) → ws ≡ vs ++ w ∷ []
       → On model sure f (pending_left hook tree ws e) a b
-      → Unheard model sure (join hook w.op (tree w.left) (tree e)) b x c
-      → Unheard model sure f a x c
+      → Unheard model sure (join hook w.op (tree w.left) (tree e)) b x c → Unheard model sure f a x c
   unheard_join tree ws vs w e popped o u =
       let m = least_above 0 vs in
       s.unheard_after (s.on_to o (top_joins hook tree ws vs w e popped))

@@ -95,8 +95,7 @@ module _ {F C K : Type 0} (hook : Hook F C K) where
   -- an operand with which nothing goes on
   pub ends_here : (l : Tree F C K) (x : Scope) (ts : List TokenAndSpan) → at_token goes_on (first ts) ≡ false
       → behind hook x (l, ts) ≡ Some (l, ts)
-  ends_here l x [] h =
-      ap (λ o. o >>= updated hook x) (links-end hook true l x [] refl) ∙ updates_end hook l x [] refl
+  ends_here l x [] h = ap (λ o. o >>= updated hook x) (links-end hook true l x [] refl) ∙ updates_end hook l x [] refl
   ends_here l x (t ∷ ts) h =
       ap (λ o. o >>= updated hook x) (links-end hook true l x (t ∷ ts) (ends_links t.token (first ts) h))
       ∙ updates_end hook l x (t ∷ ts) (ends_updates t.token t.had_line_break h)

@@ -22,11 +22,9 @@ module _ {S H F C K : Type 0} {fg : Ghosts F} {cg : Ghosts C} {kg : Ghosts K} {m
       → {k : ℕ} {p a q : Productions S H F C K fg cg kg} {d : Buffer S} {place : Span}
       → (e : ExprId) (r : Result ExprId Error)
       → Heard model sure (run hook (at Assign)) (tree_of a.nodes e) p.input a.input → Grows p.nodes a.nodes
-      → Heard model sure (eaten is_comma) (Some place) a.input d
-      → Produces model sure itself tree_of
+      → Heard model sure (eaten is_comma) (Some place) a.input d → Produces model sure itself tree_of
       (seqs_from hook (begins_in_invalid (tree_of a.nodes e)) (start_at a.nodes e.0) (cons (tree_of a.nodes e) nil))
-      k (record a { input = d }) r q
-      → Produces model sure itself tree_of (run hook (at Expr)) k p r q
+      k (record a { input = d }) r q → Produces model sure itself tree_of (run hook (at Expr)) k p r q
   behind_comma hook lawful {a = a} {d = d} e r read grows comma goes =
       let t = tree_of a.nodes e in
       let b = begins_in_invalid t in

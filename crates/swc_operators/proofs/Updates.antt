@@ -117,8 +117,7 @@ module _ {F C K : Type 0} (hook : Hook F C K) where
       knot hook (updates l) x (t ∷ ts) ∙ rw (u, n) (rw (o, g) refl)
 
   pub updates_ill : (op : UpdateOp) (l : Tree F C K) (x : Scope) (ts : List TokenAndSpan)
-      → update_behind (first ts) ≡ Some op → is_target x.context.strict l ≡ false
-      → run hook (updates l) x ts ≡ None
+      → update_behind (first ts) ≡ Some op → is_target x.context.strict l ≡ false → run hook (updates l) x ts ≡ None
   updates_ill op l x [] h g = absurd cc
   updates_ill op l x (t ∷ ts) h g =
       let (n, o) = if_some t.had_line_break (update_of t.token) op h in
@@ -162,14 +161,16 @@ module _ {F C K : Type 0} (hook : Hook F C K) where
 
       by_tests : (b e : Bool) → at_token is_star (first us) ≡ b
           → (not x.context.in_async && ends_await_at (first us)) ≡ e
-          → exec hook (run hook) (Some 11) (chosen {s = Unary} {c = x} (await_choice {F = F} {C = C} {K = K} x (first us))) (a ∷ us)
+          → exec hook (run hook) (Some 11) (chosen {s = Unary} {c = x}
+          (await_choice {F = F} {C = C} {K = K} x (first us))) (a ∷ us)
           ≡ (if at_token is_star (first us) then None else
           (if not x.context.in_async && ends_await_at (first us) then
           (if await_ident_ok x.context then Some (ident_e s (codes "await"), us) else None) else
           (if await_ok x.context then
           (run hook (at Unary) (inner x) us >>= (λ p. Some (await_e (to s (span_of p.0)) p.0, p.1))) else None)))
       by_tests true e h k =
-          ap (λ v. exec hook (run hook) (Some 11) (chosen {s = Unary} {c = x} v) (a ∷ us)) (if_on (at_token is_star (first us)) _ _ h)
+          ap (λ v. exec hook (run hook) (Some 11) (chosen {s = Unary} {c = x} v) (a ∷ us))
+          (if_on (at_token is_star (first us)) _ _ h)
           ∙ sym (if_on (at_token is_star (first us)) _ _ h)
       by_tests false true h k =
           ap (λ v. exec hook (run hook) (Some 11) (chosen {s = Unary} {c = x} v) (a ∷ us))
@@ -185,7 +186,8 @@ module _ {F C K : Type 0} (hook : Hook F C K) where
           (if_off (at_token is_star (first us)) _ _ h
           ∙ if_off (not x.context.in_async && ends_await_at (first us)) _ _ k)
           ∙ ap (λ v. if await_ok x.context then v else None)
-          (if_off (sees (λ t. is_star t.token || (not x.context.in_async && ends_await t)) us) None _ (sees_more x us h k)
+          (if_off (sees (λ t. is_star t.token || (not x.context.in_async && ends_await t)) us) None _
+          (sees_more x us h k)
           ∙ calls (run hook (at Unary) (inner x) us) _)
           ∙ sym (if_off (at_token is_star (first us)) _ _ h
           ∙ if_off (not x.context.in_async && ends_await_at (first us)) _ _ k)
@@ -220,8 +222,7 @@ module _ {F C K : Type 0} (hook : Hook F C K) where
 -- what is made of `++` and `--`, and of the identifier `await`
 module _ {F C K : Type 0} where
   pub update_well : (s : Span) (op : UpdateOp) (x : Scope) (e : Tree F C K) (ts : List TokenAndSpan)
-      → is_target x.context.strict e ≡ true
-      → update_node s op x e ts ≡ Some (update_e (to s (span_of e)) op true e, ts)
+      → is_target x.context.strict e ≡ true → update_node s op x e ts ≡ Some (update_e (to s (span_of e)) op true e, ts)
   unfolding update_node
   update_well s op x e ts h = rw h refl
 

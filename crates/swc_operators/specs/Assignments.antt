@@ -1,4 +1,5 @@
--- What the steps of the code read in assignment expressions and in sequences (13.14 to 13.16, 15.5), by the clean parser.
+-- What the steps of the code read in assignment expressions and in sequences (13.14 to 13.16, 15.5), by the clean
+-- parser.
 use Rattle.std.specs.Prelude.{ℕ, Bool, true, false, ◌&&◌, if◌then◌else◌, List, Option, Some, None}
 use Rattle.swc_context.specs.{declared.operator.AssignOp.AssignOp, declared.operator.AssignOp.AssignOp as write, Spans.from_to, declared.span.BytePos.BytePos, declared.span.Span.Span}
 use Rattle.swc_input.specs.{declared.token.TokenAndSpan.TokenAndSpan, Recording.is_some, Kinds.at_token}
@@ -28,8 +29,7 @@ module _ {F C K : Type 0} (hook : Hook F C K) where
 
   -- after some expressions and a comma, and after some expressions, where a comma was taken or not
   unfoldable pub seqs_more : Trees F C K → Scope → List TokenAndSpan → Out (Tree F C K)
-  seqs_more es c ts =
-      run hook (sym Assign) c ts >>= (λ p. run hook (seqs (trees_append es (cons p.0 nil))) c p.1)
+  seqs_more es c ts = run hook (sym Assign) c ts >>= (λ p. run hook (seqs (trees_append es (cons p.0 nil))) c p.1)
 
   abbrev pub seqs_by : Trees F C K → Option Span → Scope → List TokenAndSpan → Out (Tree F C K)
   seqs_by es (Some s) c ts = seqs_more es c ts
@@ -98,8 +98,7 @@ module _ {F C K : Type 0} (hook : Hook F C K) where
 
   -- its operand, after the `*` or none, where `yield` is at s; from the `*` on; after the word; and from that on
   abbrev pub yield_arg : Span → Option Span → Scope → List TokenAndSpan → Out (Tree F C K)
-  yield_arg s o c ts =
-      run hook (sym Assign) c ts >>= (λ q. Some (yield_e (to s (span_of q.0)) (is_some o) q.0, q.1))
+  yield_arg s o c ts = run hook (sym Assign) c ts >>= (λ q. Some (yield_e (to s (span_of q.0)) (is_some o) q.0, q.1))
 
   unfoldable pub yield_operand : Span → Scope → List TokenAndSpan → Out (Tree F C K)
   yield_operand s c ts = eaten is_star c ts >>= (λ p. yield_arg s p.0 c p.1)

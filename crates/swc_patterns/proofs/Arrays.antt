@@ -116,8 +116,7 @@ module _ {F C K : Type 0} where
       ap (λ v. Some (listed None (span_of p.0) v, p.1)) (sym (put_elements_append before (x ∷ []) (items_of p.0)))
 
   -- a name that is bound
-  pub plain_splits : (x : Scope) (ts : List TokenAndSpan)
-      → plain_pat {F = F} {C = C} {K = K} x ts
+  pub plain_splits : (x : Scope) (ts : List TokenAndSpan) → plain_pat {F = F} {C = C} {K = K} x ts
       ≡ (word may_bind x ts >>= (λ p. Some (ident_e p.0.at p.0.text, p.1)))
   unfolding plain_pat
   plain_splits x ts = refl
@@ -214,14 +213,12 @@ module _ {F C K : Type 0} (hook : Hook F C K) where
       ∙ rw (equals-is t.token h) (calls (run hook (at Assign) (with_in x) us) _)
   defaults_by l false x us h = knot hook (defaults l) x us ∙ rw h refl
 
-  pub default_value_splits : (l : Tree F C K) (x : Scope) (ts : List TokenAndSpan)
-      → default_value hook l x ts
+  pub default_value_splits : (l : Tree F C K) (x : Scope) (ts : List TokenAndSpan) → default_value hook l x ts
       ≡ (inside hook x ts >>= (λ p. Some (default_p (to (span_of l) (span_of p.0)) l p.0, p.1)))
   unfolding default_value
   default_value_splits l x ts = refl
 
-  pub element_splits : (x : Scope) (ts : List TokenAndSpan)
-      → run hook (at Element) x ts
+  pub element_splits : (x : Scope) (ts : List TokenAndSpan) → run hook (at Element) x ts
       ≡ (run hook (at Pat) x ts >>= (λ p. eaten is_equals x p.1 >>= (λ q. default_by hook p.0 q.0 x q.1)))
   unfolding eaten
   element_splits x ts =
@@ -263,8 +260,7 @@ module _ {F C K : Type 0} (hook : Hook F C K) where
   tail_is x [] = knot hook (at PatElementsTail) x []
   tail_is x (t ∷ us) = tail_token x t.token t.had_line_break t.span us
 
-  rest_close : (p : Tree F C K) (vs : List TokenAndSpan)
-      → exec hook (run hook) (Some 4)
+  rest_close : (p : Tree F C K) (vs : List TokenAndSpan) → exec hook (run hook) (Some 4)
       (take (λ t. check (is_rbracket t.token) (gives (listed None t.span (cons p nil))))) vs
       ≡ closes_with p vs
   rest_close p [] = refl
@@ -272,8 +268,7 @@ module _ {F C K : Type 0} (hook : Hook F C K) where
 
   -- after a rest
   rest_token : (before : List (Option (Tree F C K))) (p : Tree F C K) (x : Scope) (v : Token) (b : Bool) (s : Span)
-      (vs : List TokenAndSpan)
-      → (closes_with p (tk v b s ∷ vs) >>= left before)
+      (vs : List TokenAndSpan) → (closes_with p (tk v b s ∷ vs) >>= left before)
       ≡ behind_element hook true going (before ++ Some p ∷ []) x (tk v b s ∷ vs)
   unfolding behind_element separated_item elements_left separated closed eaten expected
   rest_token before p x token.RBracket b s vs =
@@ -305,8 +300,7 @@ module _ {F C K : Type 0} (hook : Hook F C K) where
       ∙ binds (separated is_rbracket x us) (λ q. Some (behind_by false going q.0, q.1)) _
 
   turn_token : (before : List (Option (Tree F C K))) (x : Scope) (v : Token) (b : Bool) (s : Span)
-      (us : List TokenAndSpan)
-      → (run hook (at PatElements) x (tk v b s ∷ us) >>= left before)
+      (us : List TokenAndSpan) → (run hook (at PatElements) x (tk v b s ∷ us) >>= left before)
       ≡ (next_element going x (tk v b s ∷ us) >>= (λ p. elements_with hook p.0 going before x p.1))
   unfolding next_element eaten expected elements_left
   turn_token before x token.Comma b s us =
@@ -355,8 +349,7 @@ module _ {F C K : Type 0} (hook : Hook F C K) where
   elements_turn never before x ts = never_by (at_token is_rbracket (first ts)) before x ts
 
   pub behind_element_splits : (is_rest : Bool) (s : Stage) (before : List (Option (Tree F C K))) (x : Scope)
-      (ts : List TokenAndSpan)
-      → behind_element hook is_rest s before x ts
+      (ts : List TokenAndSpan) → behind_element hook is_rest s before x ts
       ≡ (separated_item is_rbracket is_rest s x ts >>= (λ p. elements_left hook p.0 before x p.1))
   unfolding behind_element
   behind_element_splits is_rest s before x ts = refl
@@ -382,8 +375,7 @@ module _ {F C K : Type 0} (hook : Hook F C K) where
   tail_all : (n : ℕ) → Shorter n → (x : Scope) (us : List TokenAndSpan) (r : Tree F C K × List TokenAndSpan)
       → length us ≤ suc n → run hook (at PatElementsTail) x us ≡ Some r → Bare r.0
   tail_all n shorter x [] r le h = let e = sym (knot hook (at PatElementsTail) x []) ∙ h in absurd cc
-  tail_all n shorter x (t ∷ us) r le h =
-      tail_bare n shorter x t.token t.had_line_break t.span us r (omega arith) h
+  tail_all n shorter x (t ∷ us) r le h = tail_bare n shorter x t.token t.had_line_break t.span us r (omega arith) h
 
   bare_token : (n : ℕ) → Shorter n → (x : Scope) (v : Token) (b : Bool) (s : Span) (us : List TokenAndSpan)
       (r : Tree F C K × List TokenAndSpan) → length us ≤ n → run hook (at PatElements) x (tk v b s ∷ us) ≡ Some r
@@ -408,8 +400,7 @@ module _ {F C K : Type 0} (hook : Hook F C K) where
   bare_all : (n : ℕ) → Shorter n
   bare_all n x [] r le h = let e = sym (elements_none x) ∙ h in absurd cc
   bare_all zero x (t ∷ ts) r le h = absurd (omega arith)
-  bare_all (suc n) x (t ∷ ts) r le h =
-      bare_token n (bare_all n) x t.token t.had_line_break t.span ts r (omega arith) h
+  bare_all (suc n) x (t ∷ ts) r le h = bare_token n (bare_all n) x t.token t.had_line_break t.span ts r (omega arith) h
 
   first_by : (o : Out (Tree F C K)) → ((r : Tree F C K × List TokenAndSpan) → o ≡ Some r → Bare r.0)
       → o ≡ (o >>= left [])

@@ -39,7 +39,8 @@ module _ {F C K : Type 0} (hook : Hook F C K) where
   object_rest lo x ts = run hook (at PatProps) x ts >>= (λ p. Some (object_pat_of lo p.0, p.1))
 
   object_opens : {S : Type 0} {model : Model S} {b c : Buffer S} {k : Token} {lo : BytePos}
-      → pat_kind (seen b) ≡ kind.Object → (took : Bumped model b k c) → took.was.span.lo ≡ lo → (x : Scope) (ts : List TokenAndSpan)
+      → pat_kind (seen b) ≡ kind.Object → (took : Bumped model b k c) → took.was.span.lo ≡ lo
+      → (x : Scope) (ts : List TokenAndSpan)
       → by_production hook (λ c. pat-object) x (plain took.was ∷ ts) ≡ object_rest lo x ts
   object_opens {b = b} k took place x ts =
       pat_object_opens hook (plain took.was) x ts (passes_plain is_brace _ _ took.current (is_object (seen b) k))
@@ -63,8 +64,7 @@ module _ {S F C K : Type 0} {model : Model S} {sure : Bool} (hook : Hook F C K) 
   -- after the properties l, where the rests among them are checked
   pub object_reads : {T : Type 0} (view : T → Tree F C K) (l : Tree F C K) (r : Result T Error)
       {a b c d : Buffer S} (e : Buffer S) {k : Token} {lo : BytePos} → Here model a b → pat_kind (seen b) ≡ kind.Object
-      → (took : Bumped model b k c) → took.was.span.lo ≡ lo
-      → On model sure (run hook (at PatProps)) (props_done l) c d
+      → (took : Bumped model b k c) → took.was.span.lo ≡ lo → On model sure (run hook (at PatProps)) (props_done l) c d
       → Continues model sure view (object_pat_from lo l) d r e → Parses model sure view (run hook (at Pat)) a r e
   object_reads view l r e {lo = lo} h is took place props reads =
       s.parses_after model sure view (run hook (at Pat)) e r (object_begins h is)

@@ -38,8 +38,7 @@ module _ {S F C K : Type 0} {model : Model S} {sure : Bool} (hook : Hook F C K) 
 
   -- the bracket that closes the list
   pub ended : {c : Buffer S} {n : NextElement} (end : Span) → n ≡ next.End end
-      → Heard model sure (next_element stage) n b c
-      → Heard model sure f (listed None end (put_elements before nil)) a c
+      → Heard model sure (next_element stage) n b c → Heard model sure f (listed None end (put_elements before nil)) a c
   ended end is h =
       s.heard_after so_far (s.heard_call (λ x p. elements_with hook p.0 stage before x p.1)
       (λ x ts. elements_turn hook stage before x ts) (λ x ts. refl) (s.heard_answer is h))
@@ -59,8 +58,7 @@ module _ {S F C K : Type 0} {model : Model S} {sure : Bool} (hook : Hook F C K) 
       s.on_then so_far
       (s.on_call (λ x p. behind_element hook (is_some dots) stage (before ++ Some p.0 ∷ []) x p.1) (λ x ts. refl) o)
 
-  pub no_item : {c : Buffer S} {e : Error} → Unheard model sure (item_read hook dots) b e c
-      → Unheard model sure f a e c
+  pub no_item : {c : Buffer S} {e : Error} → Unheard model sure (item_read hook dots) b e c → Unheard model sure f a e c
   no_item u =
       s.unheard_after so_far
       (s.unheard_call (λ x p. behind_element hook (is_some dots) stage (before ++ Some p.0 ∷ []) x p.1)
@@ -99,8 +97,7 @@ module _ {S H F C K : Type 0} {fg : Ghosts F} {cg : Ghosts C} {kg : Ghosts K} {m
       → Heard model sure (run hook (at Pat)) (pat_at q.nodes arg) p.input q.input → Grows p.nodes q.nodes
       → From k q.nodes (pat_part arg)
       → GoesOn model sure pat_itself pat_at (λ x ts. Some (rest_node dots (pat_at q.nodes arg), ts))
-      (first_at q.nodes arg.0) q r o
-      → Produces model sure pat_itself pat_at (item_read hook (Some dots)) k p r o
+      (first_at q.nodes arg.0) q r o → Produces model sure pat_itself pat_at (item_read hook (Some dots)) k p r o
   rest_item q arg r read grows from made =
       m.call {m = q} r (λ x p. Some (rest_node dots p.0, p.1)) (λ x ts. refl) read grows
       (λ x h. from-down from.above h) made

@@ -158,8 +158,7 @@ module _ {F C K : Type 0} (hook : Hook F C K) where
   paren_run t x [] = refl
   paren_run t x (u ∷ us) = by_paren (is_rparen u.token)
     where
-      by_paren : (b : Bool)
-          → (if b then answer (listed None u.span (cons t nil)) us else None)
+      by_paren : (b : Bool) → (if b then answer (listed None u.span (cons t nil)) us else None)
           ≡ (eaten_by b (u ∷ us) >>= (λ p. expected_by p.0 p.1) >>= (λ q. Some (listed None q.0 (cons t nil), q.1)))
       by_paren true = refl
       by_paren false = refl
@@ -196,8 +195,7 @@ module _ {F C K : Type 0} (hook : Hook F C K) where
       ∙ binds (separated is_rparen x us) _ _
 
   ended_token : (s : Span) (t : Tree F C K) (before : Trees F C K) (x : Scope) (v : Token) (b : Bool) (e : Span)
-      (us : List TokenAndSpan)
-      → (rest_last (rest_node s t) x (tk v b e ∷ us) >>= with_items before)
+      (us : List TokenAndSpan) → (rest_last (rest_node s t) x (tk v b e ∷ us) >>= with_items before)
       ≡ (rest_end s t x (tk v b e ∷ us) >>= left_from true before x)
   unfolding rest_end expected eaten
   ended_token s t before x (token.AssignOp assign.Assign) b e us = refl
@@ -248,15 +246,13 @@ module _ {F C K : Type 0} (hook : Hook F C K) where
   open_turn before x (t ∷ ts) = open_token before x t.token t.had_line_break t.span ts
 
   closed_token : (before : Trees F C K) (b : Bool) (x : Scope) (t : TokenAndSpan) (ts : List TokenAndSpan)
-      → is_rparen t.token ≡ b
-      → params_close before x (t ∷ ts)
+      → is_rparen t.token ≡ b → params_close before x (t ∷ ts)
       ≡ ((if b then answer next.End (t ∷ ts) else None) >>= (λ p. params_with hook p.0 closing before x p.1))
   unfolding params_close expected eaten
   closed_token before true x t ts h = refl
   closed_token before false x t ts h = rw h refl
 
-  closed_turn : (before : Trees F C K) (x : Scope) (ts : List TokenAndSpan)
-      → params_close before x ts
+  closed_turn : (before : Trees F C K) (x : Scope) (ts : List TokenAndSpan) → params_close before x ts
       ≡ (next_param closing x ts >>= (λ p. params_with hook p.0 closing before x p.1))
   unfolding next_param
   closed_turn before x [] = refl
@@ -312,8 +308,7 @@ module _ {F C K : Type 0} (hook : Hook F C K) where
       let is = knot hook (at Params) x (tk v b s ∷ us) in
       is ∙ first_more x (tk v b s ∷ us) ∙ ap (λ o. o >>= with_items nil) (sym is)
 
-  pub params_first : (x : Scope) (ts : List TokenAndSpan)
-      → run hook (at Params) x ts ≡ params_left hook going nil x ts
+  pub params_first : (x : Scope) (ts : List TokenAndSpan) → run hook (at Params) x ts ≡ params_left hook going nil x ts
   unfolding params_left
   params_first x [] =
       let is = knot hook (at Params) x [] in is ∙ first_more x [] ∙ ap (λ o. o >>= with_items nil) (sym is)

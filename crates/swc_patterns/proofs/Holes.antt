@@ -44,5 +44,4 @@ hole_taken (x ∷ y ∷ ys) h =
 pub hole_none : {X : Type 0} (xs : List (Option X)) → ends_in_hole xs ≡ false → without_holes xs ≡ xs
 hole_none [] h = refl
 hole_none (x ∷ []) h = alone_kept x (sym (alone x) ∙ h)
-hole_none (x ∷ y ∷ ys) h =
-    ap (put_elem x) (hole_none (y ∷ ys) (sym (ends_later x y ys) ∙ h)) ∙ put_more x y ys
+hole_none (x ∷ y ∷ ys) h = ap (put_elem x) (hole_none (y ∷ ys) (sym (ends_later x y ys) ∙ h)) ∙ put_more x y ys

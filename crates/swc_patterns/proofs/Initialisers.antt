@@ -15,8 +15,7 @@ use Rattle.swc_steps.proofs.Making as m
 use Rattle.swc_patterns.specs.{Answers.pat_itself, Answers.pat_at, Arrays.default_value}
 
 module _ {F C K : Type 0} (hook : Hook F C K) where
-  pub default_value_splits : (l : Tree F C K) (x : Scope) (ts : List TokenAndSpan)
-      → default_value hook l x ts
+  pub default_value_splits : (l : Tree F C K) (x : Scope) (ts : List TokenAndSpan) → default_value hook l x ts
       ≡ (inside hook x ts >>= (λ p. Some (default_p (to (span_of l) (span_of p.0)) l p.0, p.1)))
   unfolding default_value
   default_value_splits l x ts = refl

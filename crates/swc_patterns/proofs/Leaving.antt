@@ -42,8 +42,7 @@ module _ {S : Type 0} {model : Model S} {sure : Bool} where
   pub unheard_aside : {A : Type 0} {f : Reader A} {b c d e : Buffer S} {x : Error} → Moves model b c
       → deciding (context model c) ≡ deciding (context model b) → Unheard model sure f c x d
       → Moves model d e → context model e ≡ context model b → Unheard model sure f b x e
-  unheard_aside {A = A} {f = f} {x = x} m to u n back =
-      parses_aside model sure {T = A} (λ a. a) f (Err x) m to u n back
+  unheard_aside {A = A} {f = f} {x = x} m to u n back = parses_aside model sure {T = A} (λ a. a) f (Err x) m to u n back
 
 module _ {S H F C K : Type 0} {fg : Ghosts F} {cg : Ghosts C} {kg : Ghosts K} {model : Model S} {sure : Bool}
     {T A : Type 0} {held : ℕ → Nodes F C K fg cg kg → T → Type 0} {f : Reader A}

@@ -37,7 +37,6 @@ module _ {F C K : Type 0} {fg : Ghosts F} {cg : Ghosts C} {kg : Ghosts K} where
 
   -- parameters, and one that is read after them
   pub params-more : {ns ms : Nodes F C K fg cg kg} {k : ℕ} (xs : List (Param PatId)) (x : Param PatId)
-      → Grows ns ms → Apart k ns (flat param_parts xs)
-      → trees (map (λ p. pat_at ms p.pat) (xs ++ x ∷ []))
+      → Grows ns ms → Apart k ns (flat param_parts xs) → trees (map (λ p. pat_at ms p.pat) (xs ++ x ∷ []))
       ≡ trees_append (trees (map (λ p. pat_at ns p.pat) xs)) (cons (pat_at ms x.pat) nil)
   params-more xs x g a = list-more param_parts (λ at p. at p.pat.0) (λ at by p h. same_first h) xs x g a

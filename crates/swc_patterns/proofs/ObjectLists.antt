@@ -95,8 +95,7 @@ module _ {S H F C K : Type 0} {fg : Ghosts F} {cg : Ghosts C} {kg : Ghosts K} {m
       → On model sure (run hook (at PatProps)) (pat_prop_more hook (trees (map (pat_prop_at q.nodes) xs))) p.input b
       → Heard model sure (pat_prop_item hook) (pat_prop_at r.nodes x) b c
       → On model sure (separated is_rbrace) (give s) c r.input → Grows q.nodes r.nodes
-      → Apart (count q.nodes) r.nodes (pat_prop_parts x) → ys ≡ xs ++ x ∷ []
-      → PatPropsRead model sure hook ys s p r
+      → Apart (count q.nodes) r.nodes (pat_prop_parts x) → ys ≡ xs ++ x ∷ [] → PatPropsRead model sure hook ys s p r
   added {s = s} x ys more item comes grows apart is =
       let is_more = ap (λ v. trees (map (pat_prop_at r.nodes) v)) is ∙ pat-props-more xs x grows so.apart in
       let on = on_to (joined hook (trees (map (pat_prop_at q.nodes) xs)) more item comes)

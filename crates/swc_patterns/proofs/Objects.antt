@@ -111,8 +111,7 @@ module _ {F C K : Type 0} (hook : Hook F C K) where
   name_by_is n k (Some s) x us = refl
   name_by_is n k None x us = by_reserved (is_reserved_word x.context n.sym)
     where
-      by_reserved : (r : Bool)
-          → (if r then None else answer (name_p n.span (ident_e n.span n.sym) hole_e) us)
+      by_reserved : (r : Bool) → (if r then None else answer (name_p n.span (ident_e n.span n.sym) hole_e) us)
           ≡ ((if r then None else answer (after.Name (bound n)) us) >>= (λ p. pat_prop_left hook k p.0 x p.1))
       by_reserved true = refl
       by_reserved false = refl
@@ -127,8 +126,7 @@ module _ {F C K : Type 0} (hook : Hook F C K) where
   no_colon_is to_tree k x us = refl
 
   after_by_is : (to_tree : ExprId → Tree F C K) (k : PropName ExprId) (o : Option Span) (x : Scope)
-      (us : List TokenAndSpan)
-      → key_left_by hook (prop_name_tree to_tree k) o x us
+      (us : List TokenAndSpan) → key_left_by hook (prop_name_tree to_tree k) o x us
       ≡ (after_by k o x us >>= (λ p. pat_prop_left hook (prop_name_tree to_tree k) p.0 x p.1))
   after_by_is to_tree k (Some s) x us = refl
   after_by_is to_tree k None x us = no_colon_is to_tree k x us
@@ -157,8 +155,7 @@ module _ {F C K : Type 0} (hook : Hook F C K) where
   value_run k x [] = refl
   value_run k x (u ∷ us) = by_colon (is_colon u.token)
     where
-      by_colon : (b : Bool)
-          → (if b then and_then (run hook (at Element) x us)
+      by_colon : (b : Bool) → (if b then and_then (run hook (at Element) x us)
           (λ p vs. Some (key_value_e (to (span_of k) (span_of p)) k p, vs)) else None)
           ≡ (eaten_by b (u ∷ us) >>= (λ p. expected_by p.0 p.1)
           >>= (λ q. run hook (at Element) x q.1
@@ -177,8 +174,7 @@ module _ {F C K : Type 0} (hook : Hook F C K) where
   value_only k h x us =
       sym (binds (eaten is_colon x us) _ _) ∙ bind_same (eaten is_colon x us) _ _ (λ p. by_sign p.0 p.1)
     where
-      by_sign : (o : Option Span) (vs : List TokenAndSpan)
-          → (expected_by o vs >>= (λ q. run hook (at Element) x q.1
+      by_sign : (o : Option Span) (vs : List TokenAndSpan) → (expected_by o vs >>= (λ q. run hook (at Element) x q.1
           >>= (λ p. Some (key_value_e (to (span_of k) (span_of p.0)) k p.0, p.1))))
           ≡ key_left_by hook k o x vs
       by_sign (Some s) vs = refl
@@ -308,8 +304,7 @@ module _ {F C K : Type 0} where
       → props_stage (trees_append before (cons t nil)) q
       ≡ stage_with (props_stage before comma) (props_stage (cons t nil) q)
   stage_more nil comma t q = refl
-  stage_more (cons u nil) comma t q =
-      one_more (is_rest u) (holds_ident u) comma (props_stage (cons t nil) q)
+  stage_more (cons u nil) comma t q = one_more (is_rest u) (holds_ident u) comma (props_stage (cons t nil) q)
   stage_more (cons u (cons v us)) comma t q =
       go_on (is_rest u) (props_stage (cons v us) comma) (props_stage (trees_append (cons v us) (cons t nil)) q)
       (props_stage (cons t nil) q) (stage_more (cons v us) comma t q)
@@ -446,8 +441,7 @@ module _ {F C K : Type 0} (hook : Hook F C K) where
   brace_run t x [] = refl
   brace_run t x (u ∷ us) = by_brace (is_rbrace u.token)
     where
-      by_brace : (b : Bool)
-          → (if b then answer (listed None u.span (cons t nil)) us else None)
+      by_brace : (b : Bool) → (if b then answer (listed None u.span (cons t nil)) us else None)
           ≡ (eaten_by b (u ∷ us) >>= (λ p. expected_by p.0 p.1) >>= (λ q. Some (listed None q.0 (cons t nil), q.1)))
       by_brace true = refl
       by_brace false = refl
@@ -624,13 +618,11 @@ module _ {F C K : Type 0} (hook : Hook F C K) where
 
 module _ {F C K : Type 0} where
   -- the rests are checked, and the pattern is made
-  pub object_splits : (lo : BytePos) (l : Tree F C K) (x : Scope) (ts : List TokenAndSpan)
-      → object_pat_from lo l x ts
+  pub object_splits : (lo : BytePos) (l : Tree F C K) (x : Scope) (ts : List TokenAndSpan) → object_pat_from lo l x ts
       ≡ (rests_checked (props_stage (items_of l) (comma_of l)) x ts >>= (λ p. Some (object_pat_of lo l, p.1)))
   object_splits lo l x ts = by_stage (is_never (props_stage (items_of l) (comma_of l)))
     where
-      by_stage : (b : Bool)
-          → ((if b then None else answer (listed None (span_of l) (items_of l)) ts)
+      by_stage : (b : Bool) → ((if b then None else answer (listed None (span_of l) (items_of l)) ts)
           >>= (λ p. Some (object_pat_of lo p.0, p.1)))
           ≡ ((if b then None else answer (tt {0}) ts) >>= (λ p. Some (object_pat_of lo l, p.1)))
       by_stage true = refl

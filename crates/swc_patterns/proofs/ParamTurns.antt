@@ -31,8 +31,7 @@ module _ {S F C K : Type 0} {model : Model S} {sure : Bool} (hook : Hook F C K) 
       s.on_then so_far (s.on_call (λ x p. params_with hook p.0 stage before x p.1)
       (λ x ts. params_turn hook stage before x ts) (s.on_answer is o))
 
-  pub not_turned : {c : Buffer S} {e : Error} → Unheard model sure (next_param stage) b e c
-      → Unheard model sure f a e c
+  pub not_turned : {c : Buffer S} {e : Error} → Unheard model sure (next_param stage) b e c → Unheard model sure f a e c
   not_turned u =
       s.unheard_after so_far (s.unheard_call (λ x p. params_with hook p.0 stage before x p.1)
       (λ x ts. params_turn hook stage before x ts) u)

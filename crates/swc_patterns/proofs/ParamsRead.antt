@@ -38,7 +38,8 @@ module _ {F C K : Type 0} (hook : Hook F C K) (x : Scope) where
   rest_alone s us ys u None e h = absurd cc
   rest_alone s us ys u (Some p) e h =
       let same = rest_is s p.0 u (eaten is_equals x p.1) ys (sym (rest_end_splits s p.0 x p.1) ∙ h) in
-      dotted (tk token.DotDotDot false s ∷ us) p.1 (rest_read hook x false s us ∙ ap (λ v. v >>= (λ q. Some (rest_node s q.0, q.1))) e
+      dotted (tk token.DotDotDot false s ∷ us) p.1 (rest_read hook x false s us ∙ ap
+      (λ v. v >>= (λ q. Some (rest_node s q.0, q.1))) e
       ∙ ap (λ v. Some (v, p.1)) (sym same))
 
   alone_by : (dots : Option Span) (us ys : List TokenAndSpan) (u : Tree F C K)

@@ -71,15 +71,13 @@ module _ {F C K : Type 0} {fg : Ghosts F} {cg : Ghosts C} {kg : Ghosts K} where
 
   pub kept_apart : (ns : Nodes F C K fg cg kg) (k : ℕ) (xs : List (Option PatId)) (ys : Vec (Option PatId) Global)
       → ys.items ≡ without_holes xs → Apart k ns (flat (if_some one_pat) xs) → Apart k ns (pat_elem_parts ys)
-  kept_apart ns k xs ys e a =
-      subst (λ v. Apart k ns v) (sym (ap (flat (if_some one_pat)) e ∙ kept_parts one_pat xs)) a
+  kept_apart ns k xs ys e a = subst (λ v. Apart k ns v) (sym (ap (flat (if_some one_pat)) e ∙ kept_parts one_pat xs)) a
 
   -- the node of the elements that are left
   pub array_made : (ns ms : Nodes F C K fg cg kg) (k : ℕ) (s : Span) (xs : List (Option PatId))
       (ys : Vec (Option PatId) Global) (q : Result PatId AllocError) → ys.items ≡ without_holes xs
       → IfOk q (λ id. (j : ℕ) → Apart j ns (pat_elem_parts ys)
-      → Made j ms (pat_part id) (array_p s (pat_elem_trees (tree_at ns) ys)))
-      → Apart k ns (flat (if_some one_pat) xs)
+      → Made j ms (pat_part id) (array_p s (pat_elem_trees (tree_at ns) ys))) → Apart k ns (flat (if_some one_pat) xs)
       → IfOk q (λ id. Made k ms (pat_part id) (array_p s (put_elements (map (if_there ns) xs) nil)))
   array_made ns ms k s xs ys (Ok id) e f a =
       let m = f k (kept_apart ns k xs ys e a) in

@@ -83,8 +83,7 @@ module _ {S H F C K : Type 0} {fg : Ghosts F} {cg : Ghosts C} {kg : Ghosts K} {m
     (e : ExprId) (x : PatPropNode) {p q : Productions S H F C K fg cg kg} where
   pub default_read : {a : Buffer S}
       → On model sure (pat_prop_item hook) (pat_prop_left hook key (after.Default n)) a p.input
-      → Produces model sure itself tree_of (inside hook) (count p.nodes) p (Ok e) q
-      → pat_prop_at q.nodes x
+      → Produces model sure itself tree_of (inside hook) (count p.nodes) p (Ok e) q → pat_prop_at q.nodes x
       ≡ name_p (from_to n.id.span.lo (end_at q.nodes e.0)) (binding_tree n) (tree_of q.nodes e)
       → Heard model sure (pat_prop_item hook) (pat_prop_at q.nodes x) a q.input
   default_read equals inner tree =

@@ -86,11 +86,11 @@ with_last false last s = refl
 
 -- the last rest is well, over a name, with no comma after it
 pub last_checked : (o : Option RestProp) (r : RestProp) (comma : Option Span) (x : Scope) (ts : List TokenAndSpan)
-    → o ≡ Some r → not r.is_name ≡ false → comma ≡ None
-    → rests_checked (last_stage o comma) x ts ≡ Some (tt {0}, ts)
+    → o ≡ Some r → not r.is_name ≡ false → comma ≡ None → rests_checked (last_stage o comma) x ts ≡ Some (tt {0}, ts)
 last_checked o r comma x ts e h n = rw (e, not_false r.is_name h, n) refl
 
-pub unnamed : (o : Option RestProp) (r : RestProp) (comma : Option Span) (x : Scope) (ts : List TokenAndSpan) → o ≡ Some r
+pub unnamed : (o : Option RestProp) (r : RestProp) (comma : Option Span) (x : Scope) (ts : List TokenAndSpan)
+    → o ≡ Some r
     → not r.is_name ≡ true → rests_checked (last_stage o comma) x ts ≡ None
 unnamed o r comma x ts e h = rw (e, not_true r.is_name h) refl
 

@@ -79,8 +79,7 @@ module _ {F C K : Type 0} where
 module _ {F C K : Type 0} (hook : Hook F C K) where
   -- after the bracket of an array pattern at s
   unfoldable pub array_pat_tail : Span → Scope → List TokenAndSpan → Out (Tree F C K)
-  array_pat_tail s c ts =
-      run hook (sym PatElements) c ts >>= (λ p. Some (array_from s p.0, p.1))
+  array_pat_tail s c ts = run hook (sym PatElements) c ts >>= (λ p. Some (array_from s p.0, p.1))
 
   -- after a pattern, and after the `=` there
   unfoldable pub default_value : Tree F C K → Scope → List TokenAndSpan → Out (Tree F C K)

@@ -66,8 +66,7 @@ module _ {F C K : Type 0} (hook : Hook F C K) where
   abbrev pub pat_prop_left : Tree F C K → AfterPatKey → Scope → List TokenAndSpan → Out (Tree F C K)
   pat_prop_left k (after.Value n) c ts =
       run hook (sym Element) c ts >>= (λ p. Some (key_value_e (to (span_of k) (span_of p.0)) k p.0, p.1))
-  pat_prop_left k (after.Default n) c ts =
-      inside hook c ts >>= (λ p. Some (default_node (binding_spelling n) p.0, p.1))
+  pat_prop_left k (after.Default n) c ts = inside hook c ts >>= (λ p. Some (default_node (binding_spelling n) p.0, p.1))
   pat_prop_left k (after.Name n) c ts = Some (name_node (binding_spelling n), ts)
 
   -- ---- a property, or a rest
@@ -116,8 +115,7 @@ module _ {F C K : Type 0} where
 module _ {F C K : Type 0} (hook : Hook F C K) where
   -- after some properties, and the comma after the last of them: those that are left, to where the list is closed
   abbrev pub props_by : Stage → Trees F C K → Scope → List TokenAndSpan → Out (Tree F C K)
-  props_by going before c ts =
-      run hook (sym PatProps) c ts >>= (λ p. Some (put_before before p.0, p.1))
+  props_by going before c ts = run hook (sym PatProps) c ts >>= (λ p. Some (put_before before p.0, p.1))
   props_by closing before c ts = expected is_rbrace c ts >>= (λ p. Some (listed None p.0 before, p.1))
   props_by never before c ts = None
 

@@ -53,8 +53,7 @@ module _ {F C K : Type 0} (hook : Hook F C K) where
 
   -- after some parameters: those that are left, through the parenthesis that closes them
   abbrev pub params_by : Stage → Trees F C K → Scope → List TokenAndSpan → Out (Tree F C K)
-  params_by going before c ts =
-      run hook (sym Params) c ts >>= (λ p. Some (put_before before p.0, p.1))
+  params_by going before c ts = run hook (sym Params) c ts >>= (λ p. Some (put_before before p.0, p.1))
   params_by closing before c ts = params_close before c ts
   params_by never before c ts = None
 
@@ -63,8 +62,7 @@ module _ {F C K : Type 0} (hook : Hook F C K) where
 
   -- after a parameter, a rest or not, and after what is before one
   unfoldable pub behind_param : Bool → Stage → Trees F C K → Scope → List TokenAndSpan → Out (Tree F C K)
-  behind_param is_rest s before c ts =
-      separated_item is_rparen is_rest s c ts >>= (λ p. params_left p.0 before c p.1)
+  behind_param is_rest s before c ts = separated_item is_rparen is_rest s c ts >>= (λ p. params_left p.0 before c p.1)
 
   abbrev pub params_with : NextParam → Stage → Trees F C K → Scope → List TokenAndSpan → Out (Tree F C K)
   params_with next.End st before c ts = params_close before c ts

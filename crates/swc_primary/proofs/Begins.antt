@@ -11,7 +11,8 @@ use Rattle.swc_steps.proofs.Steps.{here, heard_after, heard_nothing, on_nothing,
 
 module _ {S F C K : Type 0} (model : Model S) (sure : Bool) (hook : Hook F C K) where
   -- of the form that is known
-  pub begun : (b c : Buffer S) {h : PropHead} (k : PropHead) → h ≡ k → Begins model sure hook h b c → Begins model sure hook k b c
+  pub begun : (b c : Buffer S) {h : PropHead} (k : PropHead) → h ≡ k → Begins model sure hook h b c
+      → Begins model sure hook k b c
   begun b c k e r = subst (λ v. Begins model sure hook v b c) e r
 
   -- where a fault was recorded and no property is read, it is whatever was made of it
@@ -23,7 +24,8 @@ module _ {S F C K : Type 0} (model : Model S) (sure : Bool) (hook : Hook F C K) 
   faulty_begins head.Key o r = on_then o (on_nothing r)
   faulty_begins (head.Method k s) o r = on_then o (on_nothing r)
 
-  pub begins_faulty : (b c : Buffer S) {m : Buffer S} (r : Result PropHead Error) → On model sure (run hook (at Prop)) nothing b m
+  pub begins_faulty : (b c : Buffer S) {m : Buffer S} (r : Result PropHead Error)
+      → On model sure (run hook (at Prop)) nothing b m
       → Parses model sure (λ h. h) nothing m r c
       → MatchResult r (λ h. Begins model sure hook h b c) (λ e. Unheard model sure (run hook (at Prop)) b e c)
   begins_faulty b c (Ok h) o r = faulty_begins h o r

@@ -25,7 +25,8 @@ module _ {K : Type 0} where
   covers_it None = false
   covers_it (Some p) = is_cover_prop p
 
-  one_more : (ps : List (PropNode K)) (i : ℕ) → has_cover (take (suc i) ps) ≡ (has_cover (take i ps) || covers_it (slice_get ps i))
+  one_more : (ps : List (PropNode K)) (i : ℕ) → has_cover
+      (take (suc i) ps) ≡ (has_cover (take i ps) || covers_it (slice_get ps i))
   one_more [] zero = refl
   one_more [] (suc i) = refl
   one_more (p ∷ ps) zero = or_false (is_cover_prop p)
@@ -46,7 +47,8 @@ module _ {K : Type 0} where
   cover-all (p ∷ ps) (suc i) h = ap (λ v. is_cover_prop p || v) (cover-all ps i (omega (arith, h)))
 
 module _ {S K : Type 0} {model : Model S} where
-  pub checks-more : (ps : List (PropNode K)) (i : ℕ) (p : PropNode K) {b c d : Buffer S} → i < length ps → p ≡ get_or ps i p
+  pub checks-more : (ps : List (PropNode K)) (i : ℕ) (p : PropNode K) {b c d : Buffer S} → i < length ps
+      → p ≡ get_or ps i p
       → Checks model (not (has_cover (take i ps))) b c → Checks model (not (is_cover_prop p)) c d
       → Checks model (not (has_cover (take (i + 1) ps))) b d
   checks-more ps i p {b} {c} {d} lt at h k =

@@ -75,7 +75,8 @@ module _ {F C K : Type 0} {fg : Ghosts F} {cg : Ghosts C} {kg : Ghosts K} where
   missed ns m ps h = absurd cc
 
   -- the first of them has its number
-  pub first-from : {ns : Nodes F C K fg cg kg} {k : ℕ} (ps : List (Param PatId)) (p : PatId) → first_param_pat ps ≡ Some p
+  pub first-from : {ns : Nodes F C K fg cg kg} {k : ℕ} (ps : List (Param PatId)) (p : PatId)
+      → first_param_pat ps ≡ Some p
       → Apart k ns (flat param_parts ps) → From k ns (pat_part p)
   first-from [] p e a = absurd cc
   first-from {ns} {k} (x ∷ xs) p e a =
@@ -92,11 +93,13 @@ module _ {F C K : Type 0} {fg : Ghosts F} {cg : Ghosts C} {kg : Ghosts K} where
   params-are ns [] h = refl
   params-are ns (p ∷ ps) h = rw (h.0, params-are ns ps h.1) refl
 
-  pub function-at : (ns : Nodes F C K fg cg kg) (m : Option MethodKind) (s : Span) (ps : Vec (Param PatId) Global) (v : K)
+  pub function-at : (ns : Nodes F C K fg cg kg) (m : Option MethodKind) (s : Span) (ps : Vec (Param PatId) Global)
+      (v : K)
       → placed ns ps.items
       → method_function_node kg.place m s (params_at ns ps) v ≡ shell_at ns (method_function_of kg.place m s ps v)
   function-at ns m s ps v h =
-      ap (λ l. node (function (async_in m) (generator_in m)) (to s (kg.place v)) (cons (leaf (block_kind v) (kg.place v)) l))
+      ap (λ l. node (function (async_in m) (generator_in m)) (to s (kg.place v))
+      (cons (leaf (block_kind v) (kg.place v)) l))
       (sym (params-are ns ps.items h))
 
 -- ---- the function of a method
@@ -134,14 +137,17 @@ module _ {F C K : Type 0} (hook : Hook F C K) where
         c : Scope
         c = in_context (method_block (async_in m) (generator_in m)) x
 
-        by_what : (o : Out K) → hook.block c.context ts ≡ o
-            → heard_block (async_in m) (generator_in m) x s ps ts
+        by_what : (o : Out K) → hook.block c.context ts ≡ o → heard_block (async_in m) (generator_in m) x s ps ts
             ≡ (hook.block c.context ts
             >>= (λ p. Some (method_function_node {F = F} {C = C} block_at m s ps p.0, p.1)))
         by_what None e = rw e refl
         by_what (Some p) e =
             let h = hears hook laws block c ts p.0 p.1 e in
-            hears-run h (λ v q us. Some (function_e (to s q) (async_in m) (generator_in m) (block_e q v) (params_e ps), us))
+            hears-run h (λ v q us. Some (
+              function_e (to s q) (async_in m) (generator_in m) (block_e q v)
+                  (params_e ps),
+              us,
+            ))
             ∙ ap (λ q. Some (function_e (to s q) (async_in m) (generator_in m) (block_e q p.0) (params_e ps), p.1))
             (sym (hears-place hook laws block c ts p.0 p.1 h))
             ∙ ap (λ o. o >>= (λ p. Some (method_function_node block_at m s ps p.0, p.1))) (sym e)
@@ -158,8 +164,7 @@ module _ {F C K : Type 0} (hook : Hook F C K) where
         node_ok : (v : K) → function_ok m (method_function_node {F = F} {C = C} block_at m s ps v) ≡ accessor_ok m ps
         node_ok v = ok_is m (to s (block_at v)) (async_in m) (generator_in m) (block_e (block_at v) v) ps
 
-        by_test : (b : Bool) → accessor_ok m ps ≡ b
-            → (method_body hook (async_in m) (generator_in m) x ts
+        by_test : (b : Bool) → accessor_ok m ps ≡ b → (method_body hook (async_in m) (generator_in m) x ts
             >>= (λ p. method_by m (method_function_node block_at m s ps p.0, p.1)))
             ≡ method_block_by hook block_at m b s ps x ts
         by_test true e =
@@ -168,8 +173,7 @@ module _ {F C K : Type 0} (hook : Hook F C K) where
         by_test false e =
             bind_none (method_body hook (async_in m) (generator_in m) x ts) _ (λ p. rw (node_ok p.0 ∙ e) refl)
 
-    shell_is : (x : Scope) (ts : List TokenAndSpan)
-        → run hook (at (Shell (async_in m) (generator_in m))) x ts
+    shell_is : (x : Scope) (ts : List TokenAndSpan) → run hook (at (Shell (async_in m) (generator_in m))) x ts
         ≡ (expected is_lparen (in_params m x) ts >>= (λ p. run hook (at Params) (in_params m x) p.1
         >>= (λ q. method_block_by hook block_at m true p.0 (items_of q.0) (in_params m x) q.1)))
     shell_is x ts =
@@ -182,8 +186,7 @@ module _ {F C K : Type 0} (hook : Hook F C K) where
         (λ q us. heard_is x p.0 (items_of q) us))
 
     -- the function of a method, in the context of its parameters
-    pub function_inside : (x : Scope) (ts : List TokenAndSpan)
-        → method_function hook m x ts
+    pub function_inside : (x : Scope) (ts : List TokenAndSpan) → method_function hook m x ts
         ≡ method_inside hook block_at m (in_context (method_params (async_in m) (generator_in m)) x) ts
     unfolding method_function method_inside method_left
     function_inside x ts =
@@ -195,8 +198,7 @@ module _ {F C K : Type 0} (hook : Hook F C K) where
         by_ok (accessor_ok m (items_of q.0)) p.0 (items_of q.0) (in_params m x) q.1 refl))
 
     -- in that of the key, up to the parenthesis
-    pub function_opens : (x : Scope) (ts : List TokenAndSpan)
-        → method_function hook m x ts
+    pub function_opens : (x : Scope) (ts : List TokenAndSpan) → method_function hook m x ts
         ≡ (expected is_lparen x ts >>= (λ p. method_left hook block_at m p.0 (in_params m x) p.1))
     unfolding method_inside
     function_opens x ts =
@@ -205,14 +207,12 @@ module _ {F C K : Type 0} (hook : Hook F C K) where
         (sym (expected_within is_lparen (method_params (async_in m) (generator_in m)) x ts))
 
   module _ (block_at : K → Span) (m : Option MethodKind) where
-    pub inside_splits : (x : Scope) (ts : List TokenAndSpan)
-        → method_inside hook block_at m x ts
+    pub inside_splits : (x : Scope) (ts : List TokenAndSpan) → method_inside hook block_at m x ts
         ≡ (expected is_lparen x ts >>= (λ p. method_left hook block_at m p.0 x p.1))
     unfolding method_inside
     inside_splits x ts = refl
 
-    pub left_splits : (s : Span) (x : Scope) (ts : List TokenAndSpan)
-        → method_left hook block_at m s x ts
+    pub left_splits : (s : Span) (x : Scope) (ts : List TokenAndSpan) → method_left hook block_at m s x ts
         ≡ (run hook (at Params) x ts >>= (λ p. method_end hook block_at m s (items_of p.0) x p.1))
     unfolding method_left
     left_splits s x ts = refl
@@ -232,8 +232,7 @@ module _ {F C K : Type 0} (hook : Hook F C K) where
     close_well s ps x ts h = rw h refl
 
     pub block_is : (is_async is_generator : Bool) → is_async ≡ async_in m → is_generator ≡ generator_in m → (s : Span)
-        (ps : Trees F C K) (x : Scope) (ts : List TokenAndSpan)
-        → method_block_by hook block_at m true s ps x ts
+        (ps : Trees F C K) (x : Scope) (ts : List TokenAndSpan) → method_block_by hook block_at m true s ps x ts
         ≡ (method_body hook is_async is_generator x ts
         >>= (λ p. Some (method_function_node block_at m s ps p.0, p.1)))
     block_is is_async is_generator a g s ps x ts = rw (a, g) refl
@@ -264,12 +263,12 @@ continues_context model sure view f b c (Err e) h = h.refuses.spends.read.contex
 module _ {S : Type 0} {model : Model S} {sure : Bool} where
   -- f and g, and then k
   pub on_then_both : {A B : Type 0} {f : Reader A} {q r : Reader B} {b c : Buffer S}
-      (k : Scope → B × List TokenAndSpan → Out A)
-      → ((x : Scope) (ts : List TokenAndSpan) → f x ts ≡ (q x ts >>= k x))
+      (k : Scope → B × List TokenAndSpan → Out A) → ((x : Scope) (ts : List TokenAndSpan) → f x ts ≡ (q x ts >>= k x))
       → On model sure q r b c → On model sure f (λ x ts. r x ts >>= k x) b c
   on_then_both {r = r} {b = b} {c = c} k step o = record {
     leads = o.leads;
-    clean = λ l s ys f. step (scope model b) (o.leads.taken ++ ys) ∙ ap (λ v. v >>= k (scope model b)) (o.clean l s ys f)
+    clean = λ l s ys f. step (scope model b) (o.leads.taken ++ ys) ∙ ap (λ v. v >>= k (scope model b))
+        (o.clean l s ys f)
         ∙ ap (λ x. r (scope model c) ys >>= k x) (sym (read_scope o.leads.laws o.leads.read));
     faulty = λ y l lt ts h. step (scope model b) ts ∙ ap (λ v. v >>= k (scope model b)) (o.faulty y l lt ts h);
   }

@@ -72,8 +72,7 @@ module _ {F C K : Type 0} (hook : Hook F C K) where
 
   -- a key, and after it the function of a method of a kind, in which nothing is checked
   method_is : (m : MethodKind) → ((f : Tree F C K) → function_ok (Some m) f ≡ true) → (s : Span) (x : Scope)
-      (us : List TokenAndSpan)
-      → and_then (run hook (at Key) x us)
+      (us : List TokenAndSpan) → and_then (run hook (at Key) x us)
       (λ k vs. and_then (run hook (at (Shell (of_async m) (of_generator m))) x vs)
       (λ f ws. Some (method_tree (Some m) s k f, ws)))
       ≡ method_tail hook m s x us
@@ -88,8 +87,7 @@ module _ {F C K : Type 0} (hook : Hook F C K) where
   -- the same, where it is checked: of a getter and of a setter
   checked_is : (m : MethodKind) (tree : Tree F C K → Tree F C K → Tree F C K) (s : Span)
       → ((k f : Tree F C K) → function_ok (Some m) f ≡ true → tree k f ≡ method_tree (Some m) s k f) → (x : Scope)
-      (us : List TokenAndSpan)
-      → and_then (run hook (at Key) x us)
+      (us : List TokenAndSpan) → and_then (run hook (at Key) x us)
       (λ k vs. and_then (run hook (at (Shell (of_async m) (of_generator m))) x vs)
       (λ f ws. if function_ok (Some m) f then Some (tree k f, ws) else None))
       ≡ method_tail hook m s x us
@@ -112,18 +110,15 @@ module _ {F C K : Type 0} (hook : Hook F C K) where
   behind_sign : {A : Type 0} (f : Token → Bool) (x : Scope) (ts : List TokenAndSpan)
       (k h : Span → List TokenAndSpan → Out A) → ((s : Span) (us : List TokenAndSpan) → k s us ≡ h s us)
       → token_then f ts k ≡ (expected f x ts >>= (λ p. h p.0 p.1))
-  behind_sign f x ts k h same =
-      then_token f x ts k ∙ bind_same (expected f x ts) _ _ (λ p. same p.0 p.1)
+  behind_sign f x ts k h same = then_token f x ts k ∙ bind_same (expected f x ts) _ _ (λ p. same p.0 p.1)
 
-  pub generator_splits : (x : Scope) (ts : List TokenAndSpan)
-      → by_production hook (λ c. prop-generator) x ts
+  pub generator_splits : (x : Scope) (ts : List TokenAndSpan) → by_production hook (λ c. prop-generator) x ts
       ≡ (modifiers kind.Generator x ts >>= (λ p. method_tail hook kind.Generator p.0 x p.1))
   unfolding by_production reading
   generator_splits x [] = behind_sign is_star x [] _ _ (λ s us. method_is kind.Generator (λ f. refl) s x us)
   generator_splits x (t ∷ ts) = behind_sign is_star x (t ∷ ts) _ _ (λ s us. method_is kind.Generator (λ f. refl) s x us)
 
-  pub async_splits : (x : Scope) (ts : List TokenAndSpan)
-      → by_production hook (λ c. prop-async) x ts
+  pub async_splits : (x : Scope) (ts : List TokenAndSpan) → by_production hook (λ c. prop-async) x ts
       ≡ (modifiers kind.Async x ts >>= (λ p. method_tail hook kind.Async p.0 x p.1))
   unfolding by_production reading
   async_splits x [] = behind_sign is_async x [] _ _ (λ s us. method_is kind.Async (λ f. refl) s x us)
@@ -136,8 +131,7 @@ module _ {F C K : Type 0} (hook : Hook F C K) where
   star_is s x us = behind_sign is_star x us _ _ (λ s' vs. method_is kind.AsyncGenerator (λ f. refl) s x vs)
 
   -- `async` and the star are one reading
-  async_star_then : (x : Scope) (ts : List TokenAndSpan)
-      → (expected is_async x ts
+  async_star_then : (x : Scope) (ts : List TokenAndSpan) → (expected is_async x ts
       >>= (λ p. expected is_star x p.1 >>= (λ q. method_tail hook kind.AsyncGenerator p.0 x q.1)))
       ≡ (async_star x ts >>= (λ r. method_tail hook kind.AsyncGenerator r.0 x r.1))
   unfolding async_star
@@ -161,8 +155,7 @@ module _ {F C K : Type 0} (hook : Hook F C K) where
       → getter_e (to s (span_of f)) k f ≡ method_tree (Some kind.Getter) s k f
   getter_is s k f h = ap (λ ts. node getter (to s (span_of f)) (cons k ts)) (sym (only_same (items_of f) h))
 
-  pub getter_splits : (x : Scope) (ts : List TokenAndSpan)
-      → by_production hook (λ c. prop-getter) x ts
+  pub getter_splits : (x : Scope) (ts : List TokenAndSpan) → by_production hook (λ c. prop-getter) x ts
       ≡ (modifiers kind.Getter x ts >>= (λ p. method_tail hook kind.Getter p.0 x p.1))
   unfolding by_production reading
   getter_splits x [] =
@@ -172,8 +165,7 @@ module _ {F C K : Type 0} (hook : Hook F C K) where
       behind_sign is_get x (t ∷ ts) _ _
       (λ s us. checked_is kind.Getter (λ k f. getter_e (to s (span_of f)) k f) s (getter_is s) x us)
 
-  pub setter_splits : (x : Scope) (ts : List TokenAndSpan)
-      → by_production hook (λ c. prop-setter) x ts
+  pub setter_splits : (x : Scope) (ts : List TokenAndSpan) → by_production hook (λ c. prop-setter) x ts
       ≡ (modifiers kind.Setter x ts >>= (λ p. method_tail hook kind.Setter p.0 x p.1))
   unfolding by_production reading
   setter_splits x [] =
@@ -183,8 +175,7 @@ module _ {F C K : Type 0} (hook : Hook F C K) where
       behind_sign is_set x (t ∷ ts) _ _
       (λ s us. checked_is kind.Setter (λ k f. setter_e (to s (span_of f)) k f) s (λ k f h. refl) x us)
 
-  pub method_tail_splits : (m : MethodKind) (s : Span) (x : Scope) (ts : List TokenAndSpan)
-      → method_tail hook m s x ts
+  pub method_tail_splits : (m : MethodKind) (s : Span) (x : Scope) (ts : List TokenAndSpan) → method_tail hook m s x ts
       ≡ (run hook (at Key) x ts >>= (λ p. method_behind_key hook (Some m) s p.0 x p.1))
   unfolding method_tail
   method_tail_splits m s x ts = refl
@@ -252,8 +243,7 @@ module _ {F C K : Type 0} {fg : Ghosts F} {cg : Ghosts C} {kg : Ghosts K} where
 
   pub method_made : {ns ms : Nodes F C K fg cg kg} {i : ℕ} (m : Option MethodKind) (s : Span) (k : PropName ExprId)
       (f : Function PatId K) (p : PropNode K) → p ≡ method_node m s k f → Grows ns ms → key_of i ns k
-      → misses_param m f.params.items ≡ false
-      → method_tree m s (key_at ns k) (shell_at ms f) ≡ prop_at ms p
+      → misses_param m f.params.items ≡ false → method_tree m s (key_at ns k) (shell_at ms f) ≡ prop_at ms p
   method_made {ns} {ms} m s k f p e g key some =
       ap (λ t. method_tree m s t (shell_at ms f)) (sym (key_later k g key))
       ∙ kind_tree m ms s k f some ∙ ap (λ v. prop_at ms v) (sym e)

@@ -99,8 +99,7 @@ module _ (t : Option TokenAndSpan) where
 
   not_any : primary_kind t ≡ kind.Plain → (at_token is_lparen t ≡ false) × (at_token is_lbracket t ≡ false)
       × (at_token is_brace t ≡ false) × (at_token is_backquote t ≡ false)
-  not_any h =
-      plain_by (at_token is_lparen t) (at_token is_lbracket t) (at_token is_brace t) (at_token is_backquote t) h
+  not_any h = plain_by (at_token is_lparen t) (at_token is_lbracket t) (at_token is_brace t) (at_token is_backquote t) h
 
   pub not_paren : primary_kind t ≡ kind.Plain → at_token is_lparen t ≡ false
   not_paren h = (not_any h).0
@@ -224,8 +223,7 @@ module _ {S F C K : Type 0} {model : Model S} (sure : Bool) (hook : Hook F C K) 
       (s.parses_inner model sure view (run hook (at Elements)) _ _ r h) m (back ∙ o.outside)
 
   pub props_read : {T : Type 0} (view : T → Tree F C K) {b d e f : Buffer S} {lo : BytePos} {ctx : Context}
-      (r : Result T Error) → (o : Opens model (λ x. x) b lo ctx d)
-      → Parses model sure view (run hook (at Props)) d r e
+      (r : Result T Error) → (o : Opens model (λ x. x) b lo ctx d) → Parses model sure view (run hook (at Props)) d r e
       → Moves model e f → context model f ≡ ctx → Parses model sure view (run hook (at Props)) o.between r f
   props_read view r o h m back =
       s.parses_aside model sure view (run hook (at Props)) r

@@ -189,8 +189,7 @@ module _ {S F C K X : Type 0} {model : Model S} (at : X → Tree F C K) where
   pub paren_refused : {T : Type 0} (p : Bool) (r : Result T Error) (comma : Option Span) (s : Span)
       (xs : List (ExprOrSpread X)) {b c d : Buffer S} (e : Buffer S)
       → Checks model (p || no_covers (item_trees at xs)) b c → Checks model (not (is_some comma)) c d
-      → IfErr r (λ x. Refuses model d x e × (no_spread (item_trees at xs) ≡ false))
-      → IfErr r (λ x. Refuses model b x e
+      → IfErr r (λ x. Refuses model d x e × (no_spread (item_trees at xs) ≡ false)) → IfErr r (λ x. Refuses model b x e
       × (x.kind ≢ OutOfMemory → paren_ok p (listed comma s (item_trees at xs)) ≡ false))
   paren_refused p (Ok u) comma s xs e h k o = tt
   paren_refused p (Err x) comma s xs e h k o =

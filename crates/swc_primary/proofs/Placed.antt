@@ -25,8 +25,7 @@ module _ {F C K : Type 0} {fg : Ghosts F} {cg : Ghosts C} {kg : Ghosts K} where
 
   pub params-more : {ns ms : Nodes F C K fg cg kg} {k : ℕ} (ps : List (Param PatId)) (x : Param PatId) → Grows ns ms
       → Apart k ns (flat param_parts ps) × placed ns ps → From (count ns) ms (pat_part x.pat)
-      → x.span ≡ span_of (pat_at ms x.pat)
-      → Apart k ms (flat param_parts (ps ++ x ∷ [])) × placed ms (ps ++ x ∷ [])
+      → x.span ≡ span_of (pat_at ms x.pat) → Apart k ms (flat param_parts (ps ++ x ∷ [])) × placed ms (ps ++ x ∷ [])
   params-more {ms = ms} ps x g a f e = (
     apart-list-more param_parts ps x g a.0 (apart-from (pat_part x.pat) f),
     placed-more ms ps x (params-later ps g a.0 a.1) e,

@@ -44,8 +44,7 @@ module _ {F C K : Type 0} (hook : Hook F C K) where
       by-case false e = rw e refl
 
   pub never_private : {S : Type 0} {model : Model S} {sure : Bool} → Laws model → (b : Buffer S)
-      → (scope model b).syntax.pedantic ≡ true
-      → On model sure (by_production hook (λ c. private-expr)) nothing b b
+      → (scope model b).syntax.pedantic ≡ true → On model sure (by_production hook (λ c. private-expr)) nothing b b
   never_private {model = model} laws b h = on_where laws b (λ ts. no_private (scope model b) ts h)
 
   -- the left operand of `in`: its name, and then `in`, which stays
@@ -77,6 +76,7 @@ in_stops x ts h = rw h refl
 
 -- where another token comes next, a fault is recorded
 pub not_in : {S T A : Type 0} {model : Model S} {sure : Bool} {f : Reader A} (view : T → A) {b c : Buffer S}
-    (r : Result T Error) (d : Buffer S) → On model sure f nothing b c → Checked model false c r d → Continues model sure view f b r d
+    (r : Result T Error) (d : Buffer S) → On model sure f nothing b c → Checked model false c r d
+    → Continues model sure view f b r d
 not_in view (Ok u) d o h = on_then o (on_checked_in false h (λ ts w. cc) (λ ts w. refl))
 not_in view (Err e) d o h = unheard_after o (unheard_memory h)

@@ -66,7 +66,8 @@ module _ {S : Type 0} {model : Model S} (laws : Laws model) where
         still = p.look;
         current = p.current;
         lives = p.lives w.0;
-        told = λ ts fut here. ap (λ v. kind_of n v) (peeked_first laws p some (λ none. is_some_none w.0 none) ts fut) ∙ w.1;
+        told = λ ts fut here. ap (λ v. kind_of n v) (peeked_first laws p some (λ none. is_some_none w.0 none) ts fut)
+            ∙ w.1;
       }
 
   pub tells_none : {b c : Buffer S} {a : Option PropKind} (n : Modifier) (k : PropKind) → a ≡ None → Peeked model b c

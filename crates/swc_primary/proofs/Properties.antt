@@ -64,8 +64,7 @@ module _ {F C K : Type 0} {c : Scope} where
   kind_choice kind.Questioned = none
   kind_choice kind.Unfit = none
 
-  modifier_choice : (t u : Option TokenAndSpan)
-      → kind_choice (by_modifier (modifier_of t) (at_token is_star u))
+  modifier_choice : (t u : Option TokenAndSpan) → kind_choice (by_modifier (modifier_of t) (at_token is_star u))
       ≡ (if at_token is_get t then pick prop-getter else
       (if at_token is_set t then pick prop-setter else (if at_token is_async t then async_method u else none)))
   modifier_choice t u =
@@ -101,9 +100,9 @@ module _ {F C K : Type 0} (hook : Hook F C K) where
   unfolding by_production object_lit_tail reading
   object_lit_opens t x ts h = rw h (calls (run hook (at Props) (inner x) ts) _)
 
-  pub object_lit_splits : (s : Span) (x : Scope) (ts : List TokenAndSpan)
-      → object_lit_tail hook s x ts
-      ≡ (run hook (at Props) (inner x) ts >>= (λ p. Some (object_e (comma_of p.0) (to s (span_of p.0)) (items_of p.0), p.1)))
+  pub object_lit_splits : (s : Span) (x : Scope) (ts : List TokenAndSpan) → object_lit_tail hook s x ts
+      ≡ (run hook (at Props) (inner x) ts >>=
+      (λ p. Some (object_e (comma_of p.0) (to s (span_of p.0)) (items_of p.0), p.1)))
   unfolding object_lit_tail
   object_lit_splits s x ts = refl
 
@@ -132,12 +131,12 @@ module _ {F C K : Type 0} (hook : Hook F C K) where
   tail_is x (t ∷ us) = tail_token x t.token t.had_line_break t.span us
 
   -- one property, and those that are left
-  props_step : (x : Scope) (ts : List TokenAndSpan) → at_token is_rbrace (first ts) ≡ false
-      → run hook (at Props) x ts
+  props_step : (x : Scope) (ts : List TokenAndSpan) → at_token is_rbrace (first ts) ≡ false → run hook (at Props) x ts
       ≡ (prop_item hook x ts >>= list_from (run hook (at Props)) x)
   props_step x ts h =
       knot hook (at Props) x ts
-      ∙ rw h (item_more (run hook (at Props)) (run hook (at Prop)) (run hook (at PropsTail)) (separated is_rbrace) tail_is
+      ∙ rw h (item_more (run hook (at Props)) (run hook (at Prop)) (run hook (at PropsTail))
+      (separated is_rbrace) tail_is
       x ts)
 
   pub props_list : IsList is_rbrace (run hook (at Props)) (prop_item hook)
@@ -157,15 +156,13 @@ module _ {F C K : Type 0} (hook : Hook F C K) where
   short_by true n us = refl
   short_by false n us = refl
 
-  short_one : (o : Option Spelling) (x : Scope) (us : List TokenAndSpan)
-      → exec hook (run hook) None (plan (given o ▸
+  short_one : (o : Option Spelling) (x : Scope) (us : List TokenAndSpan) → exec hook (run hook) None (plan (given o ▸
       (λ n. must (not (is_reserved_word x.context n.text)) >> gives (short_e {F = F} {C = C} {K = K} n.at n.text)))) us
       ≡ ((one o us >>= open_by x) >>= (λ p. Some (short_e p.0.at p.0.text, p.1)))
   short_one None x us = refl
   short_one (Some n) x us = short_by (is_reserved_word x.context n.text) n us
 
-  pub short_splits : (x : Scope) (ts : List TokenAndSpan)
-      → by_production hook (λ c. prop-short) x ts
+  pub short_splits : (x : Scope) (ts : List TokenAndSpan) → by_production hook (λ c. prop-short) x ts
       ≡ (open_name x ts >>= (λ p. Some (short_e p.0.at p.0.text, p.1)))
   unfolding by_production reading open_name word
   short_splits x [] = refl
@@ -195,7 +192,8 @@ module _ {F C K : Type 0} (hook : Hook F C K) where
   cover_open false n x us = refl
 
   cover_one : (o : Option Spelling) (x : Scope) (us : List TokenAndSpan)
-      → exec hook (run hook) None (plan (given o ▸ (λ n. must (not (is_reserved_word x.context n.text)) >> (token_of is_equals >>
+      → exec hook (run hook) None (plan
+      (given o ▸ (λ n. must (not (is_reserved_word x.context n.text)) >> (token_of is_equals >>
       (symbol Assign (with_in x) ▸
       (λ e. gives (cover_e {F = F} {C = C} {K = K} (to n.at (span_of e)) (ident_e n.at n.text) e))))))) us
       ≡ ((one o us >>= open_by x) >>= (λ p. expected is_equals x p.1 >>= (λ q. cover_tail hook p.0 x q.1)))
@@ -204,8 +202,7 @@ module _ {F C K : Type 0} (hook : Hook F C K) where
       ap (λ v. if not (is_reserved_word x.context n.text) then v else None) (cover_run n x us)
       ∙ cover_open (is_reserved_word x.context n.text) n x us
 
-  cover_opens : (x : Scope) (ts : List TokenAndSpan)
-      → by_production hook (λ c. prop-cover) x ts
+  cover_opens : (x : Scope) (ts : List TokenAndSpan) → by_production hook (λ c. prop-cover) x ts
       ≡ (open_name x ts >>= (λ p. expected is_equals x p.1 >>= (λ q. cover_tail hook p.0 x q.1)))
   unfolding by_production reading open_name word
   cover_opens x [] = refl
@@ -220,18 +217,15 @@ module _ {F C K : Type 0} (hook : Hook F C K) where
       (λ r. cover_tail hook r.0 x r.1))
       ∙ binds (open_name x ts) _ _
 
-  pub cover_tail_splits : (n : Spelling) (x : Scope) (ts : List TokenAndSpan)
-      → cover_tail hook n x ts
+  pub cover_tail_splits : (n : Spelling) (x : Scope) (ts : List TokenAndSpan) → cover_tail hook n x ts
       ≡ (inside hook x ts >>= (λ p. Some (cover_node n p.0, p.1)))
   unfolding cover_tail
   cover_tail_splits n x ts = refl
 
   -- each property is picked by its kind
   kind_picked : (x : Scope) (ts : List TokenAndSpan) {r : Side F C K Prop} (p : Production Prop x r) (k : PropKind)
-      → kind_choice k ≡ pick p → prop_kind ts ≡ k
-      → run hook (at Prop) x ts ≡ exec hook (run hook) (Some 4) (plan r) ts
-  kind_picked x ts p k e h =
-      run_picked hook Prop x ts p (prop x ts) refl (sym (prop_choice ts) ∙ ap kind_choice h ∙ e)
+      → kind_choice k ≡ pick p → prop_kind ts ≡ k → run hook (at Prop) x ts ≡ exec hook (run hook) (Some 4) (plan r) ts
+  kind_picked x ts p k e h = run_picked hook Prop x ts p (prop x ts) refl (sym (prop_choice ts) ∙ ap kind_choice h ∙ e)
 
   pub short_picked : (x : Scope) (ts : List TokenAndSpan) → prop_kind ts ≡ kind.Shorthand
       → run hook (at Prop) x ts ≡ by_production hook (λ c. prop-short) x ts
@@ -278,7 +272,8 @@ module _ {F C K : Type 0} (hook : Hook F C K) where
       → run hook (at Prop) x ts ≡ by_production hook (λ c. prop-async-generator) x ts
   unfolding by_production reading
   async_generator_picked x [] h = kind_picked x [] prop-async-generator (kind.Method method.AsyncGenerator) refl h
-  async_generator_picked x (t ∷ ts) h = kind_picked x (t ∷ ts) prop-async-generator (kind.Method method.AsyncGenerator) refl h
+  async_generator_picked x (t ∷ ts) h = kind_picked x (t ∷ ts) prop-async-generator
+      (kind.Method method.AsyncGenerator) refl h
 
   none_picked : (x : Scope) (ts : List TokenAndSpan) (k : PropKind) → prop_kind ts ≡ k
       → kind_choice {F = F} {C = C} {K = K} {c = x} k ≡ none → run hook (at Prop) x ts ≡ None
@@ -301,8 +296,7 @@ no_word_spread t u = by_four (at_token ends_prop u) (at_token is_equals u) (at_t
     (at_token is_question u) (by_modifier (modifier_of t) (at_token is_star u))
     (no_modifier_spread (modifier_of t) (at_token is_star u))
   where
-    by_four : (a b c d : Bool) (k : PropKind) → (k ≡ kind.Spread → ⊥)
-        → (if a then kind.Shorthand else
+    by_four : (a b c d : Bool) (k : PropKind) → (k ≡ kind.Spread → ⊥) → (if a then kind.Shorthand else
         (if b then kind.Cover else (if c then kind.Key else (if d then kind.Questioned else k)))) ≡ kind.Spread → ⊥
     by_four true b c d k n h = cc
     by_four false true c d k n h = cc

@@ -36,7 +36,8 @@ abbrev pub generator_in : Option MethodKind → Bool
 generator_in None = false
 generator_in (Some m) = of_generator m
 
--- The node of a key and of what is after it: a value that lies at s; of a method that begins at s, and of a getter and a setter.
+-- The node of a key and of what is after it: a value that lies at s; of a method that begins at s, and of a getter and
+-- a setter.
 abbrev pub value_behind : {K : Type 0} → PropName ExprId → Span → ExprId → PropNode K
 value_behind k s e = prop.KeyValue (to (prop_name_span k) s) k e
 
@@ -69,7 +70,8 @@ method_tree (Some kind.Getter) s k f = node getter (to s (span_of f)) (cons k (o
 method_tree (Some kind.Setter) s k f = setter_e (to s (span_of f)) k f
 method_tree m s k f = method_e (to s (span_of f)) k f
 
--- The parameters of a method of a kind (15.4): a getter has none, and a setter one, which is no rest. The same of its function.
+-- The parameters of a method of a kind (15.4): a getter has none, and a setter one, which is no rest. The same of its
+-- function.
 abbrev pub one_pattern : {F C K : Type 0} → Trees F C K → Bool
 one_pattern nil = false
 one_pattern (cons p ps) = not (has_items ps) && not (is_rest p)
@@ -112,7 +114,8 @@ abbrev pub in_params : Option MethodKind → Scope → Scope
 in_params m c = in_context (method_params (async_in m) (generator_in m)) c
 
 -- the function of a method whose parameters begin at s and are ps, by its block, which lies where it says
-abbrev pub method_function_node : {F C K : Type 0} → (K → Span) → Option MethodKind → Span → Trees F C K → K → Tree F C K
+abbrev pub method_function_node : {F C K : Type 0} → (K → Span) → Option MethodKind → Span → Trees F C K → K
+    → Tree F C K
 method_function_node block_at m s ps v =
     function_e (to s (block_at v)) (async_in m) (generator_in m) (block_e (block_at v) v) (params_e ps)
 
@@ -149,7 +152,8 @@ module _ {F C K : Type 0} (hook : Hook F C K) where
 
   module _ (block_at : K → Span) (m : Option MethodKind) where
     -- A method's function, in the scope of its parameters, which begin at s: after the parameters ps and their closing
-    -- parenthesis, where they are as they have to be; before that parenthesis; after the opening one; and from that one on.
+    -- parenthesis, where they are as they have to be; before that parenthesis; after the opening one; and from that one
+    -- on.
     abbrev pub method_block_by : Bool → Span → Trees F C K → Scope → List TokenAndSpan → Out (Tree F C K)
     method_block_by false s ps c ts = None
     method_block_by true s ps c ts =
@@ -173,14 +177,16 @@ module _ {F C K : Type 0} (hook : Hook F C K) where
   method_function m c ts = run hook (sym (Shell (async_in m) (generator_in m))) c ts >>= (λ p. method_by m p)
 
   -- a method of a kind that begins at s, from its key on, and after the key k
-  unfoldable pub method_behind_key : Option MethodKind → Span → Tree F C K → Scope → List TokenAndSpan → Out (Tree F C K)
+  unfoldable pub method_behind_key : Option MethodKind → Span → Tree F C K → Scope → List TokenAndSpan
+      → Out (Tree F C K)
   method_behind_key m s k c ts = method_function m c ts >>= (λ p. Some (method_tree m s k p.0, p.1))
 
   unfoldable pub method_tail : MethodKind → Span → Scope → List TokenAndSpan → Out (Tree F C K)
   method_tail m s c ts = run hook (sym Key) c ts >>= (λ p. method_behind_key (Some m) s p.0 c p.1)
 
 module _ {S : Type 0} (model : Model S) where
-  -- From b to d: the context was set, to that of a method's parameters, and then the parenthesis at s was read, which opens
+  -- From b to d: the context was set, to that of a method's parameters, and then the parenthesis at s was read, which
+  -- opens
   -- them.
   pub record Opened (m : Option MethodKind) (b : Buffer S) (s : Span) (ctx : Context) (d : Buffer S) : Type 0 where
     pub at : Buffer S

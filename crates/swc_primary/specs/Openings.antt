@@ -41,7 +41,8 @@ BeginsPlain c at plain.Name = at (is_identifier c) ≡ true
 BeginsPlain c at plain.Private = at is_hash ≡ true
 BeginsPlain c at plain.Regex = at begins_regex ≡ true
 BeginsPlain c at plain.Other =
-    (at is_this ≡ false) × (at is_async ≡ false) × (at is_function ≡ false) × (at is_lit ≡ false) × (at is_class ≡ false)
+    (at is_this ≡ false) × (at is_async ≡ false) × (at is_function ≡ false) × (at is_lit ≡ false)
+    × (at is_class ≡ false)
     × (at (is_identifier c) ≡ false) × (at is_hash ≡ false) × (at begins_regex ≡ false)
 
 -- `in` comes next, and is an operator

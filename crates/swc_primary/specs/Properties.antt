@@ -77,7 +77,8 @@ module _ {F C K : Type 0} (hook : Hook F C K) where
   -- after the brace at s
   unfoldable pub object_lit_tail : Span → Scope → List TokenAndSpan → Out (Tree F C K)
   object_lit_tail s c ts =
-      run hook (sym Props) (inner c) ts >>= (λ p. Some (object_e (comma_of p.0) (to s (span_of p.0)) (items_of p.0), p.1))
+      run hook (sym Props) (inner c) ts >>=
+      (λ p. Some (object_e (comma_of p.0) (to s (span_of p.0)) (items_of p.0), p.1))
 
   -- one property, and the comma after it, or before the brace that closes the list
   abbrev pub prop_item : Scope → List TokenAndSpan → Out (Tree F C K × Option Span)

@@ -14,33 +14,45 @@ numbers-append (piece.Count k ∷ xs) ys = numbers-append xs ys
 numbers-append (piece.Node i ∷ xs) ys = ap (λ v. i ∷ v) (numbers-append xs ys)
 numbers-append (piece.Last i ∷ xs) ys = ap (λ v. i ∷ v) (numbers-append xs ys)
 
-pub piece_more : (old new : List Piece) (p : Piece) → new ≡ old ++ p ∷ [] → numbers new ≡ numbers old ++ numbers (p ∷ [])
+pub piece_more : (old new : List Piece) (p : Piece) → new ≡ old ++ p ∷ []
+    → numbers new ≡ numbers old ++ numbers (p ∷ [])
 piece_more old new p e = ap numbers e ∙ numbers-append old (p ∷ [])
 
-pub text_more : (old new : List Piece) (p : Piece) → numbers (p ∷ []) ≡ [] → new ≡ old ++ p ∷ [] → numbers new ≡ numbers old
+pub text_more : (old new : List Piece) (p : Piece) → numbers (p ∷ []) ≡ [] → new ≡ old ++ p ∷ []
+    → numbers new ≡ numbers old
 text_more old new p none e = piece_more old new p e ∙ ap (λ v. numbers old ++ v) none ∙ append-nil (numbers old)
 
 -- some parts, and then more of them
 pub both : (a b c : List ℕ) (ps qs : List Part) → b ≡ a ++ ats ps → c ≡ b ++ ats qs → c ≡ a ++ ats (ps ++ qs)
-both a b c ps qs e f = f ∙ ap (λ v. v ++ ats qs) e ∙ append_assoc a (ats ps) (ats qs) ∙ ap (λ v. a ++ v) (sym (ats-append ps qs))
+both a b c ps qs e f = f ∙ ap (λ v. v ++ ats qs) e ∙ append_assoc a (ats ps) (ats qs) ∙ ap (λ v. a ++ v)
+    (sym (ats-append ps qs))
 
 -- the parts of one item more
-flat_more : {X : Type 0} (f : X → List Part) (xs : List X) (i : ℕ) → flat f (take (suc i) xs) ≡ flat f (take i xs) ++ if_some f (slice_get xs i)
+flat_more : {X : Type 0} (f : X → List Part) (xs : List X) (i : ℕ)
+    → flat f (take (suc i) xs) ≡ flat f (take i xs) ++ if_some f (slice_get xs i)
 flat_more f [] zero = refl
 flat_more f [] (suc i) = refl
 flat_more f (x ∷ xs) zero = append-nil (f x)
-flat_more f (x ∷ xs) (suc i) = ap (λ v. f x ++ v) (flat_more f xs i) ∙ sym (append_assoc (f x) (flat f (take i xs)) (if_some f (slice_get xs i)))
+flat_more f (x ∷ xs) (suc i) = ap (λ v. f x ++ v) (flat_more f xs i) ∙ sym
+    (append_assoc (f x) (flat f (take i xs)) (if_some f (slice_get xs i)))
 
-pub one_more : {X : Type 0} (f : X → List Part) (xs ys : List X) (i : ℕ) (a b c : List ℕ) → ys ≡ xs → b ≡ a ++ ats (flat f (take i xs)) → c ≡ b ++ ats (if_some f (slice_get ys i)) → c ≡ a ++ ats (flat f (take (i + 1) xs))
+pub one_more : {X : Type 0} (f : X → List Part) (xs ys : List X) (i : ℕ) (a b c : List ℕ) → ys ≡ xs
+    → b ≡ a ++ ats (flat f (take i xs)) → c ≡ b ++ ats (if_some f (slice_get ys i))
+    → c ≡ a ++ ats (flat f (take (i + 1) xs))
 one_more f xs ys i a b c same e h =
-    both a b c (flat f (take i xs)) (if_some f (slice_get xs i)) e (h ∙ ap (λ v. b ++ ats (if_some f (slice_get v i))) same)
+    both a b c (flat f (take i xs)) (if_some f (slice_get xs i)) e
+    (h ∙ ap (λ v. b ++ ats (if_some f (slice_get v i))) same)
     ∙ ap (λ v. a ++ ats v) (sym (flat_more f xs i)) ∙ ap (λ v. a ++ ats (flat f (take v xs))) (sym (add-one i))
 
-pub item_more : {X : Type 0} (f : X → List Part) (xs : List X) (i : ℕ) (x : X) (a b c : List ℕ) → i < length xs → x ≡ get_or xs i x → b ≡ a ++ ats (flat f (take i xs)) → c ≡ b ++ ats (f x) → c ≡ a ++ ats (flat f (take (i + 1) xs))
-item_more f xs i x a b c lt at e h = one_more f xs xs i a b c refl e (h ∙ ap (λ v. b ++ ats (if_some f v)) (sym (slice_get_read xs (length xs) i x refl lt at)))
+pub item_more : {X : Type 0} (f : X → List Part) (xs : List X) (i : ℕ) (x : X) (a b c : List ℕ) → i < length xs
+    → x ≡ get_or xs i x → b ≡ a ++ ats (flat f (take i xs)) → c ≡ b ++ ats (f x)
+    → c ≡ a ++ ats (flat f (take (i + 1) xs))
+item_more f xs i x a b c lt at e h = one_more f xs xs i a b c refl e
+    (h ∙ ap (λ v. b ++ ats (if_some f v)) (sym (slice_get_read xs (length xs) i x refl lt at)))
 
 -- what is done with a list in one call, and then in a second
-pub both_ok : {A B : Type 0} (r : Result A B) (a b c : List ℕ) (ps qs : List Part) → b ≡ a ++ ats ps → OnOk r (c ≡ b ++ ats qs) → OnOk r (c ≡ a ++ ats (ps ++ qs))
+pub both_ok : {A B : Type 0} (r : Result A B) (a b c : List ℕ) (ps qs : List Part) → b ≡ a ++ ats ps
+    → OnOk r (c ≡ b ++ ats qs) → OnOk r (c ≡ a ++ ats (ps ++ qs))
 both_ok (Ok x) a b c ps qs e f = both a b c ps qs e f
 both_ok (Err x) a b c ps qs e f = tt
 
@@ -57,25 +69,37 @@ reverse_one (piece.Node i) = refl
 reverse_one (piece.Last i) = refl
 
 -- the last of the pieces is moved
-pub one_moved : (stack pieces more left : List Piece) (p : Piece) (whole : List ℕ) → pieces ≡ left ++ p ∷ [] → more ≡ stack ++ p ∷ [] → all_moved stack pieces ≡ whole → all_moved more left ≡ whole
+pub one_moved : (stack pieces more left : List Piece) (p : Piece) (whole : List ℕ) → pieces ≡ left ++ p ∷ []
+    → more ≡ stack ++ p ∷ [] → all_moved stack pieces ≡ whole → all_moved more left ≡ whole
 one_moved stack pieces more left p whole e f h =
     let turned : reverse (numbers pieces) ≡ numbers (p ∷ []) ++ reverse (numbers left) =
-    ap reverse (piece_more left pieces p e) ∙ reverse-append (numbers left) (numbers (p ∷ [])) ∙ ap (λ v. v ++ reverse (numbers left)) (reverse_one p) in
-    ap (λ v. v ++ reverse (numbers left)) (piece_more stack more p f) ∙ append_assoc (numbers stack) (numbers (p ∷ [])) (reverse (numbers left)) ∙ sym (ap (λ v. numbers stack ++ v) turned) ∙ h
+    ap reverse (piece_more left pieces p e) ∙ reverse-append (numbers left) (numbers (p ∷ [])) ∙ ap
+    (λ v. v ++ reverse (numbers left)) (reverse_one p) in
+    ap (λ v. v ++ reverse (numbers left)) (piece_more stack more p f) ∙ append_assoc (numbers stack) (numbers (p ∷ []))
+    (reverse (numbers left)) ∙ sym (ap (λ v. numbers stack ++ v) turned) ∙ h
 
 -- none is left to move
-pub none_left : (stack pieces : List Piece) (whole : List ℕ) → pieces ≡ [] → all_moved stack pieces ≡ whole → numbers stack ≡ whole
-none_left stack pieces whole none h = sym (append-nil (numbers stack)) ∙ ap (λ v. numbers stack ++ reverse (numbers v)) (sym none) ∙ h
+pub none_left : (stack pieces : List Piece) (whole : List ℕ) → pieces ≡ [] → all_moved stack pieces ≡ whole
+    → numbers stack ≡ whole
+none_left stack pieces whole none h = sym (append-nil (numbers stack)) ∙ ap (λ v. numbers stack ++ reverse (numbers v))
+    (sym none) ∙ h
 
 -- a piece was taken from the top
-pub text_taken : (old new : List Piece) (p : Piece) (whole : List ℕ) → old ≡ new ++ p ∷ [] → numbers (p ∷ []) ≡ [] → numbers old ≡ whole → numbers new ≡ whole
-text_taken old new p whole e none h = sym (append-nil (numbers new)) ∙ ap (λ v. numbers new ++ v) (sym none) ∙ sym (ap numbers e ∙ numbers-append new (p ∷ [])) ∙ h
+pub text_taken : (old new : List Piece) (p : Piece) (whole : List ℕ) → old ≡ new ++ p ∷ [] → numbers (p ∷ []) ≡ []
+    → numbers old ≡ whole → numbers new ≡ whole
+text_taken old new p whole e none h = sym (append-nil (numbers new)) ∙ ap (λ v. numbers new ++ v) (sym none) ∙ sym
+    (ap numbers e ∙ numbers-append new (p ∷ [])) ∙ h
 
-pub node_taken : (old new : List Piece) (p : Piece) (i : ℕ) (whole : List ℕ) → old ≡ new ++ p ∷ [] → numbers (p ∷ []) ≡ i ∷ [] → numbers old ≡ whole → whole ≡ numbers new ++ i ∷ []
-node_taken old new p i whole e one h = sym h ∙ ap numbers e ∙ numbers-append new (p ∷ []) ∙ ap (λ v. numbers new ++ v) one
+pub node_taken : (old new : List Piece) (p : Piece) (i : ℕ) (whole : List ℕ) → old ≡ new ++ p ∷ []
+    → numbers (p ∷ []) ≡ i ∷ [] → numbers old ≡ whole → whole ≡ numbers new ++ i ∷ []
+node_taken old new p i whole e one h = sym h ∙ ap numbers e ∙ numbers-append new (p ∷ []) ∙ ap
+    (λ v. numbers new ++ v) one
 
 -- and a piece of text was put in its place
-pub last_taken : (old left new : List Piece) (p q : Piece) (i : ℕ) (whole : List ℕ) → old ≡ left ++ p ∷ [] → numbers (p ∷ []) ≡ i ∷ [] → new ≡ left ++ q ∷ [] → numbers (q ∷ []) ≡ [] → numbers old ≡ whole → whole ≡ numbers new ++ i ∷ []
+pub last_taken : (old left new : List Piece) (p q : Piece) (i : ℕ) (whole : List ℕ) → old ≡ left ++ p ∷ []
+    → numbers (p ∷ []) ≡ i ∷ [] → new ≡ left ++ q ∷ [] → numbers (q ∷ []) ≡ [] → numbers old ≡ whole
+    → whole ≡ numbers new ++ i ∷ []
 last_taken old left new p q i whole e one f none h =
-    let same : numbers new ≡ numbers left = piece_more left new q f ∙ ap (λ v. numbers left ++ v) none ∙ append-nil (numbers left) in
+    let same : numbers new ≡ numbers left = piece_more left new q f ∙ ap (λ v. numbers left ++ v) none ∙ append-nil
+    (numbers left) in
     node_taken old left p i whole e one h ∙ ap (λ v. v ++ i ∷ []) (sym same)

@@ -171,7 +171,8 @@ module _ {S F C K : Type 0} {fg : Ghosts F} {cg : Ghosts C} {kg : Ghosts K} {mod
       let was = callee_at ns start.callee in
       opens_after o (opens_inside (λ x q. list_behind hook was start.at q.0 x q.1) (list_splits hook was start.at) read
       (λ x ts us h y ys n. list_closes hook lawful was start.at list x ts us items h callee y ys n
-      ∙ ap (λ v. list_closed hook lo hi v start.at (args_at ms list) y ys) (sym (callee_later start.callee grows before))))
+      ∙ ap (λ v. list_closed hook lo hi v start.at (args_at ms list) y ys)
+      (sym (callee_later start.callee grows before))))
 
   pub list_operand : (is_async : Bool) (start : ListStart) (list : Listed (ExprOrSpread ExprId)) {e : Tree F C K}
       {m : Buffer S} → Apart k ns (callee_parts start.callee) → Grows ns ms → Apart j ms (args_parts list.items)

@@ -1,4 +1,5 @@
--- The body of an arrow function (15.3, 15.9), as the code goes it: in its own context, a block or an assignment expression.
+-- The body of an arrow function (15.3, 15.9), as the code goes it: in its own context, a block or an assignment
+-- expression.
 use Rattle.std.proofs.Common.{◌≡◌, ℕ, Bool, true, false, if◌then◌else◌, List, Result, refl, sym, ap, subst, ◌∙◌}
 use Rattle.swc_context.specs.Contexts.{arrow_body}
 use Rattle.swc_context.specs.Contexts.{view as deciding}
@@ -31,7 +32,8 @@ module _ {F C K : Type 0} (hook : Hook F C K) (place : K → Span) where
   abbrev pub body_by : Scope → List TokenAndSpan → Out (Tree F C K)
   body_by c ts = if at_token is_brace (first ts) then block_inside hook place c ts else run hook (at Assign) c ts
 
-  pub body_is : {fun_at : F → Span} {class_at : C → Span} → LawfulHook fun_at class_at place hook → (a : Bool) (x : Scope)
+  pub body_is : {fun_at : F → Span} {class_at : C → Span} → LawfulHook fun_at class_at place hook
+      → (a : Bool) (x : Scope)
       (ts : List TokenAndSpan) → run hook (at (ArrowBody a)) x ts ≡ body_by (in_context (arrow_body a) x) ts
   body_is laws a x ts = by_brace (at_token is_brace (first ts)) refl
     where
@@ -51,14 +53,16 @@ module _ {F C K : Type 0} (hook : Hook F C K) (place : K → Span) where
 
 -- what an assignment expression is, as a body
 module _ {S H F C K : Type 0} {fg : Ghosts F} {cg : Ghosts C} {kg : Ghosts K} {model : Model S} {sure : Bool}
-    (hook : Hook F C K) (laws : LawfulHook fg.place cg.place kg.place hook) {k : ℕ} {p q : Productions S H F C K fg cg kg}
+    (hook : Hook F C K) (laws : LawfulHook fg.place cg.place kg.place hook) {k : ℕ}
+    {p q : Productions S H F C K fg cg kg}
     {b e : Buffer S} {ctx : Context} {r : Result (BlockStmtOrExpr ExprId K) Error} where
   -- the context is set back, and what was found is put back
   pub within_body : (a found : Bool) → ctx ≡ context model p.input → Moves model p.input b
       → deciding (context model b) ≡ arrow_body a (deciding (context model p.input))
       → Produces model sure body_of body_at (body_by hook kg.place) k (record p { input = b }) r q
       → Moves model q.input e → context model e ≡ ctx
-      → Produces model sure body_of body_at (run hook (at (ArrowBody a))) k p r (record q { input = e; found_module_item = found })
+      → Produces model sure body_of body_at (run hook (at (ArrowBody a))) k p r
+      (record q { input = e; found_module_item = found })
   within_body a found before to set h back left =
       let w : Produces model sure body_of body_at (run hook (at (ArrowBody a))) k p r (record q { input = e }) =
       within (arrow_body a) (λ x. refl) (λ x ts. body_is hook kg.place laws a x ts) before to set h refl back left in

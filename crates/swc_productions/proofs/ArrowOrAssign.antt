@@ -80,7 +80,8 @@ module _ {F C K : Type 0} (hook : Hook F C K) where
   climb_more x p = run hook (climb p.0 0) x p.1
 
 -- what a reading of one after another was
-both_read : {A B : Type 0} (o : Out A) (f : A × List TokenAndSpan → Out B) {r : B × List TokenAndSpan} → (o >>= f) ≡ Some r
+both_read : {A B : Type 0} (o : Out A) (f : A × List TokenAndSpan → Out B) {r : B × List TokenAndSpan}
+    → (o >>= f) ≡ Some r
     → (p : A × List TokenAndSpan) × (o ≡ Some p) × (f p ≡ Some r)
 both_read None f h = absurd cc
 both_read (Some p) f h = (p, refl, h)
@@ -101,13 +102,15 @@ module _ {S A : Type 0} {model : Model S} {sure : Bool} {f g h q : Reader A} {t 
   }
 
 module _ {S F C K : Type 0} {fun_at : F → Span} {class_at : C → Span} {block_at : K → Span} {model : Model S}
-    {sure : Bool} (hook : Hook F C K) (lawful : LawfulHook fun_at class_at block_at hook) {f : Reader (Tree F C K)} where
+    {sure : Bool} (hook : Hook F C K) (lawful : LawfulHook fun_at class_at block_at hook)
+    {f : Reader (Tree F C K)} where
   -- links, and `++` or `--`, or none, after a base
   pub operanded : {e l u : Tree F C K} {b c d m : Buffer S} → Based model sure hook f e b c
       → On model sure (run hook (links true e)) (give l) c m → On model sure (run hook (updates l)) (give u) m d
       → Operanded model sure hook f u b d
   operanded h o o2 = record {
-    opens = opens_later h.opens (on_then (on_call (linked hook) (base_links hook _) o) (on_call (updated hook) (λ y ts. refl) o2));
+    opens = opens_later h.opens (on_then (on_call (linked hook) (base_links hook _) o)
+        (on_call (updated hook) (λ y ts. refl) o2));
     reader = λ y ts. h.heard.reader y ts >>= base_more hook y;
     heard = on_then (on_call (base_more hook) (λ y ts. refl) h.heard.heard.on)
         (on_then (on_call (link_more hook) (λ y ts. refl) o) o2);
@@ -119,7 +122,8 @@ module _ {S F C K : Type 0} {fun_at : F → Span} {class_at : C → Span} {block
 
 module _ {S F C K : Type 0} {model : Model S} {sure : Bool} (hook : Hook F C K) {f : Reader (Tree F C K)} where
   -- operators after an operand: what is read after these may be said of a tree that holds nothing that was refused
-  pub operators_left : {g : Reader (Tree F C K)} {e k : Tree F C K} {b c d : Buffer S} → Operanded model sure hook f e b c
+  pub operators_left : {g : Reader (Tree F C K)} {e k : Tree F C K} {b c d : Buffer S}
+      → Operanded model sure hook f e b c
       → On model sure (run hook (climb e 0)) (give k) c d
       → (is_valid k ≡ true → (y : Scope) (ys : List TokenAndSpan) → run hook (assigns k) y ys ≡ g y ys)
       → Opens model sure f g b d
@@ -153,17 +157,23 @@ module _ {S H F C K : Type 0} {fg : Ghosts F} {cg : Ghosts C} {kg : Ghosts K} {m
 module _ {S H F C K : Type 0} {fg : Ghosts F} {cg : Ghosts C} {kg : Ghosts K} {model : Model S} {sure : Bool}
     {f h : Reader (Tree F C K)} {j k : ℕ} {p m q : Productions S H F C K fg cg kg} where
   -- an operand and operators, and what is after these
-  pub finished : (r : Result ExprId Error) → Opens model sure f h p.input m.input → Grows p.nodes m.nodes → count p.nodes ≤ j
+  pub finished : (r : Result ExprId Error) → Opens model sure f h p.input m.input → Grows p.nodes m.nodes
+      → count p.nodes ≤ j
       → ((x : ExprId) → itself j q.nodes x → itself k q.nodes x)
-      → Rewrites model sure itself h (λ ns e x ts. Some (tree_of ns e, ts)) j m r q → Produces model sure itself tree_of f k p r q
-  finished (Ok x) o w le down s = yes (Ok x) (opens_heard (opens_later o s.reads)) (grows-kept w le s.kept) (down x s.from)
+      → Rewrites model sure itself h (λ ns e x ts. Some (tree_of ns e, ts)) j m r q
+      → Produces model sure itself tree_of f k p r q
+  finished (Ok x) o w le down s = yes (Ok x) (opens_heard (opens_later o s.reads)) (grows-kept w le s.kept)
+      (down x s.from)
   finished (Err e) o w le down s = yes (Err e) (unheard_after o.on s.reads) (grows-kept w le s.kept) tt
 
   -- the same after a fault
-  pub failed : (r : Result ExprId Error) → Fails model sure f p.input m.input → Grows p.nodes m.nodes → count p.nodes ≤ j
+  pub failed : (r : Result ExprId Error) → Fails model sure f p.input m.input → Grows p.nodes m.nodes
+      → count p.nodes ≤ j
       → ((x : ExprId) → itself j q.nodes x → itself k q.nodes x)
-      → Rewrites model sure itself h (λ ns e x ts. Some (tree_of ns e, ts)) j m r q → Produces model sure itself tree_of f k p r q
-  failed (Ok x) o w le down s = yes (Ok x) (fails_heard (fails_later o s.reads.leads)) (grows-kept w le s.kept) (down x s.from)
+      → Rewrites model sure itself h (λ ns e x ts. Some (tree_of ns e, ts)) j m r q
+      → Produces model sure itself tree_of f k p r q
+  failed (Ok x) o w le down s = yes (Ok x) (fails_heard (fails_later o s.reads.leads)) (grows-kept w le s.kept)
+      (down x s.from)
   failed (Err e) o w le down s = yes (Err e) (doomed_unheard o.doomed s.reads.refuses) (grows-kept w le s.kept) tt
 
 module _ {S H F C K : Type 0} {fg : Ghosts F} {cg : Ghosts C} {kg : Ghosts K} {model : Model S} {sure : Bool}

@@ -19,8 +19,7 @@ module _ {F C K : Type 0} (hook : Hook F C K) where
   abbrev pub args_counted : Bool → Scope → List TokenAndSpan → Out (Tree F C K)
   args_counted i x us = args_inside hook i x us >>= (λ q. counted i q.0 x q.1)
 
-  opens : (i : Bool) (x : Scope) (ts : List TokenAndSpan)
-      → run hook (at (Arguments i)) x ts
+  opens : (i : Bool) (x : Scope) (ts : List TokenAndSpan) → run hook (at (Arguments i)) x ts
       ≡ (expected is_lparen x ts
       >>= (λ p. and_then (run hook (at (Args i)) (with_in x) p.1) (λ es us. counted i es x us)))
   opens i x [] =

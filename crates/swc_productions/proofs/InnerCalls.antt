@@ -1,4 +1,5 @@
--- Productions where no assignment expression begins, which every buffer is: as what is read there by one that asks for it.
+-- Productions where no assignment expression begins, which every buffer is: as what is read there by one that asks for
+-- it.
 use Rattle.std.proofs.Common.{ℕ, Bool, Result}
 use Rattle.swc_context.specs.declared.error.Error.{Error}
 use Rattle.swc_input.specs.Source.{Model}
@@ -10,7 +11,8 @@ use Rattle.swc_steps.proofs.Making.{on}
 use Rattle.swc_steps.proofs.Steps.{Reader, inner_of, continues_inner}
 
 module _ {S H F C K : Type 0} {fg : Ghosts F} {cg : Ghosts C} {kg : Ghosts K} {model : Model S} {sure : Bool}
-    {T A : Type 0} {held : ℕ → Nodes F C K fg cg kg → T → Type 0} {view : Nodes F C K fg cg kg → T → A} {f : Reader A} {k : ℕ} where
+    {T A : Type 0} {held : ℕ → Nodes F C K fg cg kg → T → Type 0} {view : Nodes F C K fg cg kg → T → A} {f : Reader A}
+    {k : ℕ} where
   pub goes_inner : {p q : Productions S H F C K fg cg kg} (r : Result T Error) → GoesOn model sure held view f k p r q
       → GoesOn model sure held view (inner_of f) k p r q
   goes_inner {p} {q} r h = on r (continues_inner model sure (view q.nodes) f p.input q.input r h.reads) h.grows h.from

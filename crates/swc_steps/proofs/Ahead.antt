@@ -137,8 +137,7 @@ module _ {S : Type 0} {model : Model S} (laws : Laws model) where
 
   -- by the one after it, or that there is none
   pub told_behind : {V : Type 0} (f : Option TokenAndSpan → V) {b c : Buffer S} (v : V) → Peeked model b c
-      → IsSome (current b) → IsSome c.next → f (seen_of c.next) ≡ v
-      → Told model (λ ts. f (first (rest ts))) v b c
+      → IsSome (current b) → IsSome c.next → f (seen_of c.next) ≡ v → Told model (λ ts. f (first (rest ts))) v b c
   told_behind f v p some next e = record {
     laws = laws;
     still = p.look;

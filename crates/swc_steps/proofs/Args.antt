@@ -61,8 +61,7 @@ last_not x ts h = ap (λ b. last_by b (import_comma_ok x) ts) h
 pub last_refused : (x : Scope) (ts : List TokenAndSpan) → at_token is_rparen (first ts) ≡ true
     → import_comma_ok x ≡ false → last_comma x ts ≡ None
 unfolding last_comma
-last_refused x ts h k =
-    ap (λ b. last_by b (import_comma_ok x) ts) h ∙ ap (λ m. last_by true m ts) k
+last_refused x ts h k = ap (λ b. last_by b (import_comma_ok x) ts) h ∙ ap (λ m. last_by true m ts) k
 
 -- ---- no `=>` after a list in parentheses
 
@@ -198,7 +197,8 @@ module _ {F C K : Type 0} (hook : Hook F C K) where
       ≡ (arg_item hook i x ts >>= list_from (run hook (at (Args i))) x)
   args_step i x ts h =
       args_runs i x ts h
-      ∙ item_more (run hook (at (Args i))) (run hook (at Item)) (run hook (at (ArgsTail i))) (separated_args i) (tail_is i)
+      ∙ item_more (run hook (at (Args i))) (run hook (at Item)) (run hook (at (ArgsTail i))) (separated_args i)
+      (tail_is i)
       x ts
 
   pub args_list : (i : Bool) → IsList is_rparen (run hook (at (Args i))) (arg_item hook i)

@@ -12,20 +12,26 @@ use Rattle.swc_nodes.proofs.{Lists.apart-more, Standing.grows-none}
 use Rattle.swc_steps.specs.Parsing.{tree_of}
 
 module _ {F C K : Type 0} {fg : Ghosts F} {cg : Ghosts C} {kg : Ghosts K} where
-  pub made_at : (ms : Nodes F C K fg cg kg) (k : ℕ) (t : Tree F C K) (q : Result ExprId AllocError) (x : ExprId) → IfOk q (λ id. Made k ms (expr_part id) t) → q ≡ Ok x → Made k ms (expr_part x) t
+  pub made_at : (ms : Nodes F C K fg cg kg) (k : ℕ) (t : Tree F C K) (q : Result ExprId AllocError) (x : ExprId)
+      → IfOk q (λ id. Made k ms (expr_part id) t) → q ≡ Ok x → Made k ms (expr_part x) t
   made_at ms k t (Ok y) x m e = let same : y ≡ x = cc in subst (λ id. Made k ms (expr_part id) t) same m
   made_at ms k t (Err y) x m e = cc
 
-  pub made_tree : (ms : Nodes F C K fg cg kg) (k : ℕ) (t : Tree F C K) (q : Result ExprId AllocError) (r : Result ExprId Error) → IfOk q (λ id. Made k ms (expr_part id) t) → IfOk r (λ id. q ≡ Ok id) → IfOk r (λ id. tree_of ms id ≡ t)
+  pub made_tree : (ms : Nodes F C K fg cg kg) (k : ℕ) (t : Tree F C K) (q : Result ExprId AllocError)
+      (r : Result ExprId Error) → IfOk q (λ id. Made k ms (expr_part id) t) → IfOk r (λ id. q ≡ Ok id)
+      → IfOk r (λ id. tree_of ms id ≡ t)
   made_tree ms k t q (Ok y) m e = (made_at ms k t q y m e).stands
   made_tree ms k t q (Err y) m e = tt
 
-  pub made_from : (ms : Nodes F C K fg cg kg) (k j : ℕ) (t : Tree F C K) (q : Result ExprId AllocError) (r : Result ExprId Error) → k ≤ j → IfOk q (λ id. Made j ms (expr_part id) t) → IfOk r (λ id. q ≡ Ok id) → IfOk r (λ id. From k ms (expr_part id))
+  pub made_from : (ms : Nodes F C K fg cg kg) (k j : ℕ) (t : Tree F C K) (q : Result ExprId AllocError)
+      (r : Result ExprId Error) → k ≤ j → IfOk q (λ id. Made j ms (expr_part id) t) → IfOk r (λ id. q ≡ Ok id)
+      → IfOk r (λ id. From k ms (expr_part id))
   made_from ms k j t q (Ok y) h m e = from-down h (made_at ms j t q y m e).from
   made_from ms k j t q (Err y) h m e = tt
 
   -- a node over parts that lie apart from the number j on
-  pub made_over : (ns ms : Nodes F C K fg cg kg) (j : ℕ) (ps : List Part) (t : Tree F C K) (q : Result ExprId AllocError)
+  pub made_over : (ns ms : Nodes F C K fg cg kg) (j : ℕ) (ps : List Part) (t : Tree F C K)
+      (q : Result ExprId AllocError)
       → IfOk q (λ id. (k : ℕ) → Apart k ns ps → Made k ms (expr_part id) t) → Apart j ns ps
       → IfOk q (λ id. Made j ms (expr_part id) t)
   made_over ns ms j ps t (Ok x) f a = f j a

@@ -38,40 +38,48 @@ module _ {F C K : Type 0} where
 module _ {F C K : Type 0} {fg : Ghosts F} {cg : Ghosts C} {kg : Ghosts K} (hook : Hook F C K)
     (lawful : LawfulHook fg.place cg.place kg.place hook) where
   -- what is read at a symbol
-  pub read-valid : (s : Symbol) (x : Scope) (ts us : List TokenAndSpan) (t : Tree F C K) → run hook (at s) x ts ≡ Some (t, us) →
+  pub read-valid : (s : Symbol) (x : Scope) (ts us : List TokenAndSpan) (t : Tree F C K)
+      → run hook (at s) x ts ≡ Some (t, us) →
       is_valid t ≡ true
   read-valid s x ts us t h = valid (sound hook lawful s x ts (t, us) h)
 
   pub begun : {ns : Nodes F C K fg cg kg} {k : ℕ} (e : ExprId) (s : Symbol) (x : Scope) (ts us : List TokenAndSpan) →
-      From k ns (expr_part e) → run hook (at s) x ts ≡ Some (tree_of ns e, us) → start_at ns e.0 ≡ (span_of (tree_of ns e)).lo
+      From k ns (expr_part e) → run hook (at s) x ts ≡ Some (tree_of ns e, us)
+      → start_at ns e.0 ≡ (span_of (tree_of ns e)).lo
   begun {ns} e s x ts us f h = start-clean f (valid-begins (tree_of ns e) (read-valid s x ts us (tree_of ns e) h))
 
   pub ended : {ns : Nodes F C K fg cg kg} {k : ℕ} (e : ExprId) (s : Symbol) (x : Scope) (ts us : List TokenAndSpan) →
-      From k ns (expr_part e) → run hook (at s) x ts ≡ Some (tree_of ns e, us) → end_at ns e.0 ≡ (span_of (tree_of ns e)).hi
+      From k ns (expr_part e) → run hook (at s) x ts ≡ Some (tree_of ns e, us)
+      → end_at ns e.0 ≡ (span_of (tree_of ns e)).hi
   ended {ns} e s x ts us f h = end-clean f (valid-ends (tree_of ns e) (read-valid s x ts us (tree_of ns e) h))
 
 -- ---- expressions one after another
 
 -- the first of a list, where one more is put after it
-pub head-more : {X : Type 0} (xs : List X) (x d : X) → 1 ≤ length xs → slice_index_or (xs ++ x ∷ []) 0 d ≡ slice_index_or xs 0 d
+pub head-more : {X : Type 0} (xs : List X) (x d : X) → 1 ≤ length xs
+    → slice_index_or (xs ++ x ∷ []) 0 d ≡ slice_index_or xs 0 d
 head-more [] x d le = absurd (omega arith)
 head-more (y ∷ ys) x d le = refl
 
 module _ {F C K : Type 0} {fg : Ghosts F} {cg : Ghosts C} {kg : Ghosts K} where
-  behind : {ns : Nodes F C K fg cg kg} {k : ℕ} (p : Part) (ps : List Part) → Apart k ns (p ∷ ps) → Apart (suc p.at) ns ps
+  behind : {ns : Nodes F C K fg cg kg} {k : ℕ} (p : Part) (ps : List Part) → Apart k ns (p ∷ ps)
+      → Apart (suc p.at) ns ps
   behind {ns} {k} p ps a = record { chained = (both_true {a = fits (seat_at ns) k p} a.chained).1 }
 
-  last-clean : {ns : Nodes F C K fg cg kg} {k : ℕ} (y : ExprId) (ys : List ExprId) → Apart k ns (flat one_expr (y ∷ ys)) →
+  last-clean : {ns : Nodes F C K fg cg kg} {k : ℕ} (y : ExprId) (ys : List ExprId)
+      → Apart k ns (flat one_expr (y ∷ ys)) →
       are_valid (trees (map (tree_of ns) (y ∷ ys))) ≡ true →
       last_end ns (y ∷ ys) ≡ (last_place (span_of (tree_of ns y)) (trees (map (tree_of ns) ys))).hi
-  last-clean {ns} y [] a v = end-clean (from-apart (expr_part y) [] a) (valid-ends (tree_of ns y) (both_true {b = true} v).0)
+  last-clean {ns} y [] a v = end-clean (from-apart (expr_part y) [] a)
+      (valid-ends (tree_of ns y) (both_true {b = true} v).0)
   last-clean {ns} y (z ∷ zs) a v =
       last-clean z zs (behind (expr_part y) (flat one_expr (z ∷ zs)) a) (both_true {a = is_valid (tree_of ns y)} v).1
 
   -- where all of them hold nothing that was refused
   pub seq-clean : {ns : Nodes F C K fg cg kg} {k : ℕ} (xs : List ExprId) → Apart k ns (flat one_expr xs) →
       are_valid (trees (map (tree_of ns) xs)) ≡ true →
-      seq_of (trees (map (tree_of ns) xs)) ≡ seq_between (first_start ns xs) (last_end ns xs) (trees (map (tree_of ns) xs))
+      seq_of (trees (map (tree_of ns) xs)) ≡ seq_between (first_start ns xs) (last_end ns xs)
+      (trees (map (tree_of ns) xs))
   seq-clean [] a v = refl
   seq-clean (x ∷ []) a v = refl
   seq-clean {ns} (x ∷ y ∷ ys) a v =
@@ -88,14 +96,16 @@ module _ {F C K : Type 0} {fg : Ghosts F} {cg : Ghosts C} {kg : Ghosts K} where
   last-behind ns s [] e = refl
   last-behind ns s (z ∷ zs) e = last-behind ns (span_of (tree_of ns z)) zs e
 
-  end-behind : (ns : Nodes F C K fg cg kg) (z : ExprId) (zs : List ExprId) (e : ExprId) → last_end ns (z ∷ zs ++ e ∷ []) ≡ end_at ns e.0
+  end-behind : (ns : Nodes F C K fg cg kg) (z : ExprId) (zs : List ExprId) (e : ExprId)
+      → last_end ns (z ∷ zs ++ e ∷ []) ≡ end_at ns e.0
   end-behind ns z [] e = refl
   end-behind ns z (w ∷ ws) e = end-behind ns w ws e
 
   seq-behind : (ns : Nodes F C K fg cg kg) (x : ExprId) (zs : List ExprId) (e : ExprId) →
       end_at ns e.0 ≡ (span_of (tree_of ns e)).hi →
       seq_of (trees (map (tree_of ns) (x ∷ zs ++ e ∷ [])))
-      ≡ seq_between (span_of (tree_of ns x)).lo (last_end ns (x ∷ zs ++ e ∷ [])) (trees (map (tree_of ns) (x ∷ zs ++ e ∷ [])))
+      ≡ seq_between (span_of (tree_of ns x)).lo (last_end ns (x ∷ zs ++ e ∷ []))
+      (trees (map (tree_of ns) (x ∷ zs ++ e ∷ [])))
   seq-behind ns x [] e h =
       ap (λ p. seq_e (from_to (span_of (tree_of ns x)).lo p) (trees (map (tree_of ns) (x ∷ e ∷ [])))) (sym h)
   seq-behind ns x (z ∷ zs) e h =
@@ -103,7 +113,8 @@ module _ {F C K : Type 0} {fg : Ghosts F} {cg : Ghosts C} {kg : Ghosts K} where
       let last = ap (λ p. p.hi) (last-behind ns (span_of (tree_of ns z)) zs e) ∙ sym h ∙ sym (end-behind ns z zs e) in
       ap (λ p. seq_e (from_to (span_of (tree_of ns x)).lo p) ts) last
 
-  begun-behind : (ns : Nodes F C K fg cg kg) (x : ExprId) (zs : List ExprId) (e : ExprId) (b : Bool) (lo from hi : BytePos) →
+  begun-behind : (ns : Nodes F C K fg cg kg) (x : ExprId) (zs : List ExprId) (e : ExprId) (b : Bool)
+      (lo from hi : BytePos) →
       (b ≡ false → lo ≡ from) →
       begun_if b lo (seq_between from hi (trees (map (tree_of ns) (x ∷ zs ++ e ∷ []))))
       ≡ seq_between lo hi (trees (map (tree_of ns) (x ∷ zs ++ e ∷ [])))
@@ -137,7 +148,8 @@ module _ {F C K : Type 0} {fg : Ghosts F} {cg : Ghosts C} {kg : Ghosts K} where
       let b = begins_in_invalid (tree_of old first) in
       let lo = start_at old first.0 in
       let from = (span_of (tree_of old first)).lo in
-      let Same : List ExprId → Type 0 = λ ys. begun_if b lo (seq_between from (last_end ns ys) (trees (map (tree_of ns) ys)))
+      let Same : List ExprId → Type 0 = λ ys. begun_if b lo
+      (seq_between from (last_end ns ys) (trees (map (tree_of ns) ys)))
       ≡ seq_between (first_start ns ys) (last_end ns ys) (trees (map (tree_of ns) ys)) in
       let ys = x ∷ zs ++ e ∷ [] in
       let at = sym (ap (λ v. start_at ns v.0) head ∙ start-later g f) in
@@ -152,7 +164,8 @@ module _ {F C K : Type 0} where
   item-valid None t h = (both_true {b = true} h).0
   item-valid (Some d) t h = (both_true {b = true} h).0
 
-  held-valid : (by : ExprId → Tree F C K) (xs : List (ExprOrSpread ExprId)) → are_valid (trees (map (item_tree by) xs)) ≡ true →
+  held-valid : (by : ExprId → Tree F C K) (xs : List (ExprOrSpread ExprId))
+      → are_valid (trees (map (item_tree by) xs)) ≡ true →
       are_valid (trees (map by (map (λ x. x.expr) xs))) ≡ true
   held-valid by [] h = refl
   held-valid by (x ∷ xs) h =
@@ -163,7 +176,8 @@ module _ {F C K : Type 0} {fg : Ghosts F} {cg : Ghosts C} {kg : Ghosts K} (hook 
     (lawful : LawfulHook fg.place cg.place kg.place hook) where
   -- expressions in parentheses, as the clean parser reads them
   pub items-clean : {ns : Nodes F C K fg cg kg} {k : ℕ} (s : Span) (list : Listed (ExprOrSpread ExprId)) (x : Scope)
-      (ts us ys : List TokenAndSpan) → Apart k ns (args_parts list.items) → args_inside hook false x ts ≡ Some (args_at ns list, us) →
+      (ts us ys : List TokenAndSpan) → Apart k ns (args_parts list.items)
+      → args_inside hook false x ts ≡ Some (args_at ns list, us) →
       paren_closed (paren_of x s (args_at ns list)) ys
       ≡ paren_closed (paren_from (first_start ns (map (λ e. e.expr) list.items.items))
       (last_end ns (map (λ e. e.expr) list.items.items)) x s (args_at ns list)) ys
@@ -172,7 +186,11 @@ module _ {F C K : Type 0} {fg : Ghosts F} {cg : Ghosts C} {kg : Ghosts K} (hook 
       let xs = map (λ (e : ExprOrSpread ExprId). e.expr) items in
       let es = args_at ns list in
       let ok = read-valid hook lawful (Args false) (with_in x) ts us es (sym (inside_args hook false x ts) ∙ h) in
-      let apart : Apart k ns (flat one_expr xs) = record { chained = ap (λ v. chain (seat_at ns) k v (count ns)) (held-parts items) ∙ a.chained } in
+      let apart : Apart k ns (flat one_expr xs) = record {
+        chained =
+            ap (λ v. chain (seat_at ns) k v (count ns)) (held-parts items) ∙ a.chained;
+      } in
       let Same : Trees F C K → Type 0 = λ hs. seq_of hs ≡ seq_between (first_start ns xs) (last_end ns xs) hs in
       let same = subst Same (held-trees (tree_of ns) items) (seq-clean xs apart (held-valid (tree_of ns) items ok)) in
-      ap (λ v. paren_closed (λ us. if paren_ok x.syntax.pedantic es then Some (paren_e (to s (span_of es)) v, us) else None) ys) same
+      ap (λ v. paren_closed (λ us. if paren_ok x.syntax.pedantic es then Some
+      (paren_e (to s (span_of es)) v, us) else None) ys) same

@@ -26,7 +26,8 @@ nothing None f = refl
 nothing (Some p) f = absurd (f p.0 p.1 refl)
 
 module _ {S V : Type 0} (model : Model S) (laws : Laws model) (reads : Reading V)
-    (viewed : (c : Context) (ts : List TokenAndSpan) → reads c ts ≡ reads (deciding c) ts) (sure : Bool) {b : Buffer S} where
+    (viewed : (c : Context) (ts : List TokenAndSpan) → reads c ts ≡ reads (deciding c) ts) (sure : Bool)
+    {b : Buffer S} where
   -- a faithful hook that records a fault, or refuses, reads nothing
   none_faulty : (c : Buffer S) (v : V) → Faithful model reads b (Ok v) c → Loud model b
       → recorded model b < recorded model c
@@ -39,12 +40,14 @@ module _ {S V : Type 0} (model : Model S) (laws : Laws model) (reads : Reading V
   none_refused c x f n l ts k = nothing (reads (context model b) ts) (λ w rest e. n (f l ts w rest k e))
 
   -- where the source runs, it reads what its reading gives
-  running_parses : {c : Buffer S} → (model.state (source c)).failed ≡ false → (r : Result V Error) → Hooked model reads b r c
+  running_parses : {c : Buffer S} → (model.state (source c)).failed ≡ false → (r : Result V Error)
+      → Hooked model reads b r c
       → (sure ≡ true → Faithful model reads b r c) → Parses model sure (λ v. v) (by_hook reads) b r c
   running_parses {c = c} runs (Ok v) h f = record {
     on = record {
       leads = record { laws = laws; taken = h.taken; read = h.read; lives = λ e. let n = sym e ∙ runs in cc };
-      clean = λ l s ys fut. sym (viewed (context model b) (h.taken ++ ys)) ∙ h.clean l (same_faults h.read.errors s) ys fut;
+      clean = λ l s ys fut. sym (viewed (context model b) (h.taken ++ ys)) ∙ h.clean l
+          (same_faults h.read.errors s) ys fut;
       faulty = λ y l lt ts k. sym (viewed (context model b) ts) ∙ none_faulty c v (f y) l lt ts k;
     };
     onward = record { some = h.some; less = h.less };
@@ -71,8 +74,10 @@ module _ {S V : Type 0} (model : Model S) (laws : Laws model) (reads : Reading V
   }
 
   -- the hook answered r, and q is answered: r itself, or out of memory where the source has failed
-  pub hook_parses : {c : Buffer S} (at : BytePos) (r q : Result V Error) → Hooked model reads b r c → (sure ≡ true → Faithful model reads b r c)
-      → ((model.state (source c)).failed ≡ false → q ≡ r) → ((model.state (source c)).failed ≡ true → q ≡ Err (no_memory at))
+  pub hook_parses : {c : Buffer S} (at : BytePos) (r q : Result V Error) → Hooked model reads b r c
+      → (sure ≡ true → Faithful model reads b r c)
+      → ((model.state (source c)).failed ≡ false → q ≡ r)
+      → ((model.state (source c)).failed ≡ true → q ≡ Err (no_memory at))
       → Parses model sure (λ v. v) (by_hook reads) b q c
   hook_parses {c = c} at r q h f runs fails =
       let Read : Result V Error → Type 0 = λ x. Parses model sure (λ v. v) (by_hook reads) b x c in

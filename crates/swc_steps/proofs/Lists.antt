@@ -168,15 +168,13 @@ module _ {F C K : Type 0} where
   with_comma_splits item separates x ts = refl
 
   pub elided_splits : (one : Scope → List TokenAndSpan → Out (Tree F C K × Option Span)) (x : Scope)
-      (ts : List TokenAndSpan)
-      → or_elided one x ts ≡ (eaten is_comma x ts >>= (λ p. elided_by one p.0 x p.1))
+      (ts : List TokenAndSpan) → or_elided one x ts ≡ (eaten is_comma x ts >>= (λ p. elided_by one p.0 x p.1))
   unfolding or_elided
   elided_splits one x ts = refl
 
   pub left_splits : (all : Scope → List TokenAndSpan → Out (Tree F C K))
       (one : Scope → List TokenAndSpan → Out (Tree F C K × Option Span)) (before : Trees F C K) (x : Scope)
-      (ts : List TokenAndSpan)
-      → left_from all one before x ts
+      (ts : List TokenAndSpan) → left_from all one before x ts
       ≡ (one x ts >>= (λ p. left_behind all (trees_append before (cons p.0.0 nil)) p.0.1 x p.1))
   unfolding left_from
   left_splits all one before x ts = refl
@@ -197,8 +195,7 @@ module _ {F C K : Type 0} (hook : Hook F C K) where
   unfolding by_production array_lit_tail elements_inside reading
   array_lit_opens t x ts h = rw h (calls (run hook (at Elements) (with_in x) ts) _)
 
-  pub array_lit_splits : (s : Span) (x : Scope) (ts : List TokenAndSpan)
-      → array_lit_tail hook s x ts
+  pub array_lit_splits : (s : Span) (x : Scope) (ts : List TokenAndSpan) → array_lit_tail hook s x ts
       ≡ (elements_inside hook x ts >>= (λ p. Some (array_e (comma_of p.0) (to s (span_of p.0)) (items_of p.0), p.1)))
   unfolding array_lit_tail
   array_lit_splits s x ts = refl
@@ -238,7 +235,8 @@ module _ {F C K : Type 0} (hook : Hook F C K) where
       (λ es vs. Some (put_first e es, vs)))
       ≡ (element_item hook x ts >>= list_from (run hook (at Elements)) x)
   item_step x ts =
-      item_more (run hook (at Elements)) (run hook (at Item)) (run hook (at ElementsTail)) (separated is_rbracket) tail_is
+      item_more (run hook (at Elements)) (run hook (at Item)) (run hook (at ElementsTail))
+      (separated is_rbracket) tail_is
       x ts
 
   step_token : (x : Scope) (v : Token) (b : Bool) (s : Span) (us : List TokenAndSpan) → is_rbracket v ≡ false
@@ -269,11 +267,9 @@ module _ {F C K : Type 0} (hook : Hook F C K) where
   unfolding eaten
   item_token x token.DotDotDot b s us =
       knot hook (at Item) x (tk token.DotDotDot b s ∷ us) ∙ calls (run hook (at Assign) x us) _
-  item_token x v b s us =
-      knot hook (at Item) x (tk v b s ∷ us) ∙ calls (run hook (at Assign) x (tk v b s ∷ us)) _
+  item_token x v b s us = knot hook (at Item) x (tk v b s ∷ us) ∙ calls (run hook (at Assign) x (tk v b s ∷ us)) _
 
-  pub item_splits : (x : Scope) (ts : List TokenAndSpan)
-      → run hook (at Item) x ts
+  pub item_splits : (x : Scope) (ts : List TokenAndSpan) → run hook (at Item) x ts
       ≡ (eaten is_dots x ts >>= (λ p. run hook (at Assign) x p.1 >>= (λ q. Some (item_of p.0 q.0, q.1))))
   unfolding eaten
   item_splits x [] = knot hook (at Item) x [] ∙ calls (run hook (at Assign) x []) _

@@ -32,8 +32,7 @@ module _ {S H F C K : Type 0} {fg : Ghosts F} {cg : Ghosts C} {kg : Ghosts K} {m
     (list : IsList closes all one) where
   -- before the first item
   pub started : {X : Type 0} (tree : X → Tree F C K) (parts : X → List Part) (p : Productions S H F C K fg cg kg)
-      (xs : List X) → Laws model → xs ≡ []
-      → ItemsRead model sure all (trees (map tree xs)) (flat parts xs) None p p
+      (xs : List X) → Laws model → xs ≡ [] → ItemsRead model sure all (trees (map tree xs)) (flat parts xs) None p p
   started tree parts p xs laws none = record {
     on = on_here laws p.input
         (λ x ts. list_first list x ts ∙ ap (λ v. left_behind all (trees (map tree v)) None x ts) (sym none));
@@ -68,7 +67,8 @@ module _ {S F C K : Type 0} {model : Model S} {sure : Bool} {all : Reader (Tree 
     (one : Reader (Tree F C K × Option Span)) (items : Trees F C K) {b c : Buffer S}
     (at : On model sure all (left_from all (or_elided one) items) b c) where
   -- the comma that a hole is
-  pub comma_refused : {e : Error} {d : Buffer S} → Unheard model sure (eaten is_comma) c e d → Unheard model sure all b e d
+  pub comma_refused : {e : Error} {d : Buffer S} → Unheard model sure (eaten is_comma) c e d
+      → Unheard model sure all b e d
   comma_refused u =
       unheard_after at (unheard_call _ (left_splits all (or_elided one) items) (unheard_call _ (elided_splits one) u))
 

@@ -23,12 +23,16 @@ pub held_is : {T : Type 0} (P : T → Type 0) (r : Result T Error) (x : T) → r
 held_is P (Ok y) x e h = let same : y ≡ x = cc in subst P same h
 held_is P (Err e) x q h = cc
 
-module _ {S H F C K : Type 0} {fg : Ghosts F} {cg : Ghosts C} {kg : Ghosts K} {model : Model S} {sure : Bool} {T A : Type 0} {held : ℕ → Nodes F C K fg cg kg → T → Type 0} {view : Nodes F C K fg cg kg → T → A} {f : Reader A} {k : ℕ} where
+module _ {S H F C K : Type 0} {fg : Ghosts F} {cg : Ghosts C} {kg : Ghosts K} {model : Model S} {sure : Bool}
+    {T A : Type 0} {held : ℕ → Nodes F C K fg cg kg → T → Type 0} {view : Nodes F C K fg cg kg → T → A} {f : Reader A}
+    {k : ℕ} where
   -- refused
-  pub no : {p q : Productions S H F C K fg cg kg} {e : Error} → Unheard model sure f p.input e q.input → Grows p.nodes q.nodes → Produces model sure held view f k p (Err e) q
+  pub no : {p q : Productions S H F C K fg cg kg} {e : Error} → Unheard model sure f p.input e q.input
+      → Grows p.nodes q.nodes → Produces model sure held view f k p (Err e) q
   no u g = record { reads = u; falls = tt; grows = g; from = tt }
 
-  pub no_more : {p q : Productions S H F C K fg cg kg} {e : Error} → Unheard model sure f p.input e q.input → Grows p.nodes q.nodes → GoesOn model sure held view f k p (Err e) q
+  pub no_more : {p q : Productions S H F C K fg cg kg} {e : Error} → Unheard model sure f p.input e q.input
+      → Grows p.nodes q.nodes → GoesOn model sure held view f k p (Err e) q
   no_more u g = record { reads = u; falls = tt; grows = g; from = tt }
 
   -- what a `?` passes on
@@ -52,69 +56,125 @@ module _ {S H F C K : Type 0} {fg : Ghosts F} {cg : Ghosts C} {kg : Ghosts K} {m
   refused_more h u g = passed_more h (no_more u g)
 
   -- read
-  pub yes : {p q : Productions S H F C K fg cg kg} (r : Result T Error) → Parses model sure (view q.nodes) f p.input r q.input → Grows p.nodes q.nodes → IfOk r (λ t. held k q.nodes t) → Produces model sure held view f k p r q
-  yes (Ok x) h g m = record { reads = h; falls = lower (record { leads = h.on.leads; onward = h.onward }); grows = g; from = m }
+  pub yes : {p q : Productions S H F C K fg cg kg} (r : Result T Error)
+      → Parses model sure (view q.nodes) f p.input r q.input → Grows p.nodes q.nodes → IfOk r (λ t. held k q.nodes t)
+      → Produces model sure held view f k p r q
+  yes (Ok x) h g m = record {
+    reads = h;
+    falls = lower (record { leads = h.on.leads; onward = h.onward });
+    grows = g;
+    from = m;
+  }
   yes (Err e) h g m = record { reads = h; falls = tt; grows = g; from = m }
 
-  pub on : {p q : Productions S H F C K fg cg kg} (r : Result T Error) → Continues model sure (view q.nodes) f p.input r q.input → Grows p.nodes q.nodes → IfOk r (λ t. held k q.nodes t) → GoesOn model sure held view f k p r q
+  pub on : {p q : Productions S H F C K fg cg kg} (r : Result T Error)
+      → Continues model sure (view q.nodes) f p.input r q.input → Grows p.nodes q.nodes → IfOk r (λ t. held k q.nodes t)
+      → GoesOn model sure held view f k p r q
   on (Ok x) h g m = record { reads = h; falls = less h.leads; grows = g; from = m }
   on (Err e) h g m = record { reads = h; falls = tt; grows = g; from = m }
 
   -- steps, and then a production
-  pub after : {g : Reader A} {p m q : Productions S H F C K fg cg kg} (r : Result T Error) → On model sure f g p.input m.input → Grows p.nodes m.nodes → Produces model sure held view g k m r q → Produces model sure held view f k p r q
-  after {q = q} r o w h = yes r (parses_after model sure (view q.nodes) f q.input r o h.reads) (grows-then w h.grows) h.from
+  pub after : {g : Reader A} {p m q : Productions S H F C K fg cg kg} (r : Result T Error)
+      → On model sure f g p.input m.input → Grows p.nodes m.nodes → Produces model sure held view g k m r q
+      → Produces model sure held view f k p r q
+  after {q = q} r o w h = yes r (parses_after model sure (view q.nodes) f q.input r o h.reads)
+      (grows-then w h.grows) h.from
 
   -- the same, where the production holds more
-  pub after_held : {g : Reader A} {j : ℕ} {p m q : Productions S H F C K fg cg kg} (r : Result T Error) → On model sure f g p.input m.input → Grows p.nodes m.nodes → ((x : T) → held j q.nodes x → held k q.nodes x) → Produces model sure held view g j m r q → Produces model sure held view f k p r q
-  after_held {q = q} r o w down h = yes r (parses_after model sure (view q.nodes) f q.input r o h.reads) (grows-then w h.grows) (if_held down r h.from)
+  pub after_held : {g : Reader A} {j : ℕ} {p m q : Productions S H F C K fg cg kg} (r : Result T Error)
+      → On model sure f g p.input m.input → Grows p.nodes m.nodes → ((x : T) → held j q.nodes x → held k q.nodes x)
+      → Produces model sure held view g j m r q → Produces model sure held view f k p r q
+  after_held {q = q} r o w down h = yes r (parses_after model sure (view q.nodes) f q.input r o h.reads)
+      (grows-then w h.grows) (if_held down r h.from)
 
-  pub on_after : {g : Reader A} {p m q : Productions S H F C K fg cg kg} (r : Result T Error) → On model sure f g p.input m.input → Grows p.nodes m.nodes → GoesOn model sure held view g k m r q → GoesOn model sure held view f k p r q
-  on_after {q = q} r o w h = on r (continues_after model sure (view q.nodes) f q.input r o h.reads) (grows-then w h.grows) h.from
+  pub on_after : {g : Reader A} {p m q : Productions S H F C K fg cg kg} (r : Result T Error)
+      → On model sure f g p.input m.input → Grows p.nodes m.nodes → GoesOn model sure held view g k m r q
+      → GoesOn model sure held view f k p r q
+  on_after {q = q} r o w h = on r (continues_after model sure (view q.nodes) f q.input r o h.reads)
+      (grows-then w h.grows) h.from
 
   -- what was read, and a production that reads on
-  pub call : {B : Type 0} {q0 : Reader B} {t : B} {p m q : Productions S H F C K fg cg kg} {j : ℕ} (r : Result T Error) (then : Scope → B × List TokenAndSpan → Out A) → ((x : Scope) (ts : List TokenAndSpan) → f x ts ≡ (q0 x ts >>= then x)) →
-      Heard model sure q0 t p.input m.input → Grows p.nodes m.nodes → ((x : T) → held j q.nodes x → held k q.nodes x) → GoesOn model sure held view (λ x ts. then x (t, ts)) j m r q → Produces model sure held view f k p r q
-  call {q = q} {j = j} r then step h w down s = yes r (parses_call model sure (view q.nodes) f q.input r then step h s.reads) (grows-then w s.grows) (if_held down r s.from)
+  pub call : {B : Type 0} {q0 : Reader B} {t : B} {p m q : Productions S H F C K fg cg kg} {j : ℕ} (r : Result T Error)
+      (then : Scope → B × List TokenAndSpan → Out A) → ((x : Scope) (ts : List TokenAndSpan)
+      → f x ts ≡ (q0 x ts >>= then x)) →
+      Heard model sure q0 t p.input m.input → Grows p.nodes m.nodes → ((x : T) → held j q.nodes x → held k q.nodes x)
+      → GoesOn model sure held view (λ x ts. then x (t, ts)) j m r q → Produces model sure held view f k p r q
+  call {q = q} {j = j} r then step h w down s =
+      yes r (parses_call model sure (view q.nodes) f q.input r then step h s.reads) (grows-then w s.grows)
+      (if_held down r s.from)
 
   -- the same, where what was read is known to be what q0 read
-  pub call_read : {B : Type 0} {q0 : Reader B} {g : Reader A} {t : B} {p m q : Productions S H F C K fg cg kg} {j : ℕ} (r : Result T Error) (then : Scope → B × List TokenAndSpan → Out A) → ((x : Scope) (ts : List TokenAndSpan) → f x ts ≡ (q0 x ts >>= then x)) →
-      Heard model sure q0 t p.input m.input → ((x : Scope) (ts us : List TokenAndSpan) → q0 x ts ≡ Some (t, us) → (y : Scope) (ys : List TokenAndSpan) → then y (t, ys) ≡ g y ys) → Grows p.nodes m.nodes → ((x : T) → held j q.nodes x → held k q.nodes x) → GoesOn model sure held view g j m r q → Produces model sure held view f k p r q
+  pub call_read : {B : Type 0} {q0 : Reader B} {g : Reader A} {t : B} {p m q : Productions S H F C K fg cg kg} {j : ℕ}
+      (r : Result T Error) (then : Scope → B × List TokenAndSpan → Out A)
+      → ((x : Scope) (ts : List TokenAndSpan) → f x ts ≡ (q0 x ts >>= then x)) →
+      Heard model sure q0 t p.input m.input → ((x : Scope) (ts us : List TokenAndSpan) → q0 x ts ≡ Some (t, us)
+      → (y : Scope) (ys : List TokenAndSpan) → then y (t, ys) ≡ g y ys) → Grows p.nodes m.nodes
+      → ((x : T) → held j q.nodes x → held k q.nodes x) → GoesOn model sure held view g j m r q
+      → Produces model sure held view f k p r q
   call_read {g = g} {q = q} {j = j} r then step h same w down s =
-      yes r (parses_call_read model sure (view q.nodes) f {g = g} q.input r then step h same s.reads) (grows-then w s.grows) (if_held down r s.from)
+      yes r (parses_call_read model sure (view q.nodes) f {g = g} q.input r then step h same s.reads)
+      (grows-then w s.grows) (if_held down r s.from)
 
-  pub weaker : {p q : Productions S H F C K fg cg kg} (r : Result T Error) → Produces model sure held view f k p r q → GoesOn model sure held view f k p r q
+  pub weaker : {p q : Productions S H F C K fg cg kg} (r : Result T Error) → Produces model sure held view f k p r q
+      → GoesOn model sure held view f k p r q
   weaker {p} {q} r h = on r (continues_of model sure (view q.nodes) f p.input q.input r h.reads) h.grows h.from
 
 -- a node is made in the end
 
-module _ {S H F C K : Type 0} {fg : Ghosts F} {cg : Ghosts C} {kg : Ghosts K} {model : Model S} {sure : Bool} {f : Reader (Tree F C K)} where
-  pub node : {p q : Productions S H F C K fg cg kg} {t : Tree F C K} {ns : Nodes F C K fg cg kg} {k j : ℕ} (at : BytePos) (n : Result ExprId AllocError) (r : Result ExprId Error) → k ≤ j → IfOk n (λ id. Made j q.nodes (expr_part id) t) → IfOk r (λ id. n ≡ Ok id) →
-      IfErr r (λ x. x ≡ no_memory at) → Grows p.nodes ns → Grows ns q.nodes → Heard model sure f t p.input q.input → Produces model sure itself tree_of f k p r q
+module _ {S H F C K : Type 0} {fg : Ghosts F} {cg : Ghosts C} {kg : Ghosts K} {model : Model S} {sure : Bool}
+    {f : Reader (Tree F C K)} where
+  pub node : {p q : Productions S H F C K fg cg kg} {t : Tree F C K} {ns : Nodes F C K fg cg kg} {k j : ℕ}
+      (at : BytePos) (n : Result ExprId AllocError) (r : Result ExprId Error) → k ≤ j
+      → IfOk n (λ id. Made j q.nodes (expr_part id) t) → IfOk r (λ id. n ≡ Ok id) →
+      IfErr r (λ x. x ≡ no_memory at) → Grows p.nodes ns → Grows ns q.nodes → Heard model sure f t p.input q.input
+      → Produces model sure itself tree_of f k p r q
   node {p} {q} {t} {ns} {k} {j} at n r le made ok refused w g h =
-      yes r (node_parses model sure (tree_of q.nodes) at r t (made_tree q.nodes j t n r made ok) refused h) (grows-then w g) (made_from q.nodes k j t n r le made ok)
+      yes r (node_parses model sure (tree_of q.nodes) at r t (made_tree q.nodes j t n r made ok) refused h)
+      (grows-then w g) (made_from q.nodes k j t n r le made ok)
 
   -- the same, where nothing is read perhaps
-  pub node_on : {p q : Productions S H F C K fg cg kg} {t : Tree F C K} {ns : Nodes F C K fg cg kg} {k j : ℕ} (at : BytePos) (n : Result ExprId AllocError) (r : Result ExprId Error) → k ≤ j → IfOk n (λ id. Made j q.nodes (expr_part id) t) → IfOk r (λ id. n ≡ Ok id) →
-      IfErr r (λ x. x ≡ no_memory at) → Grows p.nodes ns → Grows ns q.nodes → On model sure f (give t) p.input q.input → GoesOn model sure itself tree_of f k p r q
+  pub node_on : {p q : Productions S H F C K fg cg kg} {t : Tree F C K} {ns : Nodes F C K fg cg kg} {k j : ℕ}
+      (at : BytePos) (n : Result ExprId AllocError) (r : Result ExprId Error) → k ≤ j
+      → IfOk n (λ id. Made j q.nodes (expr_part id) t) → IfOk r (λ id. n ≡ Ok id) →
+      IfErr r (λ x. x ≡ no_memory at) → Grows p.nodes ns → Grows ns q.nodes → On model sure f (give t) p.input q.input
+      → GoesOn model sure itself tree_of f k p r q
   node_on {p} {q} {t} {ns} {k} {j} at n r le made ok refused w g h =
-      on r (node_continues model sure (tree_of q.nodes) at r t (made_tree q.nodes j t n r made ok) refused h) (grows-then w g) (made_from q.nodes k j t n r le made ok)
+      on r (node_continues model sure (tree_of q.nodes) at r t (made_tree q.nodes j t n r made ok) refused h)
+      (grows-then w g) (made_from q.nodes k j t n r le made ok)
 
   -- what was read after the node e, and then what makes a node of both
-  pub tail : {B : Type 0} {q0 : Reader B} {t : B} {p m q : Productions S H F C K fg cg kg} {k : ℕ} {e : ExprId} (r : Result ExprId Error) (then : Tree F C K → Scope → B × List TokenAndSpan → Out (Tree F C K)) →
-      ((x : Scope) (ts : List TokenAndSpan) → f x ts ≡ (q0 x ts >>= then (tree_of p.nodes e) x)) → Heard model sure q0 t p.input m.input → Grows p.nodes m.nodes → From k p.nodes (expr_part e) →
-      GoesOn model sure itself tree_of (λ x ts. then (tree_of m.nodes e) x (t, ts)) (first_at m.nodes e.0) m r q → Produces model sure itself tree_of f (first_at p.nodes e.0) p r q
+  pub tail : {B : Type 0} {q0 : Reader B} {t : B} {p m q : Productions S H F C K fg cg kg} {k : ℕ} {e : ExprId}
+      (r : Result ExprId Error) (then : Tree F C K → Scope → B × List TokenAndSpan → Out (Tree F C K)) →
+      ((x : Scope) (ts : List TokenAndSpan) → f x ts ≡ (q0 x ts >>= then (tree_of p.nodes e) x))
+      → Heard model sure q0 t p.input m.input → Grows p.nodes m.nodes → From k p.nodes (expr_part e) →
+      GoesOn model sure itself tree_of (λ x ts. then (tree_of m.nodes e) x (t, ts)) (first_at m.nodes e.0) m r q
+      → Produces model sure itself tree_of f (first_at p.nodes e.0) p r q
   tail {t = t} {p = p} {m = m} {q = q} {e = e} r then step h w from goes =
-      let P : Tree F C K → Type 0 = λ l. GoesOn model sure itself tree_of (λ x ts. then l x (t, ts)) (first_at m.nodes e.0) m r q in
+      let P : Tree F C K → Type 0 = λ l. GoesOn model sure itself tree_of (λ x ts. then l x (t, ts))
+      (first_at m.nodes e.0) m r q in
       call r (then (tree_of p.nodes e)) step h w (λ x. from-down (first_kept w from)) (subst P (tree-later w from) goes)
 
 -- a node that is made is refused only when out of memory
-pub out_of_memory : {T : Type 0} (at : BytePos) (r : Result T Error) → IfErr r (λ x. x ≡ no_memory at) → IfErr r (λ e. e.kind ≡ OutOfMemory)
+pub out_of_memory : {T : Type 0} (at : BytePos) (r : Result T Error) → IfErr r (λ x. x ≡ no_memory at)
+    → IfErr r (λ e. e.kind ≡ OutOfMemory)
 out_of_memory at (Ok x) h = tt
 out_of_memory at (Err e) h = ap (λ x. x.kind) h
 
 -- ---- in place of an operand
 
-module _ {S H F C K : Type 0} {fg : Ghosts F} {cg : Ghosts C} {kg : Ghosts K} {model : Model S} {T : Type 0} {held : ℕ → Nodes F C K fg cg kg → T → Type 0} {Effect : Buffer S → Result T Error → Buffer S → Type 0} {kind : SyntaxError} where
+module _ {S H F C K : Type 0} {fg : Ghosts F} {cg : Ghosts C} {kg : Ghosts K} {model : Model S} {T : Type 0}
+    {held : ℕ → Nodes F C K fg cg kg → T → Type 0} {Effect : Buffer S → Result T Error → Buffer S → Type 0}
+    {kind : SyntaxError} where
   -- a refusal
-  pub not_recovered : {p q : Productions S H F C K fg cg kg} {e : Error} → Effect p.input (Err e) q.input → (e.kind ≢ OutOfMemory → kind ≢ OutOfMemory) → Grows p.nodes q.nodes → Recovers model held Effect kind p (Err e) q
-  not_recovered h memory g = record { effect = h; notes = λ l. tt; some = tt; memory = memory; falls = tt; grows = g; from = tt }
+  pub not_recovered : {p q : Productions S H F C K fg cg kg} {e : Error} → Effect p.input (Err e) q.input
+      → (e.kind ≢ OutOfMemory → kind ≢ OutOfMemory) → Grows p.nodes q.nodes
+      → Recovers model held Effect kind p (Err e) q
+  not_recovered h memory g = record {
+    effect = h;
+    notes = λ l. tt;
+    some = tt;
+    memory = memory;
+    falls = tt;
+    grows = g;
+    from = tt;
+  }

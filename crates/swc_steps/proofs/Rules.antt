@@ -36,8 +36,7 @@ error_not (Some t) h = error_no t.token h
 
 -- what is said of the current token is said of the one consumed
 pub passes_plain : (f : Token → Bool) (o : Option TokenAndSpan) (t : TokenAndSpan) → o ≡ Some t
-    → at_token f (seen_of o) ≡ true
-    → f (plain t).token ≡ true
+    → at_token f (seen_of o) ≡ true → f (plain t).token ≡ true
 passes_plain f o t e h = ap (λ v. at_token f (seen_of v)) (sym e) ∙ h
 
 pub nullish_other : {F C K : Type 0} (op : BinaryOp) (l r : Tree F C K) → is_nullish_op op ≡ false
@@ -101,8 +100,7 @@ strict_not c (token.Word w) s h =
 strict_not c t s h = refl
 
 pub name_strict : (x : Scope) (ts : List TokenAndSpan)
-    → x.context.module && at_token (is_strict x.context.module) (first ts) ≡ true
-    → word may_refer x ts ≡ None
+    → x.context.module && at_token (is_strict x.context.module) (first ts) ≡ true → word may_refer x ts ≡ None
 unfolding word
 name_strict x [] h = refl
 name_strict x (t ∷ ts) h = rw (strict_not x.context t.token t.span h) refl
@@ -286,8 +284,7 @@ module _ {F C K : Type 0} (hook : Hook F C K) where
   calm_of x (t ∷ (u ∷ ts)) n = rw n refl
 
   given_async : (o : Option Spelling) (x : Scope) (us : List TokenAndSpan) → sees (goes_on_async x) us ≡ false
-      → sees_two (of_arrow x) us ≡ false
-      → exec hook (run hook) None (plan (given o ▸
+      → sees_two (of_arrow x) us ≡ false → exec hook (run hook) None (plan (given o ▸
       (λ n. peek (goes_on_async x) (peek_two (of_arrow x) (gives (ident_e {F = F} {C = C} {K = K} n.at n.text)))))) us
       ≡ (one o us >>= (λ p. Some (ident_e p.0.at p.0.text, p.1)))
   given_async None x us h k = refl
@@ -321,10 +318,8 @@ module _ {F C K : Type 0} (hook : Hook F C K) where
   -- ---- literals (13.2.3)
 
   pub lit_takes : (e : Tree F C K) (x : Scope) (t : TokenAndSpan) (ts : List TokenAndSpan)
-      → lit_of t.token t.span ≡ Some e
-      → run hook (at Literal) x (t ∷ ts) ≡ Some (e, ts)
-  lit_takes e x t ts h =
-      knot hook (at Literal) x (t ∷ ts) ∙ given_is (lit_of t.token t.span) e (λ v. gives v) ts h
+      → lit_of t.token t.span ≡ Some e → run hook (at Literal) x (t ∷ ts) ≡ Some (e, ts)
+  lit_takes e x t ts h = knot hook (at Literal) x (t ∷ ts) ∙ given_is (lit_of t.token t.span) e (λ v. gives v) ts h
 
   lit_no : (t : Token) (s : Span) → is_lit t ≡ false → lit_of {F = F} {C = C} {K = K} t s ≡ None
   lit_no (token.Word written.Null) s h = cc
@@ -415,14 +410,12 @@ module _ {F C K : Type 0} (hook : Hook F C K) where
   unary_op_splits s op x ts = calls (run hook (at Unary) (inner x) ts) _
 
   pub unary_op_well : (s : Span) (op : UnaryOp) (x : Scope) (t : Tree F C K) (ts : List TokenAndSpan)
-      → delete_ok x.context op t ≡ true
-      → unary_op_node hook s op x t ts ≡ Some (unary_e (to s (span_of t)) op t, ts)
+      → delete_ok x.context op t ≡ true → unary_op_node hook s op x t ts ≡ Some (unary_e (to s (span_of t)) op t, ts)
   unfolding unary_op_node reading
   unary_op_well s op x t ts h = rw h refl
 
   pub unary_op_ill : (s : Span) (op : UnaryOp) (x : Scope) (t : Tree F C K) (ts : List TokenAndSpan)
-      → delete_ok x.context op t ≡ false
-      → unary_op_node hook s op x t ts ≡ None
+      → delete_ok x.context op t ≡ false → unary_op_node hook s op x t ts ≡ None
   unfolding unary_op_node reading
   unary_op_ill s op x t ts h = rw h refl
 
@@ -575,14 +568,14 @@ module _ {F C K : Type 0} (hook : Hook F C K) where
           (if_on (begins_private (nat_lt m 7) x (a ∷ (b ∷ us))) _ _ (rw (h, f, p, i) refl))
           ∙ private_named m x a b us h p i
 
-  pub operand_splits : (m : ℕ) (x : Scope) (ts : List TokenAndSpan) → m ≤ 10
-      → run hook (at (Level (suc m))) x ts
+  pub operand_splits : (m : ℕ) (x : Scope) (ts : List TokenAndSpan) → m ≤ 10 → run hook (at (Level (suc m))) x ts
       ≡ (operand hook (nat_lt m 7) x ts >>= (λ p. run hook (climb p.0 m) (inner x) p.1))
   unfolding operand
   operand_splits m x ts le = by-place (is_private_here (nat_lt m 7) x ts) refl
     where
       by-place : (b : Bool) → is_private_here (nat_lt m 7) x ts ≡ b → run hook (at (Level (suc m))) x ts
-          ≡ ((if b then (private_operand hook x ts >>= (λ p. behind_operand hook p.0 x p.1)) else run hook (at Unary) x ts)
+          ≡ ((if b then (private_operand hook x ts >>= (λ p. behind_operand hook p.0 x p.1)) else run hook
+          (at Unary) x ts)
           >>= (λ p. run hook (climb p.0 m) (inner x) p.1))
       by-place false z = unary_splits m x ts le (not_private (nat_lt m 7) x.syntax.pedantic _ _ z)
       by-place true z = private_splits m x ts le z
@@ -631,8 +624,7 @@ module _ {F C K : Type 0} (hook : Hook F C K) where
   turned_ill t o x ts h = rw h refl
 
   pub turn_ends : (l : Tree F C K) (m : ℕ) (x : Scope) (ts : List TokenAndSpan)
-      → operator_at x.context (first ts) ≡ None
-      → turn hook l m x ts ≡ Some ((l, None), ts)
+      → operator_at x.context (first ts) ≡ None → turn hook l m x ts ≡ Some ((l, None), ts)
   unfolding turn reading
   turn_ends l m x ts h = rw h refl
 
@@ -648,15 +640,13 @@ module _ {F C K : Type 0} (hook : Hook F C K) where
   turn_takes l m op x [] h lt = cc
   turn_takes l m op x (t ∷ ts) h lt = rw (h, lt-leb (precedence_of op) m lt) refl
 
-  pub bin_op_splits : (op : BinaryOp) (l : Tree F C K) (m : ℕ) (x : Scope) (ts : List TokenAndSpan)
-      → exp_ok op l ≡ true
+  pub bin_op_splits : (op : BinaryOp) (l : Tree F C K) (m : ℕ) (x : Scope) (ts : List TokenAndSpan) → exp_ok op l ≡ true
       → bin_op hook op l m x ts
       ≡ (run hook (at (Level (suc (min_right op)))) (inner x) ts >>= (λ p. bin_op_node hook op l m p.0 p.1))
   unfolding bin_op bin_op_node reading
   bin_op_splits op l m x ts h = rw h (calls (run hook (at (Level (suc (min_right op)))) (inner x) ts) _)
 
-  pub bin_op_ends : (op : BinaryOp) (l : Tree F C K) (m : ℕ) (x : Scope) (ts : List TokenAndSpan)
-      → exp_ok op l ≡ false
+  pub bin_op_ends : (op : BinaryOp) (l : Tree F C K) (m : ℕ) (x : Scope) (ts : List TokenAndSpan) → exp_ok op l ≡ false
       → bin_op hook op l m x ts ≡ None
   unfolding bin_op reading
   bin_op_ends op l m x ts h = rw h refl

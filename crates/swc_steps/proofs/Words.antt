@@ -32,9 +32,11 @@ pub is_same : (w t : List ℕ) → is_text w t ≡ true → w ≡ t
 is_same w t h = same_text w t (sym h)
 
 -- none of the texts is t, so what is one of them is another
-among : (w t : List ℕ) (texts : List (List ℕ)) → is_one_of t texts ≡ false → is_one_of w texts ≡ true → is_text w t ≡ false
+among : (w t : List ℕ) (texts : List (List ℕ)) → is_one_of t texts ≡ false → is_one_of w texts ≡ true
+    → is_text w t ≡ false
 among w t texts apart h = elim (is_text w t) as (λ b. is_text w t ≡ b → is_text w t ≡ false) [
-  | true ↦ (λ e. let same = ap (λ v. is_one_of v texts) (is_same w t e) in let f : true ≡ false = sym h ∙ same ∙ apart in cc)
+  | true ↦ (λ e. let same = ap (λ v. is_one_of v texts) (is_same w t e) in
+      let f : true ≡ false = sym h ∙ same ∙ apart in cc)
   | false ↦ (λ e. e)
 ] refl
 
@@ -48,7 +50,9 @@ both_none false (in_modules k ∷ fs) gs = both_none false fs gs
 
 -- of a name: it is `enum`, a name that strict code reserves, and `arguments`, in a class field
 name_clean : (m e s f a : Bool) (w : List ℕ) → (s ≡ true → a ≡ false) →
-    clean_by m (if e then taken_with (now (kind.InvalidIdentInStrict w)) else (if s then taken_with (in_modules (kind.InvalidIdentInStrict w)) else (if f && a then taken_with (now kind.ArgumentsInClassField) else taken)))
+    clean_by m (if e then taken_with (now (kind.InvalidIdentInStrict w)) else (if s then taken_with
+    (in_modules (kind.InvalidIdentInStrict w)) else (if f && a then taken_with
+    (now kind.ArgumentsInClassField) else taken)))
     ≡ (not e && (not (m && s) && not (f && a)))
 name_clean m true s f a w h = refl
 name_clean m false true f true w h = let x = h refl in absurd cc
@@ -64,7 +68,8 @@ name_clean false false false false a w h = refl
 
 -- of a binding: it is a name that strict code doesn't bind, and `yield`, in a generator
 binding_clean : (m v g y : Bool) → (v ≡ true → y ≡ false) →
-    none_counts m (if v then in_modules kind.EvalAndArgumentsInStrict ∷ [] else (if g && y then now kind.ExpectedIdent ∷ [] else [])) ≡ (not (m && v) && not (g && y))
+    none_counts m (if v then in_modules kind.EvalAndArgumentsInStrict
+    ∷ [] else (if g && y then now kind.ExpectedIdent ∷ [] else [])) ≡ (not (m && v) && not (g && y))
 binding_clean m true g true h = let x = h refl in absurd cc
 binding_clean true true g false h = refl
 binding_clean false true true false h = refl
@@ -78,7 +83,14 @@ binding_clean false false false y h = refl
 
 -- the faults of a binding come where the word is taken
 bound_clean : (m : Bool) (o r : Option SyntaxError) (fs gs : List Fault) → o ≡ r →
-    clean_by m (elim o [ None ↦ record { faults = fs ++ gs; refusal = r } | Some k ↦ record { faults = fs; refusal = r } ]) ≡ ((is_taken r && none_counts m fs) && none_counts m gs)
+    clean_by m (elim o [
+      | None ↦ record { faults = fs ++ gs; refusal = r }
+      | Some k ↦ record {
+        faults = fs;
+        refusal =
+            r;
+      }
+    ]) ≡ ((is_taken r && none_counts m fs) && none_counts m gs)
 bound_clean m None None fs gs h = both_none m fs gs
 bound_clean m None (Some k) fs gs h = cc
 bound_clean m (Some k) None fs gs h = cc
@@ -92,10 +104,14 @@ strict_not_arguments w h = among w (codes "arguments") strict_names refl h
 bound_not_yield : (w : List ℕ) → is_one_of w strict_binding_words ≡ true → is_text w (codes "yield") ≡ false
 bound_not_yield w h = among w (codes "yield") strict_binding_words refl h
 
-ident_clean : (c : Context) (w : List ℕ) (y a : Bool) → is_clean c (ident_verdict y a c (word.Ident w)) ≡ (not (is_text w (codes "enum")) && ref_ok c (word.Ident w))
-ident_clean c w y a = name_clean c.module (is_text w (codes "enum")) (is_one_of w strict_names) c.in_class_field (is_text w (codes "arguments")) w (strict_not_arguments w)
+ident_clean : (c : Context) (w : List ℕ) (y a : Bool) → is_clean c
+    (ident_verdict y a c (word.Ident w)) ≡ (not (is_text w (codes "enum")) && ref_ok c (word.Ident w))
+ident_clean c w y a = name_clean c.module (is_text w (codes "enum")) (is_one_of w strict_names) c.in_class_field
+    (is_text w (codes "arguments")) w (strict_not_arguments w)
 
-reference_await : (m s g f : Bool) (r : Bool) → not (r || s || g) ≡ true → (is_taken (if s then Some kind.ExpectedIdent else (if m || r then Some kind.InvalidIdentInAsync else unless (not r))) && true) ≡ (not (m && true) && not (f && false))
+reference_await : (m s g f : Bool) (r : Bool) → not (r || s || g) ≡ true
+    → (is_taken (if s then Some kind.ExpectedIdent else (if m || r then Some kind.InvalidIdentInAsync else unless
+    (not r))) && true) ≡ (not (m && true) && not (f && false))
 reference_await m s g f true h = cc
 reference_await m true g f false h = cc
 reference_await true false g true false h = refl
@@ -103,7 +119,8 @@ reference_await true false g false false h = refl
 reference_await false false g true false h = refl
 reference_await false false g false false h = refl
 
-reference_yield : (m g s f : Bool) → not (g || s) ≡ true → (is_taken (unless (not g)) && (not m && true)) ≡ (not (m && true) && not (f && false))
+reference_yield : (m g s f : Bool) → not (g || s) ≡ true
+    → (is_taken (unless (not g)) && (not m && true)) ≡ (not (m && true) && not (f && false))
 reference_yield m true s f h = cc
 reference_yield true false s f h = refl
 reference_yield false false s true h = refl
@@ -119,11 +136,14 @@ not_first true b r h = cc
 not_first false b r h = refl
 
 -- a word that is a reference is taken so where it has no early error
-pub reference-table : (c : Context) (w : Word) → is_reference c w ≡ true → is_clean c (reference_verdict c w) ≡ ref_ok c w
-reference-table c (word.Ident w) h = ident_clean c w (not c.in_generator) (not c.in_async) ∙ not_first (is_text w (codes "enum")) (c.strict && is_one_of w strict_reserved) (ref_ok c (word.Ident w)) h
+pub reference-table : (c : Context) (w : Word) → is_reference c w ≡ true
+    → is_clean c (reference_verdict c w) ≡ ref_ok c w
+reference-table c (word.Ident w) h = ident_clean c w (not c.in_generator) (not c.in_async) ∙ not_first
+    (is_text w (codes "enum")) (c.strict && is_one_of w strict_reserved) (ref_ok c (word.Ident w)) h
 reference-table c (word.Keyword keyword.Let) h = reference_let c.module c.in_class_field
 reference-table c (word.Keyword keyword.Yield) h = reference_yield c.module c.in_generator c.strict c.in_class_field h
-reference-table c (word.Keyword keyword.Await) h = reference_await c.module c.in_static_block c.strict c.in_class_field c.in_async h
+reference-table c (word.Keyword keyword.Await) h = reference_await c.module c.in_static_block c.strict c.in_class_field
+    c.in_async h
 reference-table c w h = cc
 
 -- ---- bindings
@@ -138,13 +158,18 @@ apart false false true true = refl
 apart false false true false = refl
 
 of_bound : (c : Context) (w : Word) →
-    is_clean c (binding_verdict c w) ≡ (is_clean c (ident_verdict true true c w) && (not (c.module && is_one_of (word_text w) strict_binding_words) && not (c.in_generator && is_text (word_text w) (codes "yield"))))
+    is_clean c (binding_verdict c w) ≡ (is_clean c (ident_verdict true true c w) &&
+    (not (c.module && is_one_of (word_text w) strict_binding_words) && not
+    (c.in_generator && is_text (word_text w) (codes "yield"))))
 of_bound c w =
     let v = ident_verdict true true c w in
     bound_clean c.module v.refusal v.refusal v.faults (binding_faults c (word_text w)) refl
-    ∙ ap (λ b. is_clean c v && b) (binding_clean c.module (is_one_of (word_text w) strict_binding_words) c.in_generator (is_text (word_text w) (codes "yield")) (bound_not_yield (word_text w)))
+    ∙ ap (λ b. is_clean c v && b) (binding_clean c.module (is_one_of (word_text w) strict_binding_words) c.in_generator
+    (is_text (word_text w) (codes "yield")) (bound_not_yield (word_text w)))
 
-binding_await : (m s r f g : Bool) → ((is_taken (if s then Some kind.ExpectedIdent else (if m || r then Some kind.InvalidIdentInAsync else None)) && true) && (not (m && false) && not (g && false)))
+binding_await : (m s r f g : Bool)
+    → ((is_taken (if s then Some kind.ExpectedIdent else (if m || r then Some kind.InvalidIdentInAsync else None))
+    && true) && (not (m && false) && not (g && false)))
     ≡ (not (r || s || m) && ((not (m && true) && not (f && false)) && not (m && false)))
 binding_await m true true f g = refl
 binding_await m true false f g = refl
@@ -156,14 +181,16 @@ binding_await false false false true false = refl
 binding_await false false false false true = refl
 binding_await false false false false false = refl
 
-binding_yield : (m g f : Bool) → ((true && (not m && true)) && (not (m && false) && not (g && true))) ≡ (not g && ((not (m && true) && not (f && false)) && not (m && false)))
+binding_yield : (m g f : Bool) → ((true && (not m && true)) && (not (m && false) && not (g && true))) ≡ (not g &&
+    ((not (m && true) && not (f && false)) && not (m && false)))
 binding_yield true true f = refl
 binding_yield true false f = refl
 binding_yield false true f = refl
 binding_yield false false true = refl
 binding_yield false false false = refl
 
-binding_let : (m g f : Bool) → ((true && (not m && true)) && (not (m && false) && not (g && false))) ≡ (true && ((not (m && true) && not (f && false)) && not (m && false)))
+binding_let : (m g f : Bool) → ((true && (not m && true)) && (not (m && false) && not (g && false))) ≡ (true &&
+    ((not (m && true) && not (f && false)) && not (m && false)))
 binding_let true g f = refl
 binding_let false true true = refl
 binding_let false true false = refl
@@ -174,9 +201,14 @@ binding_let false false false = refl
 pub binding-table : (c : Context) (w : Word) → is_clean c (binding_verdict c w) ≡ may_bind c w
 binding-table c (word.Ident w) =
     of_bound c (word.Ident w)
-    ∙ ap (λ b. b && (not (c.module && is_one_of w strict_binding_words) && not (c.in_generator && is_text w (codes "yield")))) (ident_clean c w true true)
-    ∙ apart (is_text w (codes "enum")) (c.in_generator && is_text w (codes "yield")) (ref_ok c (word.Ident w)) (not (c.module && is_one_of w strict_binding_words))
-binding-table c (word.Keyword keyword.Let) = of_bound c (word.Keyword keyword.Let) ∙ binding_let c.module c.in_generator c.in_class_field
-binding-table c (word.Keyword keyword.Yield) = of_bound c (word.Keyword keyword.Yield) ∙ binding_yield c.module c.in_generator c.in_class_field
-binding-table c (word.Keyword keyword.Await) = of_bound c (word.Keyword keyword.Await) ∙ binding_await c.module c.in_static_block c.in_async c.in_class_field c.in_generator
+    ∙ ap (λ b. b && (not (c.module && is_one_of w strict_binding_words) && not
+    (c.in_generator && is_text w (codes "yield")))) (ident_clean c w true true)
+    ∙ apart (is_text w (codes "enum")) (c.in_generator && is_text w (codes "yield")) (ref_ok c (word.Ident w))
+    (not (c.module && is_one_of w strict_binding_words))
+binding-table c (word.Keyword keyword.Let) = of_bound c
+    (word.Keyword keyword.Let) ∙ binding_let c.module c.in_generator c.in_class_field
+binding-table c (word.Keyword keyword.Yield) = of_bound c
+    (word.Keyword keyword.Yield) ∙ binding_yield c.module c.in_generator c.in_class_field
+binding-table c (word.Keyword keyword.Await) = of_bound c
+    (word.Keyword keyword.Await) ∙ binding_await c.module c.in_static_block c.in_async c.in_class_field c.in_generator
 binding-table c w = refl

@@ -50,7 +50,8 @@ module _ {F C K : Type 0} where
       if paren_ok c.syntax.pedantic es then
       Some (paren_e (to s (span_of es)) (seq_of (held_exprs (items_of es))), ts) else None
 
-  -- the same, where the first of its expressions begins, and the last one ends, at other positions than their places say
+  -- the same, where the first of its expressions begins, and the last one ends, at other positions than their places
+  -- say
   abbrev pub paren_from : BytePos → BytePos → Scope → Span → Tree F C K → List TokenAndSpan → Out (Tree F C K)
   paren_from lo hi c s es ts =
       if paren_ok c.syntax.pedantic es then

@@ -99,8 +99,7 @@ module _ {F C K : Type 0} (all : Scope → List TokenAndSpan → Out (Tree F C K
 
   unfoldable pub left_from : (Scope → List TokenAndSpan → Out (Tree F C K × Option Span)) → Trees F C K → Scope
       → List TokenAndSpan → Out (Tree F C K)
-  left_from one before c ts =
-      one c ts >>= (λ p. left_behind (trees_append before (cons p.0.0 nil)) p.0.1 c p.1)
+  left_from one before c ts = one c ts >>= (λ p. left_behind (trees_append before (cons p.0.0 nil)) p.0.1 c p.1)
 
   abbrev pub left_by : (Scope → List TokenAndSpan → Out (Tree F C K × Option Span)) → Trees F C K → Option Span
       → Option Span → Scope → List TokenAndSpan → Out (Tree F C K)

@@ -10,7 +10,8 @@ use Rattle.swc_steps.specs.{declared.productions.Productions.Productions, Lists.
 
 -- From p to q: of a list that `all` reads, items were read, and the comma after the last of them. Their parts lie apart
 -- among nodes that were appended, and what is left is read at q.
-pub record ItemsRead {S H F C K : Type 0} {fg : Ghosts F} {cg : Ghosts C} {kg : Ghosts K} (model : Model S) (sure : Bool)
+pub record ItemsRead {S H F C K : Type 0} {fg : Ghosts F} {cg : Ghosts C} {kg : Ghosts K} (model : Model S)
+    (sure : Bool)
     (all : Scope → List TokenAndSpan → Out (Tree F C K)) (items : Trees F C K) (parts : List Part)
     (comma : Option Span) (p q : Productions S H F C K fg cg kg) : Type 0 where
   pub on : On model sure all (left_behind all items comma) p.input q.input

@@ -118,7 +118,8 @@ module _ {S : Type 0} (model : Model S) where
     pub lives : Lives model b c
     pub stays : to_come model c ≡ to_come model b
 
-  -- A refusal, which is never that of a failed parser. Where the source has failed, and no token was held before, it is out of memory.
+  -- A refusal, which is never that of a failed parser. Where the source has failed, and no token was held before, it is
+  -- out of memory.
   pub record Refuses (b : Buffer S) (e : Error) (c : Buffer S) : Type 0 where
     pub spends : Spends b c
     pub kind : e.kind ≢ ParserFailed
@@ -152,7 +153,8 @@ module _ {S : Type 0} (model : Model S) where
   abbrev pub Looks : {T : Type 0} → Buffer S → Result T Error → Buffer S → Type 0
   Looks b r c = MatchResult r (λ t. Here b c) (λ e. Forgoes b e c)
 
-  -- From b to c nothing was consumed, and it is told what the test gives of the tokens to come, which begin with what is seen.
+  -- From b to c nothing was consumed, and it is told what the test gives of the tokens to come, which begin with what
+  -- is seen.
   pub record Told {V : Type 0} (test : List TokenAndSpan → V) (answer : V) (b c : Buffer S) : Type 0 where
     pub laws : Laws model
     pub still : Still model b c
@@ -176,7 +178,8 @@ module _ {S : Type 0} (model : Model S) where
   abbrev pub Fits : {T : Type 0} → Buffer S → Result T Error → Buffer S → Type 0
   Fits b r c = MatchResult r (λ t. Here b c) (λ e. Unfit b e c)
 
-  -- A fault is recorded unless all is well. Where all is, none is recorded and nothing consumed; one may be set waiting.
+  -- A fault is recorded unless all is well. Where all is, none is recorded and nothing consumed; one may be set
+  -- waiting.
   pub record Checks (well : Bool) (b c : Buffer S) : Type 0 where
     pub leads : Leads b c
     pub passes : well ≡ true → (leads.taken ≡ []) × (recorded model c ≡ recorded model b)
@@ -188,12 +191,15 @@ module _ {S : Type 0} (model : Model S) where
 
 -- whether the hook is faithful, so that completeness may be claimed
 module _ {S : Type 0} (model : Model S) (sure : Bool) where
-  -- From b to c: what f reads at b is what g reads at c, where no fault was recorded; where one was, the source is listed and the hook
+  -- From b to c: what f reads at b is what g reads at c, where no fault was recorded; where one was, the source is
+  -- listed and the hook
   -- is faithful, f reads nothing.
   pub record On {A : Type 0} (f g : Scope → List TokenAndSpan → Out A) (b c : Buffer S) : Type 0 where
     pub leads : Leads model b c
-    pub clean : Loud model b → recorded model c ≡ recorded model b → (ys : List TokenAndSpan) → Future model c ys → f (scope model b) (leads.taken ++ ys) ≡ g (scope model c) ys
-    pub faulty : sure ≡ true → Loud model b → recorded model b < recorded model c → (ts : List TokenAndSpan) → Known model b ts → f (scope model b) ts ≡ None
+    pub clean : Loud model b → recorded model c ≡ recorded model b → (ys : List TokenAndSpan) → Future model c ys
+        → f (scope model b) (leads.taken ++ ys) ≡ g (scope model c) ys
+    pub faulty : sure ≡ true → Loud model b → recorded model b < recorded model c → (ts : List TokenAndSpan)
+        → Known model b ts → f (scope model b) ts ≡ None
 
   -- t is what f reads, from one token at least, and fewer are to come
   pub record Heard {A : Type 0} (f : Scope → List TokenAndSpan → Out A) (t : A) (b c : Buffer S) : Type 0 where
@@ -201,31 +207,38 @@ module _ {S : Type 0} (model : Model S) (sure : Bool) where
     pub onward : Onward model b on.leads.taken c
 
   -- a refusal where f reads nothing, except when out of memory
-  pub record Unheard {A : Type 0} (f : Scope → List TokenAndSpan → Out A) (b : Buffer S) (e : Error) (c : Buffer S) : Type 0 where
+  pub record Unheard {A : Type 0} (f : Scope → List TokenAndSpan → Out A) (b : Buffer S) (e : Error)
+      (c : Buffer S) : Type 0 where
     pub refuses : Refuses model b e c
-    pub none : e.kind ≢ OutOfMemory → sure ≡ true → Loud model b → (ts : List TokenAndSpan) → Known model b ts → f (scope model b) ts ≡ None
+    pub none : e.kind ≢ OutOfMemory → sure ≡ true → Loud model b → (ts : List TokenAndSpan) → Known model b ts
+        → f (scope model b) ts ≡ None
 
   -- a call that reads what f reads
-  abbrev pub Parses : {T A : Type 0} → (T → A) → (Scope → List TokenAndSpan → Out A) → Buffer S → Result T Error → Buffer S → Type 0
+  abbrev pub Parses : {T A : Type 0} → (T → A) → (Scope → List TokenAndSpan → Out A) → Buffer S → Result T Error
+      → Buffer S → Type 0
   Parses view f b r c = MatchResult r (λ t. Heard f (view t) b c) (λ e. Unheard f b e c)
 
   -- the same, where nothing may be consumed
-  abbrev pub Continues : {T A : Type 0} → (T → A) → (Scope → List TokenAndSpan → Out A) → Buffer S → Result T Error → Buffer S → Type 0
+  abbrev pub Continues : {T A : Type 0} → (T → A) → (Scope → List TokenAndSpan → Out A) → Buffer S → Result T Error
+      → Buffer S → Type 0
   Continues view f b r c = MatchResult r (λ t. On f (λ x ts. Some (view t, ts)) b c) (λ e. Unheard f b e c)
 
 module _ {S : Type 0} (model : Model S) where
   -- a call that reads what f reads, and calls no hook
-  abbrev pub ParsesAlone : {T A : Type 0} → (T → A) → (Scope → List TokenAndSpan → Out A) → Buffer S → Result T Error → Buffer S → Type 0
+  abbrev pub ParsesAlone : {T A : Type 0} → (T → A) → (Scope → List TokenAndSpan → Out A) → Buffer S → Result T Error
+      → Buffer S → Type 0
   ParsesAlone view f b r c = (sure : Bool) → Parses model sure view f b r c
 
   -- the same, where nothing may be consumed
-  abbrev pub ContinuesAlone : {T A : Type 0} → (T → A) → (Scope → List TokenAndSpan → Out A) → Buffer S → Result T Error → Buffer S → Type 0
+  abbrev pub ContinuesAlone : {T A : Type 0} → (T → A) → (Scope → List TokenAndSpan → Out A) → Buffer S → Result T Error
+      → Buffer S → Type 0
   ContinuesAlone view f b r c = (sure : Bool) → Continues model sure view f b r c
 
   -- a sign was consumed, and its place is answered, where it comes first; or nothing was
   abbrev pub Eats : (Token → Bool) → Buffer S → Result (Option Span) Error → Buffer S → Type 0
   Eats f b r c = (sure : Bool) → MatchResult r
-      (λ o. MatchOption o (On model sure (eaten f) (λ x ts. Some (None, ts)) b c) (λ s. Heard model sure (eaten f) (Some s) b c))
+      (λ o. MatchOption o (On model sure (eaten f) (λ x ts. Some (None, ts)) b c)
+      (λ s. Heard model sure (eaten f) (Some s) b c))
       (λ e. Unheard model sure (eaten f) b e c)
 
   -- one token was consumed, which is the literal
@@ -234,7 +247,8 @@ module _ {S : Type 0} (model : Model S) where
     pub read : Read model b (token ∷ []) c
     pub literal : lit_of token.token token.span ≡ Some t
 
--- What an answer holds: a node has each number in it, and nothing is reached from these below the number k. Of the number of a node,
+-- What an answer holds: a node has each number in it, and nothing is reached from these below the number k. Of the
+-- number of a node,
 -- and of that with the operator after it.
 module _ {F C K : Type 0} {fg : Ghosts F} {cg : Ghosts C} {kg : Ghosts K} where
   abbrev pub itself : ℕ → Nodes F C K fg cg kg → ExprId → Type 0
@@ -302,26 +316,34 @@ module _ {F C K : Type 0} {fg : Ghosts F} {cg : Ghosts C} {kg : Ghosts K} where
   abbrev pub lit_in : Nodes F C K fg cg kg → Lit → Tree F C K
   lit_in ns l = lit_tree l
 
-module _ {S H F C K : Type 0} {fg : Ghosts F} {cg : Ghosts C} {kg : Ghosts K} (model : Model S) (sure : Bool) {T A : Type 0} (held : ℕ → Nodes F C K fg cg kg → T → Type 0) (view : Nodes F C K fg cg kg → T → A) (f : Scope → List TokenAndSpan → Out A) where
-  -- What a production does from p to q: it reads what f reads, from one token at least; nodes were appended alone, and the answer holds
+module _ {S H F C K : Type 0} {fg : Ghosts F} {cg : Ghosts C} {kg : Ghosts K} (model : Model S) (sure : Bool)
+    {T A : Type 0} (held : ℕ → Nodes F C K fg cg kg → T → Type 0) (view : Nodes F C K fg cg kg → T → A)
+    (f : Scope → List TokenAndSpan → Out A) where
+  -- What a production does from p to q: it reads what f reads, from one token at least; nodes were appended alone, and
+  -- the answer holds
   -- numbers from k on.
-  pub record Produces (k : ℕ) (p : Productions S H F C K fg cg kg) (r : Result T Error) (q : Productions S H F C K fg cg kg) : Type 0 where
+  pub record Produces (k : ℕ) (p : Productions S H F C K fg cg kg) (r : Result T Error)
+      (q : Productions S H F C K fg cg kg) : Type 0 where
     pub reads : Parses model sure (view q.nodes) f p.input r q.input
     pub falls : OnOk r (to_come model q.input < to_come model p.input)
     pub grows : Grows p.nodes q.nodes
     pub from : IfOk r (λ t. held k q.nodes t)
 
   -- the same, where nothing may be consumed
-  pub record GoesOn (k : ℕ) (p : Productions S H F C K fg cg kg) (r : Result T Error) (q : Productions S H F C K fg cg kg) : Type 0 where
+  pub record GoesOn (k : ℕ) (p : Productions S H F C K fg cg kg) (r : Result T Error)
+      (q : Productions S H F C K fg cg kg) : Type 0 where
     pub reads : Continues model sure (view q.nodes) f p.input r q.input
     pub falls : OnOk r (to_come model q.input ≤ to_come model p.input)
     pub grows : Grows p.nodes q.nodes
     pub from : IfOk r (λ t. held k q.nodes t)
 
-module _ {S H F C K : Type 0} {fg : Ghosts F} {cg : Ghosts C} {kg : Ghosts K} (model : Model S) {T : Type 0} (held : ℕ → Nodes F C K fg cg kg → T → Type 0) where
-  -- What is done from p to q in place of an operand that was refused, by the kind: a fault is recorded; nodes were appended alone, and
+module _ {S H F C K : Type 0} {fg : Ghosts F} {cg : Ghosts C} {kg : Ghosts K} (model : Model S) {T : Type 0}
+    (held : ℕ → Nodes F C K fg cg kg → T → Type 0) where
+  -- What is done from p to q in place of an operand that was refused, by the kind: a fault is recorded; nodes were
+  -- appended alone, and
   -- the answer holds numbers of new ones. Effect says how tokens are consumed, and what is refused.
-  pub record Recovers (Effect : Buffer S → Result T Error → Buffer S → Type 0) (kind : SyntaxError) (p : Productions S H F C K fg cg kg) (r : Result T Error) (q : Productions S H F C K fg cg kg) : Type 0 where
+  pub record Recovers (Effect : Buffer S → Result T Error → Buffer S → Type 0) (kind : SyntaxError)
+      (p : Productions S H F C K fg cg kg) (r : Result T Error) (q : Productions S H F C K fg cg kg) : Type 0 where
     pub effect : Effect p.input r q.input
     pub notes : Loud model p.input → OnOk r (recorded model p.input < recorded model q.input)
     -- out of memory is not recovered from

@@ -42,7 +42,8 @@ module _ {F C K : Type 0} where
   regex_expr c ts = regex_text c ts >>= (λ p. regex_made p.0 p.1)
 
 module _ {S : Type 0} (model : Model S) where
-  -- The current token was consumed, and a hint was given: nothing was recorded, and no more tokens are to come. As many may
+  -- The current token was consumed, and a hint was given: nothing was recorded, and no more tokens are to come. As many
+  -- may
   -- be as before, since the hint may bring one.
   pub record SkipsSlash (b c : Buffer S) : Type 0 where
     pub was : TokenAndSpan

@@ -8,7 +8,8 @@ use Rattle.swc_lexical.specs.{PlainNames.name_len, Templates.text_len, declared.
 use Rattle.swc_lexical.proofs.Runs.{rest_at, rest_at-drop}
 use Rattle.swc_input.specs.declared.token.Token.TheVariants as token
 
-pub Spells_sign : (text : List ℕ) (low high : ℕ) (t : Token) → IsFalse (has_text t) → sign_text t ≡ slice_range text low high → Spells text low high t
+pub Spells_sign : (text : List ℕ) (low high : ℕ) (t : Token) → IsFalse (has_text t)
+    → sign_text t ≡ slice_range text low high → Spells text low high t
 unfolding Spells has_text
 Spells_sign text low high (token.Word word) none same = absurd (cc)
 Spells_sign text low high (token.Str value raw) none same = absurd (cc)
@@ -25,13 +26,15 @@ IsName_here text low len is =
     rw back (sym (is ∙ ap name_len (rest_at-drop text low)))
 
 -- the lexeme that begins where the reader is, as code cuts the text
-pub IsLexeme_here : (text : List ℕ) (wants : Bool) (low : ℕ) (found : Kind × ℕ) → lexeme wants (rest_at text low) ≡ Some found → IsLexeme found.0 text low (low + found.1)
+pub IsLexeme_here : (text : List ℕ) (wants : Bool) (low : ℕ) (found : Kind × ℕ)
+    → lexeme wants (rest_at text low) ≡ Some found → IsLexeme found.0 text low (low + found.1)
 IsLexeme_here text wants low found is =
     let back : low + found.1 - low ≡ found.1 = omega arith in
     record { wants = wants; found = rw back (rw (rest_at-drop text low) at is) }
 
 -- the text of a template, the same
-pub IsTextBetween_here : (text : List ℕ) (low len : ℕ) → text_len (rest_at text low) ≡ Some len → has (take len (rest_at text low)) 13 ≡ false → IsTextBetween text low (low + len)
+pub IsTextBetween_here : (text : List ℕ) (low len : ℕ) → text_len (rest_at text low) ≡ Some len
+    → has (take len (rest_at text low)) 13 ≡ false → IsTextBetween text low (low + len)
 IsTextBetween_here text low len whole none =
     let back : low + len - low ≡ len = omega arith in
     record {
@@ -46,22 +49,27 @@ one_byte text low b there =
     let here = get_or_from_slice_get text low b b there in
     ap (λ n. take n (drop low text)) back ∙ ap (take 1) (drop-cons text low b inside) ∙ ap (λ x. x ∷ []) here
 
-two_bytes : (text : List ℕ) (low a b : ℕ) → slice_get text low ≡ Some a → slice_get text (low + 1) ≡ Some b → slice_range text low (low + 2) ≡ a ∷ b ∷ []
+two_bytes : (text : List ℕ) (low a b : ℕ) → slice_get text low ≡ Some a → slice_get text (low + 1) ≡ Some b
+    → slice_range text low (low + 2) ≡ a ∷ b ∷ []
 two_bytes text low a b first second =
     let inside = slice_get_within text low a first in
     let behind = slice_get_within text (low + 1) b second in
     let back : (low + 2) - low ≡ 2 = omega arith in
     let here = get_or_from_slice_get text low a a first in
     let there = get_or_from_slice_get text (low + 1) b b second in
-    let rest : drop (suc low) text ≡ get_or text (low + 1) b ∷ drop (suc (low + 1)) text = rw (sym (add-one low)) (drop-cons text (low + 1) b behind) in
+    let rest : drop (suc low) text ≡ get_or text (low + 1) b ∷ drop (suc (low + 1)) text =
+    rw (sym (add-one low)) (drop-cons text (low + 1) b behind) in
     ap (λ n. take n (drop low text)) back ∙ ap (take 2) (drop-cons text low a inside)
-    ∙ ap (λ xs. get_or text low a ∷ take 1 xs) rest ∙ ap (λ x. x ∷ get_or text (low + 1) b ∷ []) here ∙ ap (λ x. a ∷ x ∷ []) there
+    ∙ ap (λ xs. get_or text low a ∷ take 1 xs) rest ∙ ap (λ x. x ∷ get_or text (low + 1) b ∷ []) here ∙ ap
+    (λ x. a ∷ x ∷ []) there
 
 -- the backquote after a text, and `${`
-pub Spells_backquote : (text : List ℕ) (low : ℕ) → slice_get text low ≡ Some 96 → Spells text low (low + 1) token.BackQuote
+pub Spells_backquote : (text : List ℕ) (low : ℕ) → slice_get text low ≡ Some 96
+    → Spells text low (low + 1) token.BackQuote
 unfolding Spells sign_text
 Spells_backquote text low there = sym (one_byte text low 96 there)
 
-pub Spells_substitution : (text : List ℕ) (low : ℕ) → StandAt text low 36 123 → Spells text low (low + 2) token.DollarLBrace
+pub Spells_substitution : (text : List ℕ) (low : ℕ) → StandAt text low 36 123
+    → Spells text low (low + 2) token.DollarLBrace
 unfolding Spells sign_text
 Spells_substitution text low opens = sym (two_bytes text low 36 123 opens.first_there opens.second_there)

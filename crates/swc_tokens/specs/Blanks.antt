@@ -21,8 +21,7 @@ pub data AreBlanks (text : List ℕ) (low : ℕ) : ℕ → Type 0 where
 -- between two positions, what is outside the tokens is blanks and comments
 unfoldable pub OnlyBlanksBetween : List ℕ → ℕ → List TokenAndSpan → ℕ → Type 0
 OnlyBlanksBetween text low [] high = AreBlanks text low high
-OnlyBlanksBetween text low (t ∷ ts) high =
-    AreBlanks text low t.span.lo.0 × OnlyBlanksBetween text t.span.hi.0 ts high
+OnlyBlanksBetween text low (t ∷ ts) high = AreBlanks text low t.span.lo.0 × OnlyBlanksBetween text t.span.hi.0 ts high
 
 -- from a position on each token is marked exactly where a line break is between it and what is before it
 unfoldable pub MarksLineBreaksFrom : List ℕ → ℕ → List TokenAndSpan → Type 0

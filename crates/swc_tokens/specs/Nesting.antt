@@ -39,7 +39,8 @@ pub data Turns : List Open → Next → Part → List Open → Next → Type 0 w
   text : {brackets : List Open} → Turns brackets reads.Text part.Text brackets reads.Delimiter
   begins : {brackets : List Open} → Turns brackets reads.Token part.Backquote brackets reads.Text
   ends : {brackets : List Open} → Turns brackets reads.Delimiter part.Backquote brackets reads.Token
-  opens : {brackets : List Open} → Turns brackets reads.Delimiter part.Substitution (brackets ++ opened.Substitution ∷ []) reads.Token
+  opens : {brackets : List Open} → Turns brackets reads.Delimiter part.Substitution
+      (brackets ++ opened.Substitution ∷ []) reads.Token
   closes : {before brackets : List Open} → before ≡ brackets ++ opened.Substitution ∷ []
       → Turns before reads.Token part.CloseBrace brackets reads.Text
   opens_brace : {brackets : List Open} → 0 < length brackets
@@ -54,7 +55,8 @@ pub data Turns : List Open → Next → Part → List Open → Next → Type 0 w
 pub data Nests : List TokenAndSpan → List Open → Next → Type 0 where
   nothing : Nests [] [] reads.Token
   and_token : {ts : List TokenAndSpan} {before brackets : List Open} {here behind : Next} (t : TokenAndSpan)
-      → Nests ts before here → Turns before here (part_of t.token) brackets behind → Nests (ts ++ t ∷ []) brackets behind
+      → Nests ts before here → Turns before here (part_of t.token) brackets behind
+      → Nests (ts ++ t ∷ []) brackets behind
 
 -- the tokens nest, and no template is open after them
 abbrev pub AreNested : List TokenAndSpan → Type 0

@@ -54,8 +54,7 @@ pub record IsTemplateText (text : List ℕ) (low high : ℕ) (value : Result (Li
 -- a token is written as its place in the text is; words, numbers, strings, texts of templates and regular expressions
 -- are the standard's, and a string means its value, a text what is cooked of it
 unfoldable pub Spells : List ℕ → ℕ → ℕ → Token → Type 0
-Spells text low high (token.Word word) =
-    (word ≡ word_of (slice_range text low high)) × IsName text low high
+Spells text low high (token.Word word) = (word ≡ word_of (slice_range text low high)) × IsName text low high
 Spells text low high (token.Str value raw) =
     (raw ≡ slice_range text low high) × (value ≡ meant (slice_range text (low + 1) (high - 1)))
     × IsLexeme kind.String text low high

@@ -10,20 +10,24 @@ use Rattle.swc_trees.specs.Moving.{AreGiven}
 pub two : {F C K : Type 0} {s t u v : Tree F C K} → s ≡ u → t ≡ v → cons s (cons t nil) ≡ cons u (cons v nil)
 two {t = t} {u = u} e f = ap (λ w. cons w (cons t nil)) e ∙ ap (λ w. cons u (cons w nil)) f
 
-pub headed : {F C K : Type 0} {s t : Tree F C K} {us vs : List (Tree F C K)} → s ≡ t → us ≡ vs → cons s (trees us) ≡ cons t (trees vs)
+pub headed : {F C K : Type 0} {s t : Tree F C K} {us vs : List (Tree F C K)} → s ≡ t → us ≡ vs
+    → cons s (trees us) ≡ cons t (trees vs)
 headed {t = t} {us = us} e f = ap (λ w. cons w (trees us)) e ∙ ap (λ w. cons t (trees w)) f
 
-pub three : {F C K : Type 0} {r s t u v w : Tree F C K} → r ≡ u → s ≡ v → t ≡ w → cons r (cons s (cons t nil)) ≡ cons u (cons v (cons w nil))
+pub three : {F C K : Type 0} {r s t u v w : Tree F C K} → r ≡ u → s ≡ v → t ≡ w
+    → cons r (cons s (cons t nil)) ≡ cons u (cons v (cons w nil))
 three {r = r} {s = s} {t = t} {u = u} d e f = ap (λ x. cons x (cons s (cons t nil))) d ∙ ap (cons u) (two e f)
 
 -- what is read of several values, each of which is what is there
 pub read-two : {A B R : Type 0} (f : A → B → R) {a u : A} {b v : B} → a ≡ u → b ≡ v → f a b ≡ f u v
 read-two f {u = u} {b = b} d e = ap (λ w. f w b) d ∙ ap (λ w. f u w) e
 
-pub read-three : {A B C R : Type 0} (f : A → B → C → R) {a u : A} {b v : B} {c w : C} → a ≡ u → b ≡ v → c ≡ w → f a b c ≡ f u v w
+pub read-three : {A B C R : Type 0} (f : A → B → C → R) {a u : A} {b v : B} {c w : C} → a ≡ u → b ≡ v → c ≡ w
+    → f a b c ≡ f u v w
 read-three f {u = u} {v = v} {c = c} d e g = read-two (λ x y. f x y c) d e ∙ ap (λ x. f u v x) g
 
-pub read-four : {A B C D R : Type 0} (f : A → B → C → D → R) {a p : A} {b q : B} {c r : C} {d s : D} → a ≡ p → b ≡ q → c ≡ r → d ≡ s → f a b c d ≡ f p q r s
+pub read-four : {A B C D R : Type 0} (f : A → B → C → D → R) {a p : A} {b q : B} {c r : C} {d s : D} → a ≡ p → b ≡ q
+    → c ≡ r → d ≡ s → f a b c d ≡ f p q r s
 read-four f {p = p} {q = q} {r = r} {d = d} e g h k = read-three (λ x y z. f x y z d) e g h ∙ ap (λ x. f p q r x) k
 
 pub flat-append : {X Y : Type 0} (f : X → List Y) (xs ys : List X) → flat f (xs ++ ys) ≡ flat f xs ++ flat f ys

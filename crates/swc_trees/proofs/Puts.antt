@@ -1,4 +1,5 @@
--- Trees that were moved to a list, and put in: what holds their places in the list gets the numbers of those that were put in.
+-- Trees that were moved to a list, and put in: what holds their places in the list gets the numbers of those that were
+-- put in.
 use Rattle.std.proofs.Common.{◌≡◌, ℕ, suc, ◌+◌, ◌<◌, ◌≤◌, true, List, [], ◌∷◌, ◌++◌, map, length, get_or, Result, Ok, Err, IfOk, refl, sym, ap, subst, ◌∙◌, arith, append_assoc}
 use Rattle.std.proofs.lemmas.List.{map-append, length-append, length-map}
 use Rattle.std.proofs.Math.Seq.{get_or-append_seam}
@@ -31,14 +32,16 @@ only-one (j ∷ []) i e h = ap (λ v. v ∷ []) (sym h)
 only-one (j ∷ k ∷ is) i e h = absurd (omega arith)
 
 -- numbers of the trees of two lists
-pub numbered-append : (vs ws : List View) (is js : List ℕ) → length is ≡ length vs → numbered (vs ++ ws) (is ++ js) ≡ numbered vs is ++ numbered ws js
+pub numbered-append : (vs ws : List View) (is js : List ℕ) → length is ≡ length vs
+    → numbered (vs ++ ws) (is ++ js) ≡ numbered vs is ++ numbered ws js
 numbered-append [] ws [] js e = refl
 numbered-append [] ws (i ∷ is) js e = absurd (omega arith)
 numbered-append (v ∷ vs) ws [] js e = absurd (omega arith)
 numbered-append (v ∷ vs) ws (i ∷ is) js e = ap (λ w. part v i ∷ w) (numbered-append vs ws is js (omega arith))
 
 -- places, with the numbers at them
-pub places-given : {F C K : Type 0} (ids : Numbers) (bs : List (Built F C K)) (pre is : List ℕ) → length is ≡ length bs →
+pub places-given : {F C K : Type 0} (ids : Numbers) (bs : List (Built F C K)) (pre is : List ℕ)
+    → length is ≡ length bs →
     ids.from ≡ 0 → ids.ids.items ≡ pre ++ is →
     map (with_given ids) (places (length pre) bs) ≡ numbered (map built_view bs) is
 places-given ids [] pre [] e f h = refl
@@ -81,11 +84,15 @@ module _ {F C K : Type 0} (fun_at : F → Span) (class_at : C → Span) (block_a
       let l : length (pre ++ b ∷ []) ≡ suc (length pre) = length-append pre (b ∷ []) ∙ omega arith in
       let a : (pre ++ b ∷ []) ++ bs ≡ pre ++ b ∷ bs = append_assoc pre (b ∷ []) bs in
       let m : map tree (pre ++ b ∷ bs) ≡ map tree pre ++ tree b ∷ map tree bs = map-append tree pre (b ∷ bs) in (
-        ap (λ v. get_or v (length pre) no_tree) m ∙ ap (λ v. get_or (map tree pre ++ tree b ∷ map tree bs) v no_tree) (sym (length-map pre tree)) ∙ get_or-append_seam (map tree pre) (tree b) (map tree bs) no_tree,
-        subst (λ v. AreAt fun_at class_at block_at (at_place (pre ++ b ∷ bs)) v bs) l (subst (λ v. AreAt fun_at class_at block_at (at_place v) (length (pre ++ b ∷ [])) bs) a (are-at-place (pre ++ b ∷ []) bs)),
+        ap (λ v. get_or v (length pre) no_tree) m ∙ ap (λ v. get_or (map tree pre ++ tree b ∷ map tree bs) v no_tree)
+            (sym (length-map pre tree)) ∙ get_or-append_seam (map tree pre) (tree b) (map tree bs) no_tree,
+        subst (λ v. AreAt fun_at class_at block_at (at_place (pre ++ b ∷ bs)) v bs) l
+            (subst (λ v. AreAt fun_at class_at block_at (at_place v) (length (pre ++ b ∷ [])) bs) a
+            (are-at-place (pre ++ b ∷ []) bs)),
       )
 
-  weights-places : (at : ℕ → Tree F C K) (k : ℕ) (bs : List (Built F C K)) → AreAt fun_at class_at block_at at k bs → weights at (places k bs) ≡ weight_of tree bs
+  weights-places : (at : ℕ → Tree F C K) (k : ℕ) (bs : List (Built F C K)) → AreAt fun_at class_at block_at at k bs
+      → weights at (places k bs) ≡ weight_of tree bs
   weights-places at k [] a = refl
   weights-places at k (b ∷ bs) a = let w = weights-places at (suc k) bs a.1 in let e = ap weight a.0 in omega arith
 
@@ -94,7 +101,8 @@ module _ {F C K : Type 0} (fun_at : F → Span) (class_at : C → Span) (block_a
   weight-append (b ∷ bs) cs = let w = weight-append bs cs in omega arith
 
   -- the trees that were moved out of the last one of a list, to the end of the others, weigh less than it
-  pub split-lighter : {v : View} {old new all : List (Built F C K)} {x : Node F C K} (b : Built F C K) → all ≡ old ++ b ∷ [] →
+  pub split-lighter : {v : View} {old new all : List (Built F C K)} {x : Node F C K} (b : Built F C K)
+      → all ≡ old ++ b ∷ [] →
       SplitsTo fun_at class_at block_at slots (IsNode fun_at class_at block_at v (tree b)) old (Ok x) new →
       weight_of tree new < weight_of tree all
   split-lighter {old = old} {new = new} {all = all} {x = x} b e q =
@@ -114,7 +122,8 @@ module _ {F C K : Type 0} {fg : Ghosts F} {cg : Ghosts C} {kg : Ghosts K} where
   -- ---- what parts stand for
 
   -- what parts stand for among more nodes, they stood for before
-  pub agrees-before : (at : ℕ → Tree F C K) (ms ns : Nodes F C K fg cg kg) (lo : ℕ) (ps : List Part) → Grows ms ns → chain (seat_at ms) lo ps (count ms) ≡ true → Agrees at ns ps → Agrees at ms ps
+  pub agrees-before : (at : ℕ → Tree F C K) (ms ns : Nodes F C K fg cg kg) (lo : ℕ) (ps : List Part) → Grows ms ns
+      → chain (seat_at ms) lo ps (count ms) ≡ true → Agrees at ns ps → Agrees at ms ps
   agrees-before at ms ns lo [] g h a = tt
   agrees-before at ms ns lo (p ∷ ps) g h a =
       let b = both_true h in
@@ -124,13 +133,20 @@ module _ {F C K : Type 0} {fg : Ghosts F} {cg : Ghosts C} {kg : Ghosts K} where
 
   -- ---- what is answered
 
-  pub puts-refused : {Y : Type 0} {parts : Y → List Part} {same : (ℕ → Tree F C K) → Y → Type 0} {ns ms : Nodes F C K fg cg kg} (w : Result Y AllocError) → IsErr w → Grows ns ms → PutsIn parts same ns w ms
+  pub puts-refused : {Y : Type 0} {parts : Y → List Part} {same : (ℕ → Tree F C K) → Y → Type 0}
+      {ns ms : Nodes F C K fg cg kg} (w : Result Y AllocError) → IsErr w → Grows ns ms → PutsIn parts same ns w ms
   puts-refused (Ok y) e g = cc
   puts-refused (Err y) e g = record { grows = g; put = tt }
 
   -- what one part stands for
-  pub puts-made : {Y : Type 0} {ns ms : Nodes F C K fg cg kg} {r : Result Y AllocError} {t : Tree F C K} (part : Y → Part) → PutsIn (λ y. part y ∷ []) (λ at y. at (part y).at ≡ t) ns r ms → IfOk r (λ y. Made (count ns) ms (part y) t)
-  puts-made {ms = ms} {r = Ok y} part p = record { from = from-apart (part y) [] p.put.apart; stands = p.put.moved (tree_at ms) (refl, tt) }
+  pub puts-made : {Y : Type 0} {ns ms : Nodes F C K fg cg kg} {r : Result Y AllocError} {t : Tree F C K}
+      (part : Y → Part) → PutsIn (λ y. part y ∷ []) (λ at y. at (part y).at ≡ t) ns r ms
+      → IfOk r (λ y. Made (count ns) ms (part y) t)
+  puts-made {ms = ms} {r = Ok y} part p = record {
+    from = from-apart (part y) [] p.put.apart;
+    stands =
+        p.put.moved (tree_at ms) (refl, tt);
+  }
   puts-made {r = Err y} part p = tt
 
   -- as many numbers as trees; and one number of one tree
@@ -145,7 +161,8 @@ module _ {F C K : Type 0} {fg : Ghosts F} {cg : Ghosts C} {kg : Ghosts K} where
   pub puts-one : {ns ms : Nodes F C K fg cg kg} {bs : List (Built F C K)} {v : Vec ℕ Global} (b : Built F C K) (i : ℕ) →
       bs ≡ b ∷ [] → i ≡ get_or v.items 0 i → PutsIn (λ y. numbered (map built_view bs) y.items)
       (λ at y. map at y.items ≡ map (built_tree fg.place cg.place kg.place) bs) ns (Ok v) ms →
-      PutsIn (λ j. numbered (built_view b ∷ []) (j ∷ [])) (λ at j. at j ≡ built_tree fg.place cg.place kg.place b) ns (Ok i) ms
+      PutsIn (λ j. numbered (built_view b ∷ []) (j ∷ [])) (λ at j. at j ≡ built_tree fg.place cg.place kg.place b) ns
+      (Ok i) ms
   puts-one {ns = ns} {ms = ms} {bs = bs} {v = v} b i e h p =
       let is : v.items ≡ i ∷ [] = only-one v.items i (puts-count bs p ∙ ap length e) h in
       let tree = built_tree fg.place cg.place kg.place in
@@ -170,7 +187,8 @@ module _ {F C K : Type 0} {fg : Ghosts F} {cg : Ghosts C} {kg : Ghosts K} where
       (λ at y. map at y.items ≡ map (built_tree fg.place cg.place kg.place) new) ns (Ok ids.ids) ms →
       Renumbered parts of ids x z → ((at : ℕ → Tree F C K) → same (λ k. at (given ids k)) x → same at z) →
       PutsIn parts same ns (Ok z) ms
-  puts-renumbered {parts = parts} {same = same} {ns = ns} {ms = ms} {old = old} {new = new} {x = x} {z = z} ids e from splits q r f =
+  puts-renumbered {parts = parts} {same = same} {ns = ns} {ms = ms} {old = old} {new = new} {x = x}
+      {z = z} ids e from splits q r f =
       let p = splits.split in
       let is = ids.ids.items in
       let tree = built_tree fg.place cg.place kg.place in
@@ -198,7 +216,8 @@ module _ {F C K : Type 0} {fg : Ghosts F} {cg : Ghosts C} {kg : Ghosts K} where
       }
 
   -- items of a list, of which the trees were moved to the end of another
-  pub puts-items : {ns ms : Nodes F C K fg cg kg} {old new : List (Built F C K)} {x z : Vec (ExprOrSpread ExprId) Global}
+  pub puts-items : {ns ms : Nodes F C K fg cg kg} {old new : List (Built F C K)}
+      {x z : Vec (ExprOrSpread ExprId) Global}
       (items : Vec (ExprOrSpread (Box (Expr F C K) Global)) Global) (ids : Numbers) → old ≡ [] → ids.from ≡ 0 →
       SplitsTo fg.place cg.place kg.place args_parts
       (λ at y. map (item_tree (λ e. at e.0)) y.items ≡ map (item_tree (boxed_in ns)) items.items) old (Ok x) new →

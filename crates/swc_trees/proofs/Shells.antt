@@ -61,7 +61,8 @@ module _ {F C K : Type 0} {fg : Ghosts F} {cg : Ghosts C} {kg : Ghosts K} where
   built_in ns = built_tree fg.place cg.place kg.place
 
   -- The numbers are those of trees that were put in, as the nodes that are left have it.
-  pub record Filling (all : List (Built F C K)) (xs : List (Shell F C K)) (ns : Nodes F C K fg cg kg) (ids : List ℕ) (ms : Nodes F C K fg cg kg) : Type 0 where
+  pub record Filling (all : List (Built F C K)) (xs : List (Shell F C K)) (ns : Nodes F C K fg cg kg) (ids : List ℕ)
+      (ms : Nodes F C K fg cg kg) : Type 0 where
     pub done : List (Built F C K)
     pub reads : Reads fg.place cg.place kg.place (reverse xs) done all
     pub grows : Grows ns ms
@@ -79,22 +80,26 @@ module _ {F C K : Type 0} {fg : Ghosts F} {cg : Ghosts C} {kg : Ghosts K} where
   }
 
   -- A node whose parts were put in, and the numbers of the trees before those.
-  pub record Filled (all : List (Built F C K)) (xs : List (Shell F C K)) (ns : Nodes F C K fg cg kg) (kept : List ℕ) (ms : Nodes F C K fg cg kg) (z : Node F C K) : Type 0 where
+  pub record Filled (all : List (Built F C K)) (xs : List (Shell F C K)) (ns : Nodes F C K fg cg kg) (kept : List ℕ)
+      (ms : Nodes F C K fg cg kg) (z : Node F C K) : Type 0 where
     pub front : List (Built F C K)
     pub last : Built F C K
     pub reads : Reads fg.place cg.place kg.place (reverse xs) (front ++ last ∷ []) all
     pub grows : Grows ns ms
-    pub before : chain (seat_at ms) (count ns) (numbered (map built_view front) kept) (floor (seat_at ms) (count ms) (slots z)) ≡ true
+    pub before : chain (seat_at ms) (count ns) (numbered (map built_view front) kept)
+        (floor (seat_at ms) (count ms) (slots z)) ≡ true
     pub stand : map (tree_at ms) kept ≡ map (built_in ns) front
     pub apart : Apart 0 ms (slots z)
     pub is_node : IsNode fg.place cg.place kg.place (built_view last) (built_in ns last) (tree_at ms) z
 
-  pub filling-node : {all : List (Built F C K)} {xs left : List (Shell F C K)} {ns ms : Nodes F C K fg cg kg} {z : Node F C K}
+  pub filling-node : {all : List (Built F C K)} {xs left : List (Shell F C K)} {ns ms : Nodes F C K fg cg kg}
+      {z : Node F C K}
       (ids : Numbers) (x : Shell F C K) → ids.from ≡ 0 → xs ≡ left ++ x ∷ [] → Filling all xs ns ids.ids.items ms →
       Renumbered slots (marked_tree fg.place cg.place kg.place) ids x.node z → form z ≡ form x.node →
       Filled all left ns (take x.from ids.ids.items) ms z
   filling-node {all} {xs} {left} {ns} {ms} {z} ids x from e f r g =
-      let c : Closes fg.place cg.place kg.place x f.done (λ next. Reads fg.place cg.place kg.place (reverse left) next all) =
+      let c : Closes fg.place cg.place kg.place x f.done
+      (λ next. Reads fg.place cg.place kg.place (reverse left) next all) =
       subst (λ v. Reads fg.place cg.place kg.place v f.done all) (reverse-last left x e) f.reads in
       let s = c.split in
       let at : ℕ → Tree F C K = tree_at ms in
@@ -102,7 +107,8 @@ module _ {F C K : Type 0} {fg : Ghosts F} {cg : Ghosts C} {kg : Ghosts K} where
       let pre = take x.from js in
       let is = drop x.from js in
       let whole : js ≡ pre ++ is = sym (take-append-drop x.from js) in
-      let many : length js ≡ length f.done = sym (length-map js at) ∙ ap length f.stand ∙ length-map f.done (built_in ns) in
+      let many : length js ≡ length f.done = sym (length-map js at) ∙ ap length f.stand ∙ length-map f.done
+      (built_in ns) in
       let total : length f.done ≡ length c.front + length s.own = ap length s.added ∙ length-append c.front s.own in
       let k = c.from in
       let before : length pre ≡ length c.front = length-take-le x.from js (omega arith) ∙ k in
@@ -111,9 +117,11 @@ module _ {F C K : Type 0} {fg : Ghosts F} {cg : Ghosts C} {kg : Ghosts K} where
       f.stand ∙ ap (map (built_in ns)) s.added ∙ map-append (built_in ns) c.front s.own in
       let first : length (map (built_in ns) c.front) ≡ x.from = length-map c.front (built_in ns) ∙ sym k in
       let stand : map at pre ≡ map (built_in ns) c.front =
-      sym (take-map at x.from js) ∙ ap (take x.from) both ∙ take_at (map (built_in ns) c.front) (map (built_in ns) s.own) x.from first in
+      sym (take-map at x.from js) ∙ ap (take x.from) both ∙ take_at (map (built_in ns) c.front)
+      (map (built_in ns) s.own) x.from first in
       let own : map at is ≡ map (built_in ns) s.own =
-      sym (drop-map at x.from js) ∙ ap (drop x.from) both ∙ drop_at (map (built_in ns) c.front) (map (built_in ns) s.own) x.from first in
+      sym (drop-map at x.from js) ∙ ap (drop x.from) both ∙ drop_at (map (built_in ns) c.front)
+      (map (built_in ns) s.own) x.from first in
       let fronts = map built_view c.front in
       let owns = map built_view s.own in
       let ps = numbered fronts pre in
@@ -143,8 +151,10 @@ module _ {F C K : Type 0} {fg : Ghosts F} {cg : Ghosts C} {kg : Ghosts K} where
       }
 
   -- the node is put in, after those
-  pub filling-more : {all : List (Built F C K)} {left : List (Shell F C K)} {ns ms : Nodes F C K fg cg kg} {kept cut : List ℕ} {z : Node F C K} (ks : Nodes F C K fg cg kg) (more : List ℕ) (i : ℕ) →
-      Filled all left ns kept ms z → Grows ms ks → Added ms ks i z → cut ≡ kept → more ≡ cut ++ i ∷ [] → Filling all left ns more ks
+  pub filling-more : {all : List (Built F C K)} {left : List (Shell F C K)} {ns ms : Nodes F C K fg cg kg}
+      {kept cut : List ℕ} {z : Node F C K} (ks : Nodes F C K fg cg kg) (more : List ℕ) (i : ℕ) →
+      Filled all left ns kept ms z → Grows ms ks → Added ms ks i z → cut ≡ kept → more ≡ cut ++ i ∷ []
+      → Filling all left ns more ks
   filling-more {all} {left} {ns} {ms} {kept} {cut} {z} ks more i f g d same pushed =
       let e : more ≡ kept ++ i ∷ [] = pushed ∙ ap (λ v. v ++ i ∷ []) same in
       let view = built_view f.last in
@@ -154,7 +164,8 @@ module _ {F C K : Type 0} {fg : Ghosts F} {cg : Ghosts C} {kg : Ghosts K} where
       let low = floor (seat_at ms) (count ms) (slots z) in
       let under = floor-under (seat_at ms) 0 (slots z) (count ms) f.apart.chained in
       let many : length kept ≡ length views =
-      sym (length-map kept (tree_at ms)) ∙ ap length f.stand ∙ length-map f.front (built_in ns) ∙ sym (length-map f.front built_view) in
+      sym (length-map kept (tree_at ms)) ∙ ap length f.stand ∙ length-map f.front (built_in ns) ∙ sym
+      (length-map f.front built_view) in
       let first : chain (seat_at ks) (count ns) ps low ≡ true =
       chain-same (seat_at ms) (seat_at ks) (count ns) ps low (λ j lt. sym (seat-later j g (omega arith))) f.before in
       let last : Apart low ks (part view i ∷ []) = apart-from (part view i) m.from in
@@ -183,14 +194,16 @@ module _ {F C K : Type 0} {fg : Ghosts F} {cg : Ghosts C} {kg : Ghosts K} where
             ∙ sym (map-append (built_in ns) f.front (f.last ∷ []));
       }
 
-  pub filling-ends : {all : List (Built F C K)} {xs : List (Shell F C K)} {ns ms : Nodes F C K fg cg kg} (v : Vec ℕ Global) →
+  pub filling-ends : {all : List (Built F C K)} {xs : List (Shell F C K)} {ns ms : Nodes F C K fg cg kg}
+      (v : Vec ℕ Global) →
       xs ≡ [] → Filling all xs ns v.items ms →
       PutsIn (λ y. numbered (map built_view all) y.items) (λ at y. map at y.items ≡ map (built_in ns) all) ns (Ok v) ms
   filling-ends {all} {xs} {ns} {ms} v e f =
       let all_done : f.done ≡ all = subst (λ w. Reads fg.place cg.place kg.place (reverse w) f.done all) e f.reads in
       let stand : map (tree_at ms) v.items ≡ map (built_in ns) all = f.stand ∙ ap (map (built_in ns)) all_done in
       let many : length v.items ≡ length (map built_view all) =
-      sym (length-map v.items (tree_at ms)) ∙ ap length stand ∙ length-map all (built_in ns) ∙ sym (length-map all built_view) in
+      sym (length-map v.items (tree_at ms)) ∙ ap length stand ∙ length-map all (built_in ns) ∙ sym
+      (length-map all built_view) in
       record {
         grows = f.grows;
         put = record {

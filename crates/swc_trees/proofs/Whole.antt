@@ -18,7 +18,8 @@ module _ {F C K : Type 0} where
   pub class-out : (x : Expr F C K) (c d : C) (r : Option C) → x ≡ e.Class c → r ≡ Some c → r ≡ Some d → x ≡ e.Class d
   class-out x c d r was out in_some = cc
 
-  pub arrow-out : (x : Expr F C K) (s : Span) (ps qs : Vec (Pat F C K) Global) (b d : Box (BlockStmtOrExpr (Box (Expr F C K) Global) K) Global) (a : Bool)
+  pub arrow-out : (x : Expr F C K) (s : Span) (ps qs : Vec (Pat F C K) Global)
+      (b d : Box (BlockStmtOrExpr (Box (Expr F C K) Global) K) Global) (a : Bool)
       (r : Option (Vec (Pat F C K) Global × Box (BlockStmtOrExpr (Box (Expr F C K) Global) K) Global)) →
       x ≡ e.Arrow s ps b a → r ≡ Some (ps, b) → r ≡ Some (qs, d) → x ≡ e.Arrow s qs d a
   arrow-out x s ps qs b d a r was out in_some =

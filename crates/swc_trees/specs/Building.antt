@@ -48,21 +48,29 @@ module _ {F C K : Type 0} (fun_at : F → Span) (class_at : C → Span) (block_a
   abbrev pub AreFor : (ℕ → Tree F C K) → List Part → List (Built F C K) → Type 0
   AreFor at ps bs = (map built_kind bs ≡ map part_kind ps) × Stand at ps bs
 
-  -- The last trees of a list, one for each part, were taken from it. What is made of them is what `same` says, where they stand for the parts.
-  pub record Assembled (ps : List Part) (same : (ℕ → Tree F C K) → Type 0) (old : List (Built F C K)) (new : List (Built F C K)) : Type 0 where
+  -- The last trees of a list, one for each part, were taken from it. What is made of them is what `same` says, where
+  -- they stand for the parts.
+  pub record Assembled (ps : List Part) (same : (ℕ → Tree F C K) → Type 0) (old : List (Built F C K))
+      (new : List (Built F C K)) : Type 0 where
     pub own : List (Built F C K)
     pub split : old ≡ new ++ own
     pub kinds : map built_kind own ≡ map part_kind ps
     pub moved : (at : ℕ → Tree F C K) → Stand at ps own → same at
 
   -- the same, by the trees that boxes stand for, and that are given for numbers
-  abbrev pub Assembles : List Part → ((Box (Expr F C K) Global → Tree F C K) → (ExprId → Tree F C K) → Type 0) → List (Built F C K) → List (Built F C K) → Type 0
-  Assembles ps same old new = Assembled ps (λ at. same (boxed_tree F C K fun_at class_at block_at) (expr_of fun_at class_at block_at at)) old new
+  abbrev pub Assembles : List Part → ((Box (Expr F C K) Global → Tree F C K) → (ExprId → Tree F C K) → Type 0)
+      → List (Built F C K) → List (Built F C K) → Type 0
+  Assembles ps same old new = Assembled ps (λ at. same (boxed_tree F C K fun_at class_at block_at)
+      (expr_of fun_at class_at block_at at)) old new
 
   -- where memory may be wanted
-  abbrev pub AssemblesIf : {Y : Type 0} → List Part → ((Box (Expr F C K) Global → Tree F C K) → (ExprId → Tree F C K) → Y → Type 0) → List (Built F C K) → Result Y AllocError → List (Built F C K) → Type 0
-  AssemblesIf ps same old r new = IfOk r (λ y. Assembled ps (λ at. same (boxed_tree F C K fun_at class_at block_at) (expr_of fun_at class_at block_at at) y) old new)
+  abbrev pub AssemblesIf : {Y : Type 0} → List Part → ((Box (Expr F C K) Global → Tree F C K) → (ExprId → Tree F C K)
+      → Y → Type 0) → List (Built F C K) → Result Y AllocError → List (Built F C K) → Type 0
+  AssemblesIf ps same old r new = IfOk r (λ y. Assembled ps
+      (λ at. same (boxed_tree F C K fun_at class_at block_at) (expr_of fun_at class_at block_at at) y) old new)
 
   -- the same of an expression, which takes the place of a node
-  abbrev pub AssemblesExpr : Node F C K → List (Built F C K) → Result (Expr F C K) AllocError → List (Built F C K) → Type 0
-  AssemblesExpr node old r new = IfOk r (λ y. Assembled (slots node) (λ at. expr_tree F C K fun_at class_at block_at y ≡ node_tree fun_at class_at block_at at node) old new)
+  abbrev pub AssemblesExpr : Node F C K → List (Built F C K) → Result (Expr F C K) AllocError → List (Built F C K)
+      → Type 0
+  AssemblesExpr node old r new = IfOk r (λ y. Assembled (slots node)
+      (λ at. expr_tree F C K fun_at class_at block_at y ≡ node_tree fun_at class_at block_at at node) old new)

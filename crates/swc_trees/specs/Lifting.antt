@@ -15,7 +15,9 @@ module _ {F C K : Type 0} (fun_at : F → Span) (class_at : C → Span) (block_a
     pub given : AreGiven at of (slots l.node)
     pub stands : at (part_of l.part).at ≡ node_tree fun_at class_at block_at of l.node
 
-  -- Nodes, the one that was taken out last first, and the parts that were due after and before. Each node's parts were due in the place of its part.
+  -- Nodes, the one that was taken out last first, and the parts that were due after and before. Each node's parts were
+  -- due in the place of its part.
   abbrev pub Reads : (ℕ → Tree F C K) → List (Lifted F C K) → List Part → List Part → Type 0
   Reads at [] after before = after ≡ before
-  Reads at (l ∷ ls) after before = (others : List Part) × ((after ≡ others ++ slots l.node) × (IsOf at l × Reads at ls (others ++ part_of l.part ∷ []) before))
+  Reads at (l ∷ ls) after before = (others : List Part)
+      × ((after ≡ others ++ slots l.node) × (IsOf at l × Reads at ls (others ++ part_of l.part ∷ []) before))

@@ -21,26 +21,32 @@ module _ {F C K : Type 0} (fun_at : F → Span) (class_at : C → Span) (block_a
     pub view : view_ok v (form x) ≡ true
 
 module _ {F C K : Type 0} {fg : Ghosts F} {cg : Ghosts C} {kg : Ghosts K} where
-  -- what is given for each part is what it stands for among the nodes; and that without the marks of commas, as trees in boxes are
+  -- what is given for each part is what it stands for among the nodes; and that without the marks of commas, as trees
+  -- in boxes are
   abbrev pub Agrees : (ℕ → Tree F C K) → Nodes F C K fg cg kg → List Part → Type 0
   Agrees at ns ps = AreGiven at (tree_at ns) ps
 
   abbrev pub AgreesBare : (ℕ → Tree F C K) → Nodes F C K fg cg kg → List Part → Type 0
   AgreesBare at ns ps = AreGiven at (bare_at ns) ps
 
-  -- Parts were taken out, the last first, and none with a number below the smallest that is reached from them. What is answered is what
+  -- Parts were taken out, the last first, and none with a number below the smallest that is reached from them. What is
+  -- answered is what
   -- `same` says, where the parts stand for what they stood for, without the marks of commas.
-  pub record TakesOut {Y : Type 0} (ps : List Part) (same : (ℕ → Tree F C K) → Y → Type 0) (ns : Nodes F C K fg cg kg) (r : Result Y AllocError) (ms : Nodes F C K fg cg kg) : Type 0 where
+  pub record TakesOut {Y : Type 0} (ps : List Part) (same : (ℕ → Tree F C K) → Y → Type 0) (ns : Nodes F C K fg cg kg)
+      (r : Result Y AllocError) (ms : Nodes F C K fg cg kg) : Type 0 where
     pub left : Left (floor (seat_at ns) (count ns) ps) ns ms
     pub moved : IfOk r (λ y. (at : ℕ → Tree F C K) → AgreesBare at ns ps → same at y)
 
-  -- The parts of what is answered lie apart, from the number k on, and it is what `same` says, where its parts stand for what they stand for.
-  pub record Put {Y : Type 0} (parts : Y → List Part) (same : (ℕ → Tree F C K) → Y → Type 0) (k : ℕ) (ms : Nodes F C K fg cg kg) (y : Y) : Type 0 where
+  -- The parts of what is answered lie apart, from the number k on, and it is what `same` says, where its parts stand
+  -- for what they stand for.
+  pub record Put {Y : Type 0} (parts : Y → List Part) (same : (ℕ → Tree F C K) → Y → Type 0) (k : ℕ)
+      (ms : Nodes F C K fg cg kg) (y : Y) : Type 0 where
     pub apart : Apart k ms (parts y)
     pub moved : (at : ℕ → Tree F C K) → Agrees at ms (parts y) → same at y
 
   -- Parts were put in, in their order, after all nodes that there were.
-  pub record PutsIn {Y : Type 0} (parts : Y → List Part) (same : (ℕ → Tree F C K) → Y → Type 0) (ns : Nodes F C K fg cg kg) (r : Result Y AllocError) (ms : Nodes F C K fg cg kg) : Type 0 where
+  pub record PutsIn {Y : Type 0} (parts : Y → List Part) (same : (ℕ → Tree F C K) → Y → Type 0)
+      (ns : Nodes F C K fg cg kg) (r : Result Y AllocError) (ms : Nodes F C K fg cg kg) : Type 0 where
     pub grows : Grows ns ms
     pub put : IfOk r (Put parts same (count ns) ms)
 
@@ -57,7 +63,8 @@ module _ {F C K : Type 0} {fg : Ghosts F} {cg : Ghosts C} {kg : Ghosts K} where
   abbrev pub pat_prop_in : Nodes F C K fg cg kg → ObjectPatProp F C K → Tree F C K
   pat_prop_in ns = pat_prop_tree F C K fg.place cg.place kg.place
 
-  -- what the head of a `for` begins with is of the same sort in boxes, and the tree that the number stands for, without the marks of commas
+  -- what the head of a `for` begins with is of the same sort in boxes, and the tree that the number stands for, without
+  -- the marks of commas
   abbrev pub IsHead : Nodes F C K fg cg kg → ForHeadId → ForHead F C K → Type 0
   IsHead ns (head.Target p) (boxed_head.Target b) = pat_in ns b.value ≡ bare_at ns p.0
   IsHead ns (head.Expr e) (boxed_head.Expr b) = boxed_in ns b ≡ bare_at ns e.0

@@ -1,4 +1,5 @@
--- Trees whose parts were moved out of them, onto the end of a list: what holds the parts has their places in the list as numbers.
+-- Trees whose parts were moved out of them, onto the end of a list: what holds the parts has their places in the list
+-- as numbers.
 use Rattle.std.specs.Prelude.{◌≡◌, ℕ, suc, List, [], ◌∷◌, ◌++◌, length, Result, IfOk}
 use Rattle.std.specs.{declared.alloc.AllocError.AllocError, declared.alloc.Global.Global, declared.boxed.Box.Box}
 use Rattle.swc_context.specs.declared.span.Span.{Span}
@@ -18,7 +19,8 @@ module _ (F C K : Type 0) where
   target_step (o.AssignTarget::Object s props) = pattern
 
   abbrev pub view_of : AssignTarget F C K → View
-  view_of = fold-AssignTarget F C K View View View View View View target_step (λ e. expr) (λ p. pat) (λ p. pat) (λ p. expr) (λ p. expr)
+  view_of = fold-AssignTarget F C K View View View View View View target_step (λ e. expr) (λ p. pat) (λ p. pat)
+      (λ p. expr) (λ p. expr)
 
 abbrev pub target_view : {F C K : Type 0} → AssignTarget F C K → View
 target_view {F} {C} {K} t = view_of F C K t
@@ -50,15 +52,18 @@ module _ {F C K : Type 0} (fun_at : F → Span) (class_at : C → Span) (block_a
   AreAt at k [] = Unit {0}
   AreAt at k (b ∷ bs) = (at k ≡ built_tree fun_at class_at block_at b) × AreAt at (suc k) bs
 
-  -- Trees were moved to the end of a list. What is left holds their places, and is what `same` says, where they stand for the trees.
-  pub record Split {Y : Type 0} (parts : Y → List Part) (same : (ℕ → Tree F C K) → Y → Type 0) (old : List (Built F C K)) (y : Y) (new : List (Built F C K)) : Type 0 where
+  -- Trees were moved to the end of a list. What is left holds their places, and is what `same` says, where they stand
+  -- for the trees.
+  pub record Split {Y : Type 0} (parts : Y → List Part) (same : (ℕ → Tree F C K) → Y → Type 0)
+      (old : List (Built F C K)) (y : Y) (new : List (Built F C K)) : Type 0 where
     pub own : List (Built F C K)
     pub added : new ≡ old ++ own
     pub placed : parts y ≡ places (length old) own
     pub moved : (at : ℕ → Tree F C K) → AreAt at (length old) own → same at y
 
   -- the same, where memory may be wanted
-  pub record SplitsTo {Y : Type 0} (parts : Y → List Part) (same : (ℕ → Tree F C K) → Y → Type 0) (old : List (Built F C K)) (r : Result Y AllocError) (new : List (Built F C K)) : Type 0 where
+  pub record SplitsTo {Y : Type 0} (parts : Y → List Part) (same : (ℕ → Tree F C K) → Y → Type 0)
+      (old : List (Built F C K)) (r : Result Y AllocError) (new : List (Built F C K)) : Type 0 where
     pub split : IfOk r (λ y. Split parts same old y new)
 
 -- the trees of what boxed trees are made of
@@ -92,15 +97,22 @@ module _ {F C K : Type 0} (fun_at : F → Span) (class_at : C → Span) (block_a
   numbers at = record { expr = expr_of fun_at class_at block_at at; pat = pat_of fun_at class_at block_at at }
 
   -- the same, by the trees of what boxed trees are made of, and what numbers stand for
-  abbrev pub Splits : {Y : Type 0} → (Y → List Part) → (Wholes F C K → Numbers F C K → Y → Type 0) → List (Built F C K) → Result Y AllocError → List (Built F C K) → Type 0
+  abbrev pub Splits : {Y : Type 0} → (Y → List Part) → (Wholes F C K → Numbers F C K → Y → Type 0) → List (Built F C K)
+      → Result Y AllocError → List (Built F C K) → Type 0
   Splits parts same old r new = SplitsTo fun_at class_at block_at parts (λ at. same wholes (numbers at)) old r new
 
   -- of a node for a tree, of a property, and of one of a pattern
-  abbrev pub SplitsNode : View → (Wholes F C K → Tree F C K) → List (Built F C K) → Result (Node F C K) AllocError → List (Built F C K) → Type 0
-  SplitsNode v tree old r new = SplitsTo fun_at class_at block_at slots (IsNode fun_at class_at block_at v (tree wholes)) old r new
+  abbrev pub SplitsNode : View → (Wholes F C K → Tree F C K) → List (Built F C K) → Result (Node F C K) AllocError
+      → List (Built F C K) → Type 0
+  SplitsNode v tree old r new = SplitsTo fun_at class_at block_at slots
+      (IsNode fun_at class_at block_at v (tree wholes)) old r new
 
-  abbrev pub SplitsProp : (Wholes F C K → Tree F C K) → List (Built F C K) → Result (PropNode K) AllocError → List (Built F C K) → Type 0
-  SplitsProp tree old r new = SplitsTo fun_at class_at block_at prop_parts (λ at y. prop_of fun_at class_at block_at at y ≡ tree wholes) old r new
+  abbrev pub SplitsProp : (Wholes F C K → Tree F C K) → List (Built F C K) → Result (PropNode K) AllocError
+      → List (Built F C K) → Type 0
+  SplitsProp tree old r new = SplitsTo fun_at class_at block_at prop_parts
+      (λ at y. prop_of fun_at class_at block_at at y ≡ tree wholes) old r new
 
-  abbrev pub SplitsPatProp : (Wholes F C K → Tree F C K) → List (Built F C K) → Result PatPropNode AllocError → List (Built F C K) → Type 0
-  SplitsPatProp tree old r new = SplitsTo fun_at class_at block_at pat_prop_parts (λ at y. pat_prop_of fun_at class_at block_at at y ≡ tree wholes) old r new
+  abbrev pub SplitsPatProp : (Wholes F C K → Tree F C K) → List (Built F C K) → Result PatPropNode AllocError
+      → List (Built F C K) → Type 0
+  SplitsPatProp tree old r new = SplitsTo fun_at class_at block_at pat_prop_parts
+      (λ at y. pat_prop_of fun_at class_at block_at at y ≡ tree wholes) old r new

@@ -123,10 +123,8 @@ module _ {F C K : Type 0} (hook : Hook F C K) where
       subst (λ w. at_token is_arrow (first w.1) ≡ true) o y
 
   pub base-behind : (c : Scope) (l : Tree F C K) (us : List TokenAndSpan) (e : Tree F C K) (ms : List TokenAndSpan)
-      → Behind (inner c) l us e ms
-      → exec hook (run hook) (Some 2) (behind_base c l) us ≡ run hook (assigns e) c ms
-  base-behind c l us e ms v =
-      rw (v.linked, v.updated, v.climbed) (last hook (Some 2) (assigns e) c ms refl)
+      → Behind (inner c) l us e ms → exec hook (run hook) (Some 2) (behind_base c l) us ≡ run hook (assigns e) c ms
+  base-behind c l us e ms v = rw (v.linked, v.updated, v.climbed) (last hook (Some 2) (assigns e) c ms refl)
 
   head-reads : (c : Scope) (b : Bool) (s : Span) (us vs : List TokenAndSpan) (es : Tree F C K)
       → run hook (sym (Args false)) (with_in c) us ≡ Some (es, vs)

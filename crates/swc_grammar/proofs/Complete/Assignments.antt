@@ -51,8 +51,7 @@ yield-ends : (us : List TokenAndSpan) → sees goes_on_yield us ≡ false → go
 yield-ends [] w = refl
 yield-ends (t ∷ ts) w = w
 
-yield-goes-on : (c : Scope) (us : List TokenAndSpan)
-    → sees (λ t. is_star t.token || not (goes_on_yield t)) us ≡ false
+yield-goes-on : (c : Scope) (us : List TokenAndSpan) → sees (λ t. is_star t.token || not (goes_on_yield t)) us ≡ false
     → at_token (begins_expression c) (first us) ≡ true
     → (at_token is_star (first us) ≡ false) × (goes_on_yield_at (first us) ≡ true)
 yield-goes-on c [] w h = absurd cc
@@ -215,8 +214,7 @@ module _ {F C K : Type 0} (hook : Hook F C K) where
           (sym_path (lparen-is a.token y)) (λ k. listed-reads hook c a.had_line_break a.span us ms e k) d
       by-paren false y z = by-word (begins_async_name c (a ∷ us)) refl y z
 
-      by-name : (y : Bool) → begins_arrow c (a ∷ us) ≡ y
-          → run hook (sym Assign) c (a ∷ us) ≡ run hook (assigns e) c ms
+      by-name : (y : Bool) → begins_arrow c (a ∷ us) ≡ y → run hook (sym Assign) c (a ∷ us) ≡ run hook (assigns e) c ms
       by-name false z = by-paren (is_lparen a.token) refl z
       by-name true z =
           let (i, j) = both (is_alone c.context a.token) (is_arrow_here (first us)) z in

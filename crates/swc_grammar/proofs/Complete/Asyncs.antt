@@ -54,8 +54,7 @@ module _ {F C K : Type 0} (hook : Hook F C K) where
   no-arrow-begins c a us h = rw h (and-false (is_alone c.context a.token))
 
   pub async-step : (c : Scope) (a : TokenAndSpan) (us : List TokenAndSpan) → is_async a.token ≡ true
-      → begins_arrow c (a ∷ us) ≡ false
-      → step {F = F} {C = C} {K = K} (sym Assign) c (a ∷ us)
+      → begins_arrow c (a ∷ us) ≡ false → step {F = F} {C = C} {K = K} (sym Assign) c (a ∷ us)
       ≡ (if begins_async_name c (a ∷ us) then chosen (pick (arrow-async-name {c = c})) else
       (if begins_async_list (a ∷ us) then async_head c else assigned c))
   async-step c a us h z = by-token a.token a.had_line_break a.span h z
@@ -230,8 +229,7 @@ module _ {F C K : Type 0} (hook : Hook F C K) where
       clash q r (by-two w) = absurd cc
 
   pub async-heads-reads : (c : Scope) (a : TokenAndSpan) (s : Span) (us ms ys : List TokenAndSpan) (n : Spelling)
-      (hs t : Tree F C K)
-      → async_name c a.token a.span ≡ Some n
+      (hs t : Tree F C K) → async_name c a.token a.span ≡ Some n
       → run hook (sym Heads) c (tk token.LParen false s ∷ us) ≡ Some (hs, ms) → at_token is_arrow (first ms) ≡ true
       → exec hook (run hook) (Some 2) (plan (async_arrow_tail c n hs)) ms ≡ Some (t, ys)
       → run hook (sym Assign) c (a ∷ (tk token.LParen false s ∷ us)) ≡ Some (t, ys)

@@ -84,8 +84,7 @@ no-new-first c (a ∷ us) h = by-token a.token h
     by-token t h = refl
 
 -- after a `.` a name is no `#`
-word-alone : (t : Token) → is_word t ≡ true
-    → (is_hash t ≡ false) × (is_lbracket t ≡ false) × (is_lparen t ≡ false)
+word-alone : (t : Token) → is_word t ≡ true → (is_hash t ≡ false) × (is_lbracket t ≡ false) × (is_lparen t ≡ false)
 word-alone (token.Word w) h = (refl, refl, refl)
 word-alone t h = absurd cc
 
@@ -121,9 +120,7 @@ module _ {F C K : Type 0} (hook : Hook F C K) where
   pub links-take : {b : Bool} {c : Scope} (l : Tree F C K) (a : TokenAndSpan) (us ys : List TokenAndSpan)
       {f : Tree F C K → TokenAndSpan → Side F C K (Left b)}
       (p : (i : Bool) → Production (Left b) (with_head i c) (read (Left b) (with_head i c) (λ e. take (λ u. f e u))))
-      {t : Tree F C K}
-      → link b c (a ∷ us) ≡ more p
-      → exec hook (run hook) None (plan (f l a)) us ≡ Some (t, ys)
+      {t : Tree F C K} → link b c (a ∷ us) ≡ more p → exec hook (run hook) None (plan (f l a)) us ≡ Some (t, ys)
       → run hook (links b l) c (a ∷ us) ≡ run hook (links b t) c ys
   links-take {b = b} {c = c} l a us ys {f = f} p {t = t} h e =
       knot hook (links b l) c (a ∷ us)
@@ -212,8 +209,7 @@ module _ {F C K : Type 0} (hook : Hook F C K) where
   ready-base ys stop import-source = λ a h b k d j g m. (refl, λ es. (λ n. tt, λ n. tt))
 
   pub name-next : (c : Scope) {s : Symbol} {k : TokenAndSpan → Spelling → Side F C K s} {xs ys : List TokenAndSpan}
-      {t : Answer F C K s}
-      → Follows hook s (take (λ a. given (any_name c a.token a.span) >>= k a)) xs ys t
+      {t : Answer F C K s} → Follows hook s (take (λ a. given (any_name c a.token a.span) >>= k a)) xs ys t
       → (at_token is_hash (first xs) ≡ false) × (at_token is_lbracket (first xs) ≡ false)
       × (at_token is_lparen (first xs) ≡ false)
   name-next c (took {a = a} d) =
@@ -222,6 +218,5 @@ module _ {F C K : Type 0} (hook : Hook F C K) where
 
   -- `?` and `.`, and what is after them
   pub chained : (b : Bool) (c : Scope) (a d : TokenAndSpan) (us : List TokenAndSpan) → is_question a.token ≡ true
-      → is_dot d.token ≡ true
-      → link {F = F} {C = C} {K = K} b c (a ∷ (d ∷ us)) ≡ chain_link (first us)
+      → is_dot d.token ≡ true → link {F = F} {C = C} {K = K} b c (a ∷ (d ∷ us)) ≡ chain_link (first us)
   chained b c a d us h k = rw (question-is a.token h) (rw k refl)

@@ -35,8 +35,7 @@ no-dots-first c (a ∷ us) h = by-token a.token h
 
 module _ {F C K : Type 0} (hook : Hook F C K) where
   pub picked-args : {c : Scope} {i : Bool} {r : Side F C K (Args i)} {xs ys : List TokenAndSpan} {t : Tree F C K}
-      (p : Production (Args i) c r)
-      → Follows hook (Args i) r xs ys t → args i c xs ≡ pick p
+      (p : Production (Args i) c r) → Follows hook (Args i) r xs ys t → args i c xs ≡ pick p
   picked-args args-end (took {a = a} (held h d)) = rw (rparen-is a.token h) refl
   picked-args {c = c} args-more (part {xs = xs} e d) = rw (not-closed c xs (begins e)) refl
 
@@ -59,21 +58,18 @@ module _ {F C K : Type 0} (hook : Hook F C K) where
       by-token t b s h = refl
 
   pub picked-elements : {c : Scope} {r : Side F C K Elements} {xs ys : List TokenAndSpan} {t : Tree F C K}
-      (p : Production Elements c r)
-      → Follows hook Elements r xs ys t → elements c xs ≡ pick p
+      (p : Production Elements c r) → Follows hook Elements r xs ys t → elements c xs ≡ pick p
   picked-elements elements-end (took {a = a} (held h d)) = rw (rbracket-is a.token h) refl
   picked-elements elements-hole (took {a = a} (held h d)) = rw (comma-is a.token h) refl
   picked-elements {c = c} elements-more (part {xs = xs} e d) = not-listed c xs (begins e)
 
   pub picked-tail : {c : Scope} {r : Side F C K ElementsTail} {xs ys : List TokenAndSpan} {t : Tree F C K}
-      (p : Production ElementsTail c r)
-      → Follows hook ElementsTail r xs ys t → elements_tail c xs ≡ pick p
+      (p : Production ElementsTail c r) → Follows hook ElementsTail r xs ys t → elements_tail c xs ≡ pick p
   picked-tail tail-end (took {a = a} (held h d)) = rw (rbracket-is a.token h) refl
   picked-tail tail-more (took {a = a} (held h d)) = rw (comma-is a.token h) refl
 
   pub picked-item : {c : Scope} {r : Side F C K Item} {xs ys : List TokenAndSpan} {t : Tree F C K}
-      (p : Production Item c r)
-      → Follows hook Item r xs ys t → item c xs ≡ pick p
+      (p : Production Item c r) → Follows hook Item r xs ys t → item c xs ≡ pick p
   picked-item {c = c} item-expr (part {xs = xs} e d) = rw (no-dots-first c xs (begins e)) refl
   picked-item item-spread (took {a = a} (held h d)) = rw (dots-is a.token h) refl
 

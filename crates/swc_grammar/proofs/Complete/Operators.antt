@@ -75,8 +75,7 @@ operator-ends : (c : Scope) (a : TokenAndSpan) (us : List TokenAndSpan) (op : Bi
     → binary_of c.context a.token ≡ Some op → ends_unary (a ∷ us) ≡ true
 operator-ends c a us op h = by-token a.token a.had_line_break a.span h
   where
-    by-token : (t : Token) (b : Bool) (s : Span) → binary_of c.context t ≡ Some op
-        → ends_unary (tk t b s ∷ us) ≡ true
+    by-token : (t : Token) (b : Bool) (s : Span) → binary_of c.context t ≡ Some op → ends_unary (tk t b s ∷ us) ≡ true
     by-token token.BackQuote b s h = absurd cc
     by-token token.QuestionMark b s h = absurd cc
     by-token token.Dot b s h = absurd cc
@@ -110,8 +109,7 @@ in-word c t i h = absurd cc
 module _ {F C K : Type 0} (hook : Hook F C K) where
   climb-takes : (op : BinaryOp) (m : ℕ) (c : Scope) (t : TokenAndSpan) (l r : Tree F C K) (ms ys : List TokenAndSpan)
       → binary_of c.context t.token ≡ Some op → m < precedence_of op → exp_ok op l ≡ true → nullish_ok op l r ≡ true
-      → logical_ok op l ≡ true
-      → run hook (sym (Level (suc (min_right op)))) (inner c) ms ≡ Some (r, ys)
+      → logical_ok op l ≡ true → run hook (sym (Level (suc (min_right op)))) (inner c) ms ≡ Some (r, ys)
       → run hook (climb l m) c (t ∷ ms) ≡ run hook (climb (bin_e (to (span_of l) (span_of r)) op l r) m) c ys
   climb-takes op m c t l r ms ys o lt x n g e =
       knot hook (climb l m) c (t ∷ ms)
@@ -170,7 +168,8 @@ module _ {F C K : Type 0} (hook : Hook F C K) where
       → run hook (sym (Level (suc m))) c xs ≡ run hook (climb t m) (inner c) ys
   operand-climbs m c xs ys t le e =
       knot hook (sym (Level (suc m))) c xs
-      ∙ rw (private-off (nat_lt m 7) c xs (t, ys) e, le-leb m 10 le, e) (last hook (Some 12) (climb t m) (inner c) ys refl)
+      ∙ rw (private-off (nat_lt m 7) c xs (t, ys) e, le-leb m 10 le, e)
+      (last hook (Some 12) (climb t m) (inner c) ys refl)
 
   -- `++` and `--` before an operand, `await`, and prefix operators
   await-picks : (c : Scope) (a : TokenAndSpan) (us : List TokenAndSpan) (x : Choice F C K Unary c)
@@ -220,11 +219,9 @@ module _ {F C K : Type 0} (hook : Hook F C K) where
   left-free op l h = refl
 
   pub op-reads : (n : ℕ) (op : BinaryOp) (c : Scope) (a : TokenAndSpan) (l r : Tree F C K)
-      (xs ms ys : List TokenAndSpan)
-      → suc n ≤ 10
+      (xs ms ys : List TokenAndSpan) → suc n ≤ 10
       → binary_of c.context a.token ≡ Some op → precedence_of op ≡ suc n → nullish_ok op l r ≡ true
-      → logical_ok op l ≡ true
-      → Good F C K (Level (suc (suc n))) r
+      → logical_ok op l ≡ true → Good F C K (Level (suc (suc n))) r
       → Claim hook (Level (suc n)) c xs (a ∷ ms) l → Claim hook (Level (suc (suc n))) (inner c) ms ys r
       → Claim hook (Level (suc n)) c xs ys (bin_e (to (span_of l) (span_of r)) op l r)
   op-reads n op c a l r xs ms ys top o p k g w left right = λ le end b m lt.

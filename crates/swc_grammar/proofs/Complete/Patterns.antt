@@ -202,8 +202,7 @@ module _ {F C K : Type 0} (hook : Hook F C K) where
   pub ready-pat-props : {c : Scope} {r : Side F C K PatProps} (ys : List TokenAndSpan) → Production PatProps c r
       → Ready (Some 5) ys r
   ready-pat-props ys pat-props-end = λ a h. tt
-  ready-pat-props ys (pat-props-more {c = c}) =
-      (refl, λ p. (λ a us h. quiet-pat-prop c a us h, (refl, λ ps. (tt, tt))))
+  ready-pat-props ys (pat-props-more {c = c}) = (refl, λ p. (λ a us h. quiet-pat-prop c a us h, (refl, λ ps. (tt, tt))))
   ready-pat-props ys pat-props-rest = (refl, λ p. (λ i a us h. tt, λ i a h. tt))
 
   pub ready-pat-props-tail : {c : Scope} {r : Side F C K PatPropsTail} (ys : List TokenAndSpan)

@@ -138,16 +138,14 @@ module _ {F C K : Type 0} (hook : Hook F C K) where
   picking p = pick p
 
   pub picked-reads : {c : Scope} {r : Side F C K Primary} (xs ys : List TokenAndSpan) (t : Tree F C K)
-      (p : Production Primary c r) → no_arrow ys ≡ true
-      → exec hook (run hook) (Some 8) (plan r) xs ≡ Some (t, ys)
+      (p : Production Primary c r) → no_arrow ys ≡ true → exec hook (run hook) (Some 8) (plan r) xs ≡ Some (t, ys)
       → exec hook (run hook) (Some 8) (chosen (picking p)) xs ≡ Some (t, ys)
   picked-reads {r = r} xs ys t paren-expr n d = apart-reads hook (run hook) (Some 8) (plan r) xs t ys d n
   picked-reads {r = r} xs ys t async-call n d = apart-reads hook (run hook) (Some 8) (plan r) xs t ys d n
   picked-reads xs ys t p n d = d
 
   pub picked-primary : {c : Scope} {r : Side F C K Primary} {xs ys : List TokenAndSpan} {t : Tree F C K}
-      (p : Production Primary c r)
-      → Follows hook Primary r xs ys t → primary c xs ≡ picking p
+      (p : Production Primary c r) → Follows hook Primary r xs ys t → primary c xs ≡ picking p
   picked-primary {c = c} ident-expr (took {a = a} d) =
       let (n, h, k) = given-held (reference c a.token a.span) _ d in rw (reference-first c a.token a.span n h).0 refl
   picked-primary {c = c} async-ident (took {a = a} {xs = us} d) =

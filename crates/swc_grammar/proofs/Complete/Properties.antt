@@ -111,21 +111,18 @@ not-brace-first (a ∷ us) h = by-token a.token h
     by-token token.RBrace h = absurd cc
     by-token t h = refl
 
-not-colon-first : (xs : List TokenAndSpan) → at_token is_lparen (first xs) ≡ true
-    → at_token is_colon (first xs) ≡ false
+not-colon-first : (xs : List TokenAndSpan) → at_token is_lparen (first xs) ≡ true → at_token is_colon (first xs) ≡ false
 not-colon-first [] h = refl
 not-colon-first (a ∷ us) h = rw (lparen-is a.token h) refl
 
 module _ {F C K : Type 0} (hook : Hook F C K) where
   pub picked-props : {c : Scope} {r : Side F C K Props} {xs ys : List TokenAndSpan} {t : Tree F C K}
-      (p : Production Props c r)
-      → Follows hook Props r xs ys t → props c xs ≡ pick p
+      (p : Production Props c r) → Follows hook Props r xs ys t → props c xs ≡ pick p
   picked-props props-end (took {a = a} (held h d)) = rw (rbrace-is a.token h) refl
   picked-props {c = c} props-more (part {xs = xs} e d) = rw (not-brace-first xs (begins e)) refl
 
   pub picked-props-tail : {c : Scope} {r : Side F C K PropsTail} {xs ys : List TokenAndSpan} {t : Tree F C K}
-      (p : Production PropsTail c r)
-      → Follows hook PropsTail r xs ys t → props_tail c xs ≡ pick p
+      (p : Production PropsTail c r) → Follows hook PropsTail r xs ys t → props_tail c xs ≡ pick p
   picked-props-tail props-tail-end (took {a = a} (held h d)) = rw (rbrace-is a.token h) refl
   picked-props-tail props-tail-more (took {a = a} (held h d)) = rw (comma-is a.token h) refl
 
@@ -142,8 +139,7 @@ module _ {F C K : Type 0} (hook : Hook F C K) where
   key-lit-token c t b s us e h = absurd cc
 
   pub picked-key : {c : Scope} {r : Side F C K Key} {xs ys : List TokenAndSpan} {t : Tree F C K}
-      (p : Production Key c r)
-      → Follows hook Key r xs ys t → key c xs ≡ pick p
+      (p : Production Key c r) → Follows hook Key r xs ys t → key c xs ≡ pick p
   picked-key {c = c} key-name (took {a = a} {xs = us} d) =
       let (n, h, k) = given-held (any_name c a.token a.span) _ d in
       key-word c a.token a.had_line_break a.span us (name-first c a.token a.span n h)
@@ -153,20 +149,17 @@ module _ {F C K : Type 0} (hook : Hook F C K) where
   picked-key key-computed (took {a = a} (held h d)) = rw (lbracket-is a.token h) refl
 
   pub picked-after : {c : Scope} {r : Side F C K AfterKey} {xs ys : List TokenAndSpan} {t : Tree F C K}
-      (p : Production AfterKey c r)
-      → Follows hook AfterKey r xs ys t → after_key c xs ≡ pick p
+      (p : Production AfterKey c r) → Follows hook AfterKey r xs ys t → after_key c xs ≡ pick p
   picked-after after-value (took {a = a} (held h d)) = rw (colon-is a.token h) refl
   picked-after after-shell (part {xs = xs} e d) = rw (not-colon-first xs (begins e)) refl
 
   -- a property that begins with a word, by what is after it
   word-picks : (c : Scope) (a : TokenAndSpan) (us : List TokenAndSpan) (x : Choice F C K Prop c)
-      → is_word a.token ≡ true
-      → prop_word {F = F} {C = C} {K = K} {c = c} (Some a) (first us) ≡ x → prop c (a ∷ us) ≡ x
+      → is_word a.token ≡ true → prop_word {F = F} {C = C} {K = K} {c = c} (Some a) (first us) ≡ x → prop c (a ∷ us) ≡ x
   word-picks c a us x h e = by-token a.token a.had_line_break a.span h e
     where
       by-token : (t : Token) (b : Bool) (s : Span) → is_word t ≡ true
-          → prop_word {F = F} {C = C} {K = K} {c = c} (Some (tk t b s)) (first us) ≡ x
-          → prop c (tk t b s ∷ us) ≡ x
+          → prop_word {F = F} {C = C} {K = K} {c = c} (Some (tk t b s)) (first us) ≡ x → prop c (tk t b s ∷ us) ≡ x
       by-token (token.Word w) b s h e = e
       by-token t b s h e = absurd cc
 
@@ -219,8 +212,7 @@ module _ {F C K : Type 0} (hook : Hook F C K) where
   key-picks (by key-computed (took {a = a} (held h d))) g = rw (lbracket-is a.token h) refl
 
   pub picked-prop : {c : Scope} {r : Side F C K Prop} {xs ys : List TokenAndSpan} {t : Tree F C K}
-      (p : Production Prop c r) → Stop Prop c ys
-      → Follows hook Prop r xs ys t → prop c xs ≡ pick p
+      (p : Production Prop c r) → Stop Prop c ys → Follows hook Prop r xs ys t → prop c xs ≡ pick p
   picked-prop prop-spread stop (took {a = a} (held h d)) = rw (dots-is a.token h) refl
   picked-prop prop-generator stop (took {a = a} (held h d)) = rw (star-is a.token h) refl
   picked-prop {c = c} prop-short stop (took {a = a} {xs = us} d) =
@@ -232,14 +224,11 @@ module _ {F C K : Type 0} (hook : Hook F C K) where
       let e = checked-next hook is_equals k in
       word-picks c a us (pick prop-cover) (name-first c a.token a.span n h) (rw (equals-apart (first us) e, e) refl)
   picked-prop prop-key stop (part e (part e' d)) = key-picks e (begins e')
-  picked-prop {c = c} prop-async stop (took {a = a} {xs = us} (held h (part e d))) =
-      async-picks c a us h (begins e)
+  picked-prop {c = c} prop-async stop (took {a = a} {xs = us} (held h (part e d))) = async-picks c a us h (begins e)
   picked-prop {c = c} prop-async-generator stop (took {a = a} {xs = us} (held h d)) =
       async-star-picks c a us h (next-passes hook is_star d)
-  picked-prop {c = c} prop-getter stop (took {a = a} {xs = us} (held h (part e d))) =
-      get-picks c a us h (begins e)
-  picked-prop {c = c} prop-setter stop (took {a = a} {xs = us} (held h (part e d))) =
-      set-picks c a us h (begins e)
+  picked-prop {c = c} prop-getter stop (took {a = a} {xs = us} (held h (part e d))) = get-picks c a us h (begins e)
+  picked-prop {c = c} prop-setter stop (took {a = a} {xs = us} (held h (part e d))) = set-picks c a us h (begins e)
 
   pub ready-props : {c : Scope} {r : Side F C K Props} (ys : List TokenAndSpan) → Production Props c r
       → Ready (Some 5) ys r

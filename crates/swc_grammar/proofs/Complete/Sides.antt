@@ -25,13 +25,11 @@ Claim hook (Level zero) c xs ys t = Unit {0}
 Claim hook (Level (suc n)) c xs ys t = n ≤ 10 → ends_unary ys ≡ true → Bound c (min (suc n) 10) ys
     → (m : ℕ) → m ≤ n → run hook (sym (Level (suc m))) c xs ≡ run hook (climb t m) (inner c) ys
 Claim hook Exprs c xs ys t = Stop Assign c ys → run hook (sym Expr) c xs ≡ run hook (seqs (items_of t)) c ys
-Claim hook (Left b) c xs ys t =
-    no_arrow ys ≡ true → run hook (sym (Lhs b)) c xs ≡ run hook (links b t) (inner c) ys
+Claim hook (Left b) c xs ys t = no_arrow ys ≡ true → run hook (sym (Lhs b)) c xs ≡ run hook (links b t) (inner c) ys
 Claim hook s c xs ys t = Stop s c ys → run hook (sym s) c xs ≡ Some (t, ys)
 
 pub starting : (Q : List TokenAndSpan → Type 0) (P : Token → Bool) (xs : List TokenAndSpan) → at_token P (first xs)
-    ≡ true
-    → ((a : TokenAndSpan) (us : List TokenAndSpan) → P a.token ≡ true → Q (a ∷ us)) → Q xs
+    ≡ true → ((a : TokenAndSpan) (us : List TokenAndSpan) → P a.token ≡ true → Q (a ∷ us)) → Q xs
 starting Q P [] h f = absurd cc
 starting Q P (a ∷ us) h f = f a us h
 
@@ -139,8 +137,7 @@ module _ {F C K : Type 0} (hook : Hook F C K) where
   checked-gave (held h d) = gave-all d
 
   pub next-passes : (p : Token → Bool) {s : Symbol} {r : TokenAndSpan → Side F C K s} {xs ys : List TokenAndSpan}
-      {t : Answer F C K s} → Follows hook s (take (λ a. check (p a.token) (r a))) xs ys t
-      → at_token p (first xs) ≡ true
+      {t : Answer F C K s} → Follows hook s (take (λ a. check (p a.token) (r a))) xs ys t → at_token p (first xs) ≡ true
   next-passes p (took (held h d)) = h
 
   pub checked-next : (p : Token → Bool) {s : Symbol} {b : Bool} {r : TokenAndSpan → Side F C K s}

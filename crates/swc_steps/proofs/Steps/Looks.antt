@@ -34,7 +34,8 @@ unfit_seen None h = refl
 unfit_seen (Some t) h = unfit_token t.token h
 
 -- a refusal other than out of memory is made where a token is current, or at the end
-refused_at : (o : Option TokenAndSpan) (failed : Bool) (at : BytePos) (e r : Error) → r ≡ refusal o failed at e → r.kind ≢ OutOfMemory → failed ≡ true → IsSome o
+refused_at : (o : Option TokenAndSpan) (failed : Bool) (at : BytePos) (e r : Error) → r ≡ refusal o failed at e
+    → r.kind ≢ OutOfMemory → failed ≡ true → IsSome o
 refused_at None true at e r h n f = absurd (n (ap (λ x. x.kind) h))
 refused_at None false at e r h n f = cc
 refused_at (Some t) failed at e r h n f = refl
@@ -50,10 +51,14 @@ module _ {S : Type 0} {model : Model S} where
   }
 
   pub looked_later : {b c d : Buffer S} → Laws model → Looked model b c → Served model c d → Served model b d
-  looked_later laws l s = record { before = λ f. let h = s.before f in (Looked-served laws l (Looked-some laws l h.1)).before h.0 }
+  looked_later laws l s = record {
+    before = λ f. let h = s.before f in
+        (Looked-served laws l (Looked-some laws l h.1)).before h.0;
+  }
 
   -- a refusal other than out of memory is made where the source runs, or a token is current
-  pub here_refused : {b h c : Buffer S} {e : Error} → Looked model b h → Refuses model h e c → e.kind ≢ OutOfMemory → Here model b h
+  pub here_refused : {b h c : Buffer S} {e : Error} → Looked model b h → Refuses model h e c → e.kind ≢ OutOfMemory
+      → Here model b h
   here_refused {h = h} {c = c} l r n =
       let laws = r.spends.laws in
       let took = r.spends.read.took in
@@ -66,17 +71,22 @@ module _ {S : Type 0} {model : Model S} where
         end = λ e. (l.end e).1 (false_from_ne_true (model.state h.iter).failed (λ f. none_some h.cur e (holds f)));
       }
 
-  seen_served : {b c d : Buffer S} (e : Buffer S → Error) (r : Error) → Looked model b c → Lives model c d → Laws model →
-      r ≡ refusal (current c) (model.state (source c)).failed (last_position c) (e c) → r.kind ≢ OutOfMemory → Served model b d
+  seen_served : {b c d : Buffer S} (e : Buffer S → Error) (r : Error) → Looked model b c → Lives model c d
+      → Laws model →
+      r ≡ refusal (current c) (model.state (source c)).failed (last_position c) (e c) → r.kind ≢ OutOfMemory
+      → Served model b d
   seen_served {c = c} e r looked lives laws answer n = record {
-    before = λ f. let g = lives f in (Looked-served laws looked (refused_at (current c) _ (last_position c) (e c) r answer n g)).before g;
+    before = λ f. let g = lives f in
+        (Looked-served laws looked (refused_at (current c) _ (last_position c) (e c) r answer n g)).before g;
   }
 
-  refused_served : (laws : Laws model) {b c : Buffer S} (e : Buffer S → Error) (r : Error) → Refused model b e r c → r.kind ≢ OutOfMemory → Served model b c
+  refused_served : (laws : Laws model) {b c : Buffer S} (e : Buffer S → Error) (r : Error) → Refused model b e r c
+      → r.kind ≢ OutOfMemory → Served model b c
   refused_served laws e r h n = seen_served e r h.looked h.lives laws h.answer n
 
   -- from what the buffer's calls ensure
-  pub refused : (laws : Laws model) {b c : Buffer S} (e : Buffer S → Error) (r : Error) → ((here : Buffer S) → (e here).kind ≢ ParserFailed) → Refused model b e r c → Refuses model b r c
+  pub refused : (laws : Laws model) {b c : Buffer S} (e : Buffer S → Error) (r : Error)
+      → ((here : Buffer S) → (e here).kind ≢ ParserFailed) → Refused model b e r c → Refuses model b r c
   refused laws {b} {c} e r own h = record {
     spends = record { laws = laws; taken = _; read = Read-late laws b h.here c _ h.looked.look.read h.read };
     kind = Refused-kind model b c e r own h;
@@ -84,7 +94,8 @@ module _ {S : Type 0} {model : Model S} where
   }
 
   -- the list to come begins with what was seen
-  pub begins : {b c : Buffer S} (o : Option TokenAndSpan) → c.cur ≡ o → Here model b c → (ys : List TokenAndSpan) → Future model c ys → first ys ≡ seen_of o
+  pub begins : {b c : Buffer S} (o : Option TokenAndSpan) → c.cur ≡ o → Here model b c → (ys : List TokenAndSpan)
+      → Future model c ys → first ys ≡ seen_of o
   begins {c = c} None e h ys f = ap first (Future-end model c ys e (h.looked.end e).0 (h.end e) f)
   begins {c = c} (Some t) e h ys f = ap first (Future-current model c t ys e f).1
 
@@ -104,12 +115,15 @@ module _ {S : Type 0} {model : Model S} where
   }
 
   -- the list to come begins with the current token
-  pub known_first : (laws : Laws model) (b : Buffer S) → IsSome (current b) → (ts : List TokenAndSpan) → Known model b ts → first ts ≡ seen b
+  pub known_first : (laws : Laws model) (b : Buffer S) → IsSome (current b) → (ts : List TokenAndSpan)
+      → Known model b ts → first ts ≡ seen b
   known_first laws b some ts k = begins b.cur refl (here_now laws b some) ts (Known-Future laws b ts k)
 
   -- a look, which tells the end from a source that has failed
-  pub looks : (laws : Laws model) (b c : Buffer S) (r : Result Bool Error) → Looked model b c → IfOk r (λ v. Seen model b v c) →
-      IfErr r (λ e. (e ≡ no_memory (last_position c)) × Looked model b c × (current c ≡ None) × ((model.state (source c)).failed ≡ true)) → Looks model b r c
+  pub looks : (laws : Laws model) (b c : Buffer S) (r : Result Bool Error) → Looked model b c
+      → IfOk r (λ v. Seen model b v c) →
+      IfErr r (λ e. (e ≡ no_memory (last_position c)) × Looked model b c × (current c ≡ None)
+      × ((model.state (source c)).failed ≡ true)) → Looks model b r c
   looks laws b c (Ok true) l p q = record {
     laws = laws;
     looked = l;
@@ -122,14 +136,25 @@ module _ {S : Type 0} {model : Model S} where
     served = record { before = λ f. absurd (let e : true ≡ false = sym f ∙ (p.end refl).2 in cc) };
     end = λ e. (p.end refl).3;
   }
-  looks laws b c (Err e) l p q = record { spends = record { laws = laws; taken = []; read = l.look.read }; kind = ap (λ x. x.kind) q.0 }
+  looks laws b c (Err e) l p q = record {
+    spends = record { laws = laws; taken = []; read = l.look.read };
+    kind =
+        ap (λ x. x.kind) q.0;
+  }
 
   -- a token is current, and no error; or the refusal of what is
   pub required : {T : Type 0} (laws : Laws model) (b c : Buffer S) (r : Result T Error) →
       OnOk r (Looked model b c × IsSome (current c) × (error_here (current c) ≡ None)) →
-      IfErr r (λ e. (x : Refused model b (λ here. unfit (current here) (last_position here) Eof) e c) × (is_fit (current x.here) ≡ false)) →
+      IfErr r (λ e. (x : Refused model b (λ here. unfit (current here) (last_position here) Eof) e c)
+      × (is_fit (current x.here) ≡ false)) →
       MatchResult r (λ t. Here model b c) (λ e. Unfit model b e c)
-  required laws b c (Ok t) p q = record { laws = laws; looked = p.0; served = Looked-served laws p.0 p.1; end = λ e. absurd (none_some c.cur e p.1) }
+  required laws b c (Ok t) p q = record {
+    laws = laws;
+    looked = p.0;
+    served = Looked-served laws p.0 p.1;
+    end =
+        λ e. absurd (none_some c.cur e p.1);
+  }
   required laws b c (Err e) p q = let x = q.0 in record {
     at = x.here;
     looked = x.looked;
@@ -137,24 +162,40 @@ module _ {S : Type 0} {model : Model S} where
     unfit = unfit_seen x.here.cur q.1;
     refuses = record {
       spends = record { laws = laws; taken = _; read = x.read };
-      kind = Refused-kind model b c (λ here. unfit (current here) (last_position here) Eof) e (λ here. unfit-kind (current here) (last_position here) Eof ParserFailed (λ h. cc) (λ h. cc)) x;
-      served = λ n. seen_served (λ here. unfit (current here) (last_position here) Eof) e (looked_again laws x.looked) x.lives laws x.answer n;
+      kind = Refused-kind model b c (λ here. unfit (current here) (last_position here) Eof) e
+          (λ here. unfit-kind (current here) (last_position here) Eof ParserFailed (λ h. cc) (λ h. cc)) x;
+      served = λ n. seen_served (λ here. unfit (current here) (last_position here) Eof) e
+          (looked_again laws x.looked) x.lives laws x.answer n;
     };
   }
 
   -- what is said of a token that was consumed, and of its place
-  pub at_was : {X : Type 0} (f : Token → Span → Option X) (x : X) {b c : Buffer S} {t : Token} (h : Bumped model b t c) (at : Span) → at ≡ c.prev_span → f (plain_token t) at ≡ Some x → f (plain_token h.was.token) h.was.span ≡ Some x
+  pub at_was : {X : Type 0} (f : Token → Span → Option X) (x : X) {b c : Buffer S} {t : Token} (h : Bumped model b t c)
+      (at : Span) → at ≡ c.prev_span → f (plain_token t) at ≡ Some x → f (plain_token h.was.token) h.was.span ≡ Some x
   at_was f x {t = t} h at p q =
       let place : at ≡ h.was.span = p ∙ ap (λ z. z.prev_span) h.now in
       ap (λ v. f (plain_token v) h.was.span) (sym h.token) ∙ ap (λ v. f (plain_token t) v) (sym place) ∙ q
 
   -- a look, and then the token of a literal
-  pub literal_took : {F C K : Type 0} {t : Tree F C K} {b c d : Buffer S} {k : Token} → Here model b c → (h : Bumped model c k d) → lit_of (plain h.was).token (plain h.was).span ≡ Some t → TookLiteral model t b d
-  literal_took {b = b} {c = c} {d = d} l h e = record { token = plain h.was; read = Read-late l.laws b c d (plain h.was ∷ []) l.looked.look.read h.read; literal = e }
+  pub literal_took : {F C K : Type 0} {t : Tree F C K} {b c d : Buffer S} {k : Token} → Here model b c
+      → (h : Bumped model c k d) → lit_of (plain h.was).token (plain h.was).span ≡ Some t → TookLiteral model t b d
+  literal_took {b = b} {c = c} {d = d} l h e = record {
+    token = plain h.was;
+    read =
+        Read-late l.laws b c d (plain h.was ∷ []) l.looked.look.read h.read;
+    literal = e;
+  }
 
   pub here_leads : {b c : Buffer S} → Here model b c → Leads model b c
   here_leads h = record { laws = h.laws; taken = []; read = h.looked.look.read; lives = served_lives h.served }
 
   -- the same, and a look ahead
-  pub told_leads : {V : Type 0} {test : List TokenAndSpan → V} {v : V} {b c d : Buffer S} → Here model b c → Told model test v c d → Leads model b d
-  told_leads h t = leads_then (here_leads h) (record { laws = t.laws; taken = []; read = t.still.read; lives = t.lives })
+  pub told_leads : {V : Type 0} {test : List TokenAndSpan → V} {v : V} {b c d : Buffer S} → Here model b c
+      → Told model test v c d → Leads model b d
+  told_leads h t = leads_then (here_leads h) (record {
+    laws = t.laws;
+    taken = [];
+    read = t.still.read;
+    lives =
+        t.lives;
+  })

@@ -35,7 +35,8 @@ loop-tokens-smaller c =
 -- nothing is open where the text ends
 pub returns-clause-nested : goal.returns-clause-nested
 returns-clause-nested c =
-    let none : ¬ (0 < length c.loop-tokens.templates.brackets.items) = λ some. let yes = c.is_open.ensures.1 some in cc in
+    let none : ¬ (0 < length c.loop-tokens.templates.brackets.items) = λ some. let yes =
+    c.is_open.ensures.1 some in cc in
     let last = rw c.in_default.is at c.in_ok-token.ensures.closed in
     AreNested_end _ _ _ c.loop-tokens.invariant.nests none last
 

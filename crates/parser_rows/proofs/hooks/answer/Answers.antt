@@ -11,8 +11,10 @@ returns-in_err-emit_err-in-Records g c = λ reads.
     let refused = c.in_err-emit_err-in-Records.ensures.refused in
     let now = c.args.input.now in
     rw (p.1, p.2)
-    (refuses g.I.Tokens.model g.met.I.Tokens.laws reads now now c.consume-span.new.input c.emit_err.new.self [] refused.0 _
-    (Read-same g.met.I.Tokens.laws now) c.consume-span.ensures.took refused.1 (λ own. let k = sym (ap (λ e. e.kind) refused.2) ∙ own in cc))
+    (refuses g.I.Tokens.model g.met.I.Tokens.laws reads now now c.consume-span.new.input c.emit_err.new.self []
+    refused.0 _
+    (Read-same g.met.I.Tokens.laws now) c.consume-span.ensures.took refused.1
+    (λ own. let k = sym (ap (λ e. e.kind) refused.2) ∙ own in cc))
 
 pub returns-in_ok-emit_err-in-Records : goal.returns-in_ok-emit_err-in-Records
 returns-in_ok-emit_err-in-Records g c = λ reads.
@@ -32,5 +34,6 @@ returns-in-WantsMemory g c = λ reads.
 pub returns-in_default : goal.returns-in_default
 returns-in_default g c = λ reads.
     let now = c.args.input.now in
-    refuses g.I.Tokens.model g.met.I.Tokens.laws reads now now c.consume-span.new.input c.look_on.new.input [] [] c.refusal.result
+    refuses g.I.Tokens.model g.met.I.Tokens.laws reads now now c.consume-span.new.input c.look_on.new.input [] []
+    c.refusal.result
     (Read-same g.met.I.Tokens.laws now) c.consume-span.ensures.took c.look_on.ensures c.refusal.ensures

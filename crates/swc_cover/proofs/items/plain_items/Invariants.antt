@@ -4,5 +4,4 @@ use Rattle.swc_nodes.specs.NodeParts.{flat}
 use Rattle.swc_cover.proofs.items.plain_items.Given as goal
 
 abbrev pub invariant-loop-item : goal.invariant-loop-item
-invariant-loop-item l = l.pats.items ++ flat listed (drop l.item-index l.item-items) ≡ flat listed
-    l.item-items
+invariant-loop-item l = l.pats.items ++ flat listed (drop l.item-index l.item-items) ≡ flat listed l.item-items

@@ -9,17 +9,20 @@ pub returns-in-Ok-clause-checks : goal.returns-in-Ok-clause-checks
 returns-in-Ok-clause-checks g c =
     let ts = items_at c.args.nodes.now c.args.items.now.items in
     let x = from-none c.new-faults.ensures.items refl c.in-Ok.ensures in
-    on-ok-as c.record_found.result (found-whole x (params-quiet c.args.trailing_comma ts) (quiet-params c.args.trailing_comma ts)) c.record_found.ensures.checks
+    on-ok-as c.record_found.result (found-whole x (params-quiet c.args.trailing_comma ts)
+    (quiet-params c.args.trailing_comma ts)) c.record_found.ensures.checks
 
 pub returns-in-Ok-clause-refuses : goal.returns-in-Ok-clause-refuses
 returns-in-Ok-clause-refuses g c =
     let ts = items_at c.args.nodes.now c.args.items.now.items in
     let x = from-none c.new-faults.ensures.items refl c.in-Ok.ensures in
-    if_err-as c.record_found.result (λ e h. found-unfit x (params-quiet c.args.trailing_comma ts) h) c.record_found.ensures.refuses
+    if_err-as c.record_found.result (λ e h. found-unfit x (params-quiet c.args.trailing_comma ts) h)
+    c.record_found.ensures.refuses
 
 pub returns-clause-refuses : goal.returns-clause-refuses
 returns-clause-refuses g c =
-    unfit-memory g.met.I.Tokens.laws c.args.input.now (last_position c.args.input.now) c.out_of_memory.result c.out_of_memory.ensures
+    unfit-memory g.met.I.Tokens.laws c.args.input.now (last_position c.args.input.now) c.out_of_memory.result
+    c.out_of_memory.ensures
 
 pub returns-in-Ok-clause-exact : goal.returns-in-Ok-clause-exact
 returns-in-Ok-clause-exact g c =

@@ -7,7 +7,12 @@ use Rattle.swc_steps.proofs.Steps.{check_passes, forgoes_later}
 use Rattle.swc_cover.proofs.noting.record_all.Goals as goal
 
 pub loop-fault-init : goal.loop-fault-init
-loop-fault-init g c = (check_passes true g.met.I.Tokens.laws _ refl, omega arith, λ n. refl, notes-none g.I.Tokens.model _)
+loop-fault-init g c = (
+  check_passes true g.met.I.Tokens.laws _ refl,
+  omega arith,
+  λ n. refl,
+  notes-none g.I.Tokens.model _,
+)
 
 pub returns-in_err-emit_err-clause-checks : goal.returns-in_err-emit_err-clause-checks
 returns-in_err-emit_err-clause-checks g c =
@@ -32,7 +37,8 @@ loop-fault-preserved g c =
 
 pub returns-clause-checks : goal.returns-clause-checks
 returns-clause-checks g c =
-    faults-all c.deref-fault-items.result.now c.args.faults.now.items c.loop-fault.fault-index c.deref-fault-items.ensures.value
+    faults-all c.deref-fault-items.result.now c.args.faults.now.items c.loop-fault.fault-index
+    c.deref-fault-items.ensures.value
     (let h = c.loop-fault-test.false in omega arith) c.loop-fault.invariant.0
 
 pub returns-clause-notes : goal.returns-clause-notes

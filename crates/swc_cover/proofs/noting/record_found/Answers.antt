@@ -15,7 +15,8 @@ returns-in_err-record_all-clause-refuses g c =
 pub returns-in-Some-clause-refuses : goal.returns-in-Some-clause-refuses
 returns-in-Some-clause-refuses g c = (
   refuses_later c.in_ok-record_all.ensures.checks.leads
-      (refused g.met.I.Tokens.laws (λ here. no_pattern c.in-Some.span) _ (λ here. λ e. cc) (refused-at c.in-Some.span c.in_order.result InvalidPat c.in_order.ensures c.syntax_error.ensures)),
+      (refused g.met.I.Tokens.laws (λ here. no_pattern c.in-Some.span) _ (λ here. λ e. cc)
+      (refused-at c.in-Some.span c.in_order.result InvalidPat c.in_order.ensures c.syntax_error.ensures)),
   λ n. subst IsSome (sym c.in-Some.is) refl,
 )
 

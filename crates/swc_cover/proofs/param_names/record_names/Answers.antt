@@ -20,9 +20,11 @@ pub loop-span-preserved : goal.loop-span-preserved
 loop-span-preserved g c =
     let done = c.in_ok-emit_strict_mode_err.ensures in
     let checks = strict_checked g.I.Tokens.model {T = Unit {0}} g.met.I.Tokens.laws _ _ (Ok tt)
-    (name_error (get_or c.deref-span-items.result.now c.loop-span.span-index _)) done.read done.silent done.recorded tt in
+    (name_error (get_or c.deref-span-items.result.now c.loop-span.span-index _)) done.read done.silent
+    done.recorded tt in
     let found = errors.names-more c.deref-span-items.result.now c.loop-span.span-index _ c.loop-span-test.true in (
-      names-more c.deref-span-items.result.now c.loop-span.span-index c.loop-span-test.true c.loop-span.invariant.0 checks,
+      names-more c.deref-span-items.result.now c.loop-span.span-index c.loop-span-test.true c.loop-span.invariant.0
+          checks,
       let a = c.loop-span.invariant.1 in let b = done.read.lower in omega arith,
       rw (found) (errors.strict-more _ c.loop-span.invariant.0.leads.read.context
           c.loop-span.invariant.2 (λ i. (done.silent i).1) done.recorded done.rest),

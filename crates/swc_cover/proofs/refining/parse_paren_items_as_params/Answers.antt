@@ -10,16 +10,19 @@ pub returns-in_err-check_items-clause-unrefined : goal.returns-in_err-check_item
 returns-in_err-check_items-clause-unrefined g c =
     let p = err_from_is_err_and c.from_residual.result c.from_residual.ensures.1 in rw (p.1, p.2)
     (record {
-      refuses = items-unfit c.args.trailing_comma c.args.items.now.items c.requires c.in_err-check_items.ensures.refuses;
+      refuses = items-unfit c.args.trailing_comma c.args.items.now.items c.requires
+          c.in_err-check_items.ensures.refuses;
       kept = parts-kept (flat item_parts c.args.items.now.items) c.requires;
     })
 
 pub check_param_names-requires : goal.check_param_names-requires
 check_param_names-requires g c = apart-any c.in-Ok.ensures.made.apart
 
-pub returns-in_err-check_param_names-in-Ok-clause-unrefined : goal.returns-in_err-check_param_names-in-Ok-clause-unrefined
+pub returns-in_err-check_param_names-in-Ok-clause-unrefined :
+    goal.returns-in_err-check_param_names-in-Ok-clause-unrefined
 returns-in_err-check_param_names-in-Ok-clause-unrefined g c =
-    let p = err_from_is_err_and c.from_residual-in_err-check_param_names-in-Ok.result c.from_residual-in_err-check_param_names-in-Ok.ensures.1 in rw (p.1, p.2)
+    let p = err_from_is_err_and c.from_residual-in_err-check_param_names-in-Ok.result
+    c.from_residual-in_err-check_param_names-in-Ok.ensures.1 in rw (p.1, p.2)
     (record {
       refuses = forgoes-after c.in_ok-check_items.ensures.checks c.in_err-check_param_names-in-Ok.ensures.checks;
       kept = c.in-Ok.ensures.kept;
@@ -27,7 +30,8 @@ returns-in_err-check_param_names-in-Ok-clause-unrefined g c =
 
 pub returns-in_ok-check_param_names-in-Ok-clause-refined : goal.returns-in_ok-check_param_names-in-Ok-clause-refined
 returns-in_ok-check_param_names-in-Ok-clause-refined g c =
-    items-refined c.args.trailing_comma c.args.items.now.items c.in-Ok.pats.items c.requires c.in_ok-check_items.ensures.checks
+    items-refined c.args.trailing_comma c.args.items.now.items c.in-Ok.pats.items c.requires
+    c.in_ok-check_items.ensures.checks
     c.in_ok-check_param_names-in-Ok.ensures.checks c.in-Ok.ensures.kept c.in-Ok.ensures.made
 
 pub returns-in_err-check_items-clause-unclear : goal.returns-in_err-check_items-clause-unclear
@@ -43,7 +47,8 @@ returns-in_err-check_param_names-in-Ok-clause-unclear g c =
 
 pub returns-in_ok-check_param_names-in-Ok-clause-exact : goal.returns-in_ok-check_param_names-in-Ok-clause-exact
 returns-in_ok-check_param_names-in-Ok-clause-exact g c =
-    heads-then (pats_at c.refine_items.new.nodes c.in-Ok.pats.items) c.in_ok-check_items.ensures.exact c.in_ok-check_param_names-in-Ok.ensures.checks
+    heads-then (pats_at c.refine_items.new.nodes c.in-Ok.pats.items) c.in_ok-check_items.ensures.exact
+    c.in_ok-check_param_names-in-Ok.ensures.checks
 
 pub returns-in_err-check_items-clause-judges : goal.returns-in_err-check_items-clause-judges
 returns-in_err-check_items-clause-judges g c =
@@ -59,7 +64,8 @@ returns-in_err-check_param_names-in-Ok-clause-judges g c =
 pub returns-in_ok-check_param_names-in-Ok-clause-judges : goal.returns-in_ok-check_param_names-in-Ok-clause-judges
 returns-in_ok-check_param_names-in-Ok-clause-judges g c =
     let checked = c.in_ok-check_items.ensures in
-    let same = ap (λ k. names_bound k (pats_at c.refine_items.new.nodes c.in-Ok.pats.items)) checked.checks.leads.read.context
+    let same = ap (λ k. names_bound k (pats_at c.refine_items.new.nodes c.in-Ok.pats.items))
+    checked.checks.leads.read.context
     ∙ ap (λ ps. names_bound (context g.I.Tokens.model c.args.p.now.input) ps) c.in-Ok.ensures.made.stands in
     judged-params g.I.Tokens.model checked.judges
     (rw (sym same) c.in_ok-check_param_names-in-Ok.ensures.notes)

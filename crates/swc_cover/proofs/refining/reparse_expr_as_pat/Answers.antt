@@ -5,7 +5,8 @@ use Rattle.swc_cover.proofs.refining.reparse_expr_as_pat.Goals as goal
 
 pub returns-in-Ok-clause-refined : goal.returns-in-Ok-clause-refined
 returns-in-Ok-clause-refined g c =
-    refined-is c.args.pat_type c.args.id c.in-Ok.pat c.requires c.in_ok-check_pat.ensures.checks c.in-Ok.ensures.kept c.in-Ok.ensures.made
+    refined-is c.args.pat_type c.args.id c.in-Ok.pat c.requires c.in_ok-check_pat.ensures.checks c.in-Ok.ensures.kept
+    c.in-Ok.ensures.made
 
 pub returns-in_err-check_pat-clause-unclear : goal.returns-in_err-check_pat-clause-unclear
 returns-in_err-check_pat-clause-unclear g c =

@@ -7,7 +7,8 @@ use Rattle.swc_ecma_parser.proofs.arrow_params.parse_arrow_params.Goals as goal
 pub returns-in_err-list : goal.returns-in_err-list
 returns-in_err-list g c =
     let p = err_from_is_err_and c.from_residual.result c.from_residual.ensures.1 in
-    rw (p.1, p.2) (heads-unread g.B.BodyForms.forms {m = c.parse_arguments.new.p} c.in_err-list.ensures.reads c.parse_arguments.ensures.grows)
+    rw (p.1, p.2) (heads-unread g.B.BodyForms.forms {m =
+    c.parse_arguments.new.p} c.in_err-list.ensures.reads c.parse_arguments.ensures.grows)
 
 pub parse_paren_items_as_params-requires : goal.parse_paren_items_as_params-requires
 parse_paren_items_as_params-requires g c = apart-down (args_parts c.in_ok-list.list.items) c.in_ok-list.ensures.from
@@ -17,5 +18,6 @@ returns g c =
     let read = c.in_ok-list.ensures in
     let made = c.parse_paren_items_as_params.ensures in
     heads-made g.B.BodyForms.forms g.met.B.Bodies.lawful c.parse_arguments.new.p c.in_ok-list.list
-    c.parse_paren_items_as_params.result read.reads c.parse_arguments.ensures.grows read.from made.refined made.unrefined
+    c.parse_paren_items_as_params.result read.reads c.parse_arguments.ensures.grows read.from made.refined
+    made.unrefined
     made.exact made.unclear

@@ -4,4 +4,5 @@ use Rattle.swc_ecma_parser.proofs.replaying.read_kept.Goals as goal
 pub returns : goal.returns
 returns g c =
     fresh c.new-source.result c.args.tokens.items c.args.ctx c.args.syntax c.args.target c.new_from-parser.result
-    c.new-source.ensures.state c.new_from-parser.ensures.fresh c.new_from-parser.ensures.runs c.limit_nesting.ensures c.parse_expr-read.ensures.promised
+    c.new-source.ensures.state c.new_from-parser.ensures.fresh c.new_from-parser.ensures.runs c.limit_nesting.ensures
+    c.parse_expr-read.ensures.promised

@@ -5,9 +5,15 @@ use Rattle.swc_ecma_parser.proofs.WholeList.{headline-in, headline-lost}
 use Rattle.swc_ecma_parser.proofs.text.parse_text_expr.Goals as goal
 
 pub returns-in-Ok-clause-headline : goal.returns-in-Ok-clause-headline
-returns-in-Ok-clause-headline g c = λ heeded modern. headline-in (text_state c.in-Ok.source) (new_state Whole 0 Operand c.args.text.now c.args.ctx c.args.syntax c.args.target) c.in-Ok.ensures
-    (record { known = new_known Whole 0 Operand c.args.text.now c.args.ctx c.args.syntax c.args.target modern; clean = refl })
+returns-in-Ok-clause-headline g c = λ heeded modern. headline-in (text_state c.in-Ok.source)
+    (new_state Whole 0 Operand c.args.text.now c.args.ctx c.args.syntax c.args.target) c.in-Ok.ensures
+    (record {
+      known = new_known Whole 0 Operand c.args.text.now c.args.ctx c.args.syntax c.args.target modern;
+      clean =
+          refl;
+    })
     c.read_whole_expr.ensures.headline heeded
 
 pub returns-in-Err-clause-headline : goal.returns-in-Err-clause-headline
-returns-in-Err-clause-headline g c = λ heeded modern. headline-lost c.out_of_memory.result (ap (λ e. e.kind) c.out_of_memory.ensures)
+returns-in-Err-clause-headline g c = λ heeded modern. headline-lost c.out_of_memory.result
+    (ap (λ e. e.kind) c.out_of_memory.ensures)

@@ -14,5 +14,6 @@ pub returns : goal.returns
 returns g c =
     let at = tree_at c.args.nodes.now in
     IfOk-weaker c.find_due.result _ _
-    (λ names e. e ∙ ap (λ ds. names_due false at (map due_of ds)) c.in_ok-due.ensures.items ∙ append-nil (cover_names (at c.args.expr.0)))
+    (λ names e. e ∙ ap (λ ds. names_due false at (map due_of ds)) c.in_ok-due.ensures.items ∙ append-nil
+    (cover_names (at c.args.expr.0)))
     c.find_due.ensures

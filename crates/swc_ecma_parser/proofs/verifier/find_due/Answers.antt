@@ -24,7 +24,8 @@ loop-last-preserved-in-Continue-1 g c =
     record {
       valid = noted-within ns c.args.in_arrows a b name popped c.loop-last.invariant.valid;
       rest =
-          noted-names ns c.args.in_arrows a b name popped c.loop-last.names.items _ _ c.in_ok-push-in-Name.ensures.items rest;
+          noted-names ns c.args.in_arrows a b name popped c.loop-last.names.items _ _
+          c.in_ok-push-in-Name.ensures.items rest;
     }
 
 pub get-requires : goal.get-requires
@@ -34,7 +35,8 @@ get-requires g c =
     let b = map due_of c.pop.new.self.items in
     let popped = taken c.loop-last.due.items c.pop.new.self.items c.in-Some.last c.in-Some.ensures.items
     ∙ ap (λ x. b ++ due_of x ∷ []) c.in-Part.is in
-    rw (c.number.ensures) (last-below ns c.args.in_arrows a b (part_of c.in-Part.part).at popped c.loop-last.invariant.valid)
+    rw (c.number.ensures) (last-below ns c.args.in_arrows a b
+    (part_of c.in-Part.part).at popped c.loop-last.invariant.valid)
 
 pub loop-last-smaller : goal.loop-last-smaller
 loop-last-smaller g c =
@@ -63,10 +65,12 @@ loop-last-preserved g c =
     record {
       valid = gone-within ns c.args.in_arrows a b at popped valid x r stood put;
       rest =
-          gone-names ns c.args.in_arrows a b at popped valid x r stood put c.loop-last.names.items _ c.loop-last.invariant.rest;
+          gone-names ns c.args.in_arrows a b at popped valid x r stood put c.loop-last.names.items _
+          c.loop-last.invariant.rest;
     }
 
 pub returns : goal.returns
 returns g c =
     let empty : c.loop-last.due.items ≡ [] = grind (arith, common_steps, c.in_default.ensures.cases) in
-    found-all c.args.in_arrows (tree_at c.args.nodes.now) c.loop-last.names.items empty c.reverse.ensures.items c.loop-last.invariant.rest
+    found-all c.args.in_arrows (tree_at c.args.nodes.now) c.loop-last.names.items empty c.reverse.ensures.items
+    c.loop-last.invariant.rest

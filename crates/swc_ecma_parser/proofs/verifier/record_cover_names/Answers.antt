@@ -25,9 +25,11 @@ returns-in_err-emit_err-clause-read g c =
 
 pub loop-name-preserved : goal.loop-name-preserved
 loop-name-preserved g c =
-    let is = more-left c.args.names.now c.loop-name.name-index _ c.in_order.result c.loop-name-test.true c.in_order.ensures in
+    let is = more-left c.args.names.now c.loop-name.name-index _ c.in_order.result c.loop-name-test.true
+    c.in_order.ensures in
     let done = c.in_ok-emit_err.ensures in
-    midway-more g.met.I.Tokens.laws _ _ is c.loop-name.invariant (λ s. (done.silent s).1) done.recorded done.read done.kept
+    midway-more g.met.I.Tokens.laws _ _ is c.loop-name.invariant
+    (λ s. (done.silent s).1) done.recorded done.read done.kept
 
 pub returns-clause-silent : goal.returns-clause-silent
 returns-clause-silent g c = λ s. (refl, c.loop-name.invariant.silent s)

@@ -9,7 +9,8 @@ returns-in_err-expr-clause-tries g c =
 
 pub returns-in_err-at_end-clause-tries : goal.returns-in_err-at_end-clause-tries
 returns-in_err-at_end-clause-tries g c =
-    let p = err_from_is_err_and c.from_residual-in_err-at_end.result c.from_residual-in_err-at_end.ensures.1 in rw (p.1, p.2)
+    let p = err_from_is_err_and c.from_residual-in_err-at_end.result c.from_residual-in_err-at_end.ensures.1 in
+    rw (p.1, p.2)
     (lost c.in_ok-expr.ensures.promised c.in_err-at_end.ensures)
 
 pub returns-clause-tries : goal.returns-clause-tries

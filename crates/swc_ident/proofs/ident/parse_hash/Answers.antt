@@ -8,7 +8,8 @@ use Rattle.swc_ident.proofs.ident.parse_hash.Goals as goal
 pub returns-in_err-has_cur : goal.returns-in_err-has_cur
 returns-in_err-has_cur g c =
     let p = err_from_is_err_and c.from_residual.result c.from_residual.ensures.1 in rw (p.1, p.2)
-    (no_memory_either _ c.in_err-has_cur.ensures.refused.1.look.read (ap (λ x. x.kind) c.in_err-has_cur.ensures.refused.0))
+    (no_memory_either _ c.in_err-has_cur.ensures.refused.1.look.read
+    (ap (λ x. x.kind) c.in_err-has_cur.ensures.refused.0))
 
 pub returns-then-not-is_at_hash : goal.returns-then-not-is_at_hash
 returns-then-not-is_at_hash g c =

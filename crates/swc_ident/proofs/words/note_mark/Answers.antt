@@ -11,7 +11,8 @@ returns-in_err-kind-in-Reserved g c =
 
 pub returns-in_err-kind-in-Strict : goal.returns-in_err-kind-in-Strict
 returns-in_err-kind-in-Strict g c =
-    let p = err_from_is_err_and c.from_residual-in_err-kind-in-Strict.result c.from_residual-in_err-kind-in-Strict.ensures.1 in rw (p.1, p.2)
+    let p = err_from_is_err_and c.from_residual-in_err-kind-in-Strict.result
+    c.from_residual-in_err-kind-in-Strict.ensures.1 in rw (p.1, p.2)
     (forgone_here g.met.I.Tokens.laws c.in_err-kind-in-Strict.ensures)
 
 pub returns-in-Clean : goal.returns-in-Clean

@@ -15,19 +15,24 @@ returns-then-not-is_dynamic_import-clause-separates g c = λ sure.
     s.on_to (s.on_call _ (args_separated i) (c.in_ok-comma.ensures.separates sure))
     (λ x ts. behind_other i c.in_ok-comma.comma x ts c.if-not-is_dynamic_import.true)
 
-pub returns-in_err-refuse_last_comma-in-Some-clause-separates : goal.returns-in_err-refuse_last_comma-in-Some-clause-separates
+pub returns-in_err-refuse_last_comma-in-Some-clause-separates :
+    goal.returns-in_err-refuse_last_comma-in-Some-clause-separates
 returns-in_err-refuse_last_comma-in-Some-clause-separates g c =
     let i = c.args.is_dynamic_import in
-    let p = err_from_is_err_and c.from_residual-in_err-refuse_last_comma-in-Some.result c.from_residual-in_err-refuse_last_comma-in-Some.ensures.1 in λ sure. rw (p.1, p.2)
+    let p = err_from_is_err_and c.from_residual-in_err-refuse_last_comma-in-Some.result
+    c.from_residual-in_err-refuse_last_comma-in-Some.ensures.1 in λ sure. rw (p.1, p.2)
     (s.unheard_after (s.on_call _ (args_separated i) (c.in_ok-comma.ensures.separates sure))
-    (s.unheard_call (λ x q. Some (Some c.in-Some.span, q.1)) (λ x ts. behind_last i c.in_ok-comma.comma c.in-Some.span x ts c.if-not-is_dynamic_import.false c.in-Some.is)
+    (s.unheard_call (λ x q. Some (Some c.in-Some.span, q.1))
+    (λ x ts. behind_last i c.in_ok-comma.comma c.in-Some.span x ts c.if-not-is_dynamic_import.false c.in-Some.is)
     (c.in_err-refuse_last_comma-in-Some.ensures.passes sure)))
 
-pub returns-in_ok-refuse_last_comma-in-Some-clause-separates : goal.returns-in_ok-refuse_last_comma-in-Some-clause-separates
+pub returns-in_ok-refuse_last_comma-in-Some-clause-separates :
+    goal.returns-in_ok-refuse_last_comma-in-Some-clause-separates
 returns-in_ok-refuse_last_comma-in-Some-clause-separates g c = λ sure.
     let i = c.args.is_dynamic_import in
     s.on_then (s.on_call _ (args_separated i) (c.in_ok-comma.ensures.separates sure))
-    (s.on_call (λ x q. Some (Some c.in-Some.span, q.1)) (λ x ts. behind_last i c.in_ok-comma.comma c.in-Some.span x ts c.if-not-is_dynamic_import.false c.in-Some.is)
+    (s.on_call (λ x q. Some (Some c.in-Some.span, q.1))
+    (λ x ts. behind_last i c.in_ok-comma.comma c.in-Some.span x ts c.if-not-is_dynamic_import.false c.in-Some.is)
     (c.in_ok-refuse_last_comma-in-Some.ensures.passes sure))
 
 pub returns-in-None-clause-separates : goal.returns-in-None-clause-separates

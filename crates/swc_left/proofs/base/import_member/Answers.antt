@@ -13,8 +13,10 @@ returns-in_err-end-clause-parses g c =
 
 pub returns-in_err-check_import_meta-in-Some-clause-parses : goal.returns-in_err-check_import_meta-in-Some-clause-parses
 returns-in_err-check_import_meta-in-Some-clause-parses g c =
-    let p = err_from_is_err_and c.from_residual-in_err-check_import_meta-in-Some.result c.from_residual-in_err-check_import_meta-in-Some.ensures.1 in λ sure.
-    let some = s.eats_some sure is_meta _ c.in-Some.end _ _ c.in-Some.is (c.in_ok-end.ensures.eats sure) in rw (p.1, p.2)
+    let p = err_from_is_err_and c.from_residual-in_err-check_import_meta-in-Some.result
+    c.from_residual-in_err-check_import_meta-in-Some.ensures.1 in λ sure.
+    let some = s.eats_some sure is_meta _ c.in-Some.end _ _ c.in-Some.is (c.in_ok-end.ensures.eats sure) in
+    rw (p.1, p.2)
     (s.unheard_memory (s.forgoes_later some.on.leads c.in_err-check_import_meta-in-Some.ensures.checks))
 
 pub returns-in-Some-clause-parses : goal.returns-in-Some-clause-parses
@@ -44,10 +46,12 @@ returns-in-Some-2-clause-parses g c = λ sure.
     (s.on_call (λ x q. import_source b c.args.start q.0 x q.1) (λ x ts. refl) some.on))
     (c.import_callee.ensures.parses sure)
 
-pub returns-in_err-parse_ident_name-in-None-2-clause-parses : goal.returns-in_err-parse_ident_name-in-None-2-clause-parses
+pub returns-in_err-parse_ident_name-in-None-2-clause-parses :
+    goal.returns-in_err-parse_ident_name-in-None-2-clause-parses
 returns-in_err-parse_ident_name-in-None-2-clause-parses g c =
     let b = not c.args.no_call in
-    let p = err_from_is_err_and c.from_residual-in_err-parse_ident_name-in-None-2.result c.from_residual-in_err-parse_ident_name-in-None-2.ensures.1 in λ sure.
+    let p = err_from_is_err_and c.from_residual-in_err-parse_ident_name-in-None-2.result
+    c.from_residual-in_err-parse_ident_name-in-None-2.ensures.1 in λ sure.
     let none = s.eats_none sure is_meta _ _ _ c.in-None.is (c.in_ok-end.ensures.eats sure) in
     let no = s.eats_none sure is_source _ _ _ c.in-None-2.is (c.in_ok-end-2.ensures.eats sure) in rw (p.1, p.2)
     (s.unheard_after (s.on_then (s.on_call _ (base.member_begins b c.args.start) none)
@@ -61,4 +65,5 @@ returns-in_ok-parse_ident_name-in-None-2-clause-parses g c = λ sure.
     let no = s.eats_none sure is_source _ _ _ c.in-None-2.is (c.in_ok-end-2.ensures.eats sure) in
     s.unheard_after (s.on_then (s.on_call _ (base.member_begins b c.args.start) none)
     (s.on_call (λ x q. import_source b c.args.start q.0 x q.1) (λ x ts. refl) no))
-    (s.unheard_none (λ x ts. refl) (s.refuses_later (c.in_ok-parse_ident_name-in-None-2.ensures.parses sure).on.leads c.unexpected.ensures.refuses))
+    (s.unheard_none (λ x ts. refl) (s.refuses_later (c.in_ok-parse_ident_name-in-None-2.ensures.parses sure).on.leads
+    c.unexpected.ensures.refuses))

@@ -6,5 +6,6 @@ use Rattle.swc_left.proofs.base.import_meta.Goals as goal
 
 pub returns : goal.returns
 returns g c =
-    m.node_on _ c.meta_prop-node.result c.made.result (omega arith) c.meta_prop-node.ensures.made c.made.ensures.ok c.made.ensures.refused (grows-same _) c.meta_prop-node.ensures.grows
+    m.node_on _ c.meta_prop-node.result c.made.result (omega arith) c.meta_prop-node.ensures.made c.made.ensures.ok
+    c.made.ensures.refused (grows-same _) c.meta_prop-node.ensures.grows
     (s.on_here g.met.I.Tokens.laws _ (λ x ts. refl))

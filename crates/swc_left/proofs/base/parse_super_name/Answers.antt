@@ -18,28 +18,34 @@ pub returns-in_err-parse_private_name : goal.returns-in_err-parse_private_name
 returns-in_err-parse_private_name g c =
     m.refused c.from_residual-in_err-parse_private_name.ensures.1
     (s.unheard_at c.in_ok-look.ensures.looks
-    (λ x ts same e. base.no_hash_name c.args.start x ts (ap (at_token is_hash) e ∙ sym c.is_sign.ensures.value ∙ c.if-is_sign.true))
+    (λ x ts same e. base.no_hash_name c.args.start x ts
+    (ap (at_token is_hash) e ∙ sym c.is_sign.ensures.value ∙ c.if-is_sign.true))
     (c.in_err-parse_private_name.ensures.parses g.B.Bodies.is_faithful).refuses) (grows-same _)
 
 pub returns-then-is_sign : goal.returns-then-is_sign
 returns-then-is_sign g c =
     m.no (s.unheard_at c.in_ok-look.ensures.looks
-    (λ x ts same e. base.no_hash_name c.args.start x ts (ap (at_token is_hash) e ∙ sym c.is_sign.ensures.value ∙ c.if-is_sign.true))
-    (s.refuses_later (c.in_ok-parse_private_name.ensures.parses g.B.Bodies.is_faithful).on.leads c.refuse_super_link.ensures)) (grows-same _)
+    (λ x ts same e. base.no_hash_name c.args.start x ts
+    (ap (at_token is_hash) e ∙ sym c.is_sign.ensures.value ∙ c.if-is_sign.true))
+    (s.refuses_later (c.in_ok-parse_private_name.ensures.parses g.B.Bodies.is_faithful).on.leads
+    c.refuse_super_link.ensures)) (grows-same _)
 
 pub returns-in_err-name : goal.returns-in_err-name
 returns-in_err-name g c =
     m.refused c.from_residual-in_err-name.ensures.1
     (s.unheard_after (s.on_seen {g = super_name_tail c.args.start} c.in_ok-look.ensures.looks (λ x ts same e. refl))
-    (s.unheard_call _ (base.name_splits c.args.start) (c.in_err-name.ensures.parses g.B.Bodies.is_faithful))) (grows-same _)
+    (s.unheard_call _ (base.name_splits c.args.start) (c.in_err-name.ensures.parses g.B.Bodies.is_faithful)))
+    (grows-same _)
 
 pub returns-in_err-require_super : goal.returns-in_err-require_super
 returns-in_err-require_super g c =
     let name = c.in_ok-name.name in
     m.refused c.from_residual-in_err-require_super.ensures.1
-    (s.unheard_after (s.on_then (s.on_seen {g = super_name_tail c.args.start} c.in_ok-look.ensures.looks (λ x ts same e. refl))
+    (s.unheard_after (s.on_then (s.on_seen {g = super_name_tail c.args.start} c.in_ok-look.ensures.looks
+    (λ x ts same e. refl))
     (s.on_call _ (base.name_splits c.args.start) (c.in_ok-name.ensures.parses g.B.Bodies.is_faithful).on))
-    (s.unheard_call (λ x q. Some (super_named c.args.start name.span name.sym, q.1)) (λ x ts. refl) (c.in_err-require_super.ensures.passes g.B.Bodies.is_faithful))) (grows-same _)
+    (s.unheard_call (λ x q. Some (super_named c.args.start name.span name.sym, q.1)) (λ x ts. refl)
+    (c.in_err-require_super.ensures.passes g.B.Bodies.is_faithful))) (grows-same _)
 
 pub super_prop_expr-node-requires : goal.super_prop_expr-node-requires
 super_prop_expr-node-requires g c = record { apart = apart-none (omega arith) }
@@ -52,4 +58,5 @@ returns g c =
     c.made.ensures.ok c.made.ensures.refused (grows-same _) c.super_prop_expr-node.ensures.grows
     (s.heard_after (s.on_seen {g = super_name_tail c.args.start} c.in_ok-look.ensures.looks (λ x ts same e. refl))
     (s.heard_more _ (base.name_splits c.args.start) (c.in_ok-name.ensures.parses g.B.Bodies.is_faithful)
-    (s.on_call (λ x q. Some (super_named c.args.start name.span name.sym, q.1)) (λ x ts. refl) (c.in_ok-require_super.ensures.passes g.B.Bodies.is_faithful))))
+    (s.on_call (λ x q. Some (super_named c.args.start name.span name.sym, q.1)) (λ x ts. refl)
+    (c.in_ok-require_super.ensures.passes g.B.Bodies.is_faithful))))

@@ -10,4 +10,5 @@ returns-in_err-parse_member_name g c =
 
 pub returns : goal.returns
 returns g c =
-    m.no (s.unheard_none (λ x ts. refl) (s.refuses_later c.in_ok-parse_member_name.ensures.reads.on.leads c.refuse_super_link.ensures)) c.parse_member_name.ensures.grows
+    m.no (s.unheard_none (λ x ts. refl) (s.refuses_later c.in_ok-parse_member_name.ensures.reads.on.leads
+    c.refuse_super_link.ensures)) c.parse_member_name.ensures.grows

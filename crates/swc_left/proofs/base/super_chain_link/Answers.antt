@@ -28,7 +28,8 @@ returns-in_err-eat-2-clause-acts g c =
     let first = s.took_leads g.met.I.Tokens.laws c.skip.ensures.took.1 in
     let dot = s.leads_then first (c.in_ok-expect.ensures.expects true).on.leads in
     let none = s.eats_none true is_lparen _ _ _ c.in-None.is (c.in_ok-eat.ensures.eats true) in
-    let p = err_from_is_err_and c.from_residual-in_err-eat-2.result c.from_residual-in_err-eat-2.ensures.1 in rw (p.1, p.2)
+    let p = err_from_is_err_and c.from_residual-in_err-eat-2.result c.from_residual-in_err-eat-2.ensures.1 in
+    rw (p.1, p.2)
     (s.refuses_later (s.leads_then dot none.leads) (c.in_err-eat-2.ensures.eats true).refuses)
 
 pub returns-in-Some-2-clause-acts : goal.returns-in-Some-2-clause-acts
@@ -36,7 +37,8 @@ returns-in-Some-2-clause-acts g c =
     let first = s.took_leads g.met.I.Tokens.laws c.skip.ensures.took.1 in
     let dot = s.leads_then first (c.in_ok-expect.ensures.expects true).on.leads in
     let none = s.eats_none true is_lparen _ _ _ c.in-None.is (c.in_ok-eat.ensures.eats true) in
-    let some = s.eats_some true is_lbracket _ c.in-Some-2.field-0 _ _ c.in-Some-2.is (c.in_ok-eat-2.ensures.eats true) in
+    let some = s.eats_some true is_lbracket _ c.in-Some-2.field-0 _ _ c.in-Some-2.is
+    (c.in_ok-eat-2.ensures.eats true) in
     s.leads_then (s.leads_then dot none.leads) some.on.leads
 
 pub returns-in-None-2-clause-acts : goal.returns-in-None-2-clause-acts

@@ -21,7 +21,8 @@ returns-in-Some-clause-continues g c = λ sure.
 pub returns-in_err-bracket-clause-continues : goal.returns-in_err-bracket-clause-continues
 returns-in_err-bracket-clause-continues g c =
     let b = not c.args.no_call in
-    let p = err_from_is_err_and c.from_residual-in_err-bracket.result c.from_residual-in_err-bracket.ensures.1 in λ sure.
+    let p = err_from_is_err_and c.from_residual-in_err-bracket.result c.from_residual-in_err-bracket.ensures.1 in
+    λ sure.
     let none = s.eats_none sure is_dot _ _ _ c.in-None.is (c.in_ok-eat.ensures.eats sure) in rw (p.1, p.2)
     (s.unheard_after (s.on_call _ (base.super_begins b) none)
     (s.unheard_call (λ x q. head_bracket b q.0 x q.1) (λ x ts. refl) (c.in_err-bracket.ensures.eats sure)))
@@ -30,7 +31,8 @@ pub returns-in-Some-2-clause-continues : goal.returns-in-Some-2-clause-continues
 returns-in-Some-2-clause-continues g c = λ sure.
     let b = not c.args.no_call in
     let none = s.eats_none sure is_dot _ _ _ c.in-None.is (c.in_ok-eat.ensures.eats sure) in
-    let some = s.eats_some sure is_lbracket _ c.in-Some-2.bracket _ _ c.in-Some-2.is (c.in_ok-bracket.ensures.eats sure) in
+    let some = s.eats_some sure is_lbracket _ c.in-Some-2.bracket _ _ c.in-Some-2.is
+    (c.in_ok-bracket.ensures.eats sure) in
     s.on_then (s.on_call _ (base.super_begins b) none)
     (s.on_call (λ x q. head_bracket b q.0 x q.1) (λ x ts. refl) some.on)
 
@@ -40,7 +42,8 @@ returns-then-no_call-clause-continues g c = λ sure.
     let none = s.eats_none sure is_dot _ _ _ c.in-None.is (c.in_ok-eat.ensures.eats sure) in
     let no = s.eats_none sure is_lbracket _ _ _ c.in-None-2.is (c.in_ok-bracket.ensures.eats sure) in
     s.on_to (s.on_then (s.on_call _ (base.super_begins b) none)
-    (s.on_call (λ x q. head_bracket b q.0 x q.1) (λ x ts. refl) no)) (λ x ts. base.super_no_call b x ts (ap not c.if-no_call.true))
+    (s.on_call (λ x q. head_bracket b q.0 x q.1) (λ x ts. refl) no))
+    (λ x ts. base.super_no_call b x ts (ap not c.if-no_call.true))
 
 pub returns-in_err-eat-2-clause-continues : goal.returns-in_err-eat-2-clause-continues
 returns-in_err-eat-2-clause-continues g c =
@@ -50,7 +53,8 @@ returns-in_err-eat-2-clause-continues g c =
     let no = s.eats_none sure is_lbracket _ _ _ c.in-None-2.is (c.in_ok-bracket.ensures.eats sure) in rw (p.1, p.2)
     (s.unheard_after (s.on_then (s.on_call _ (base.super_begins b) none)
     (s.on_call (λ x q. head_bracket b q.0 x q.1) (λ x ts. refl) no))
-    (s.unheard_call (λ x q. head_paren q.0 x q.1) (λ x ts. base.super_calls b x ts (ap not c.if-no_call.false)) (c.in_err-eat-2.ensures.eats sure)))
+    (s.unheard_call (λ x q. head_paren q.0 x q.1) (λ x ts. base.super_calls b x ts (ap not c.if-no_call.false))
+    (c.in_err-eat-2.ensures.eats sure)))
 
 pub returns-in-Some-3-clause-continues : goal.returns-in-Some-3-clause-continues
 returns-in-Some-3-clause-continues g c = λ sure.

@@ -12,6 +12,8 @@ call_expr-node-requires-clause-from g c = from-apart (expr_part c.args.callee) (
 pub returns : goal.returns
 returns g c =
     m.node_on _ c.call_expr-node.result c.made.result (omega arith)
-    (made_over _ _ _ (one_expr c.args.callee ++ args_parts c.args.list.items) _ c.call_expr-node.result c.call_expr-node.ensures.made
-    (apart-first (expr_part c.args.callee) (args_parts c.args.list.items) c.requires)) c.made.ensures.ok c.made.ensures.refused (grows-same _) c.call_expr-node.ensures.grows
+    (made_over _ _ _ (one_expr c.args.callee ++ args_parts c.args.list.items) _ c.call_expr-node.result
+    c.call_expr-node.ensures.made
+    (apart-first (expr_part c.args.callee) (args_parts c.args.list.items) c.requires)) c.made.ensures.ok
+    c.made.ensures.refused (grows-same _) c.call_expr-node.ensures.grows
     (s.on_here g.met.I.Tokens.laws _ (λ x ts. refl))

@@ -9,6 +9,8 @@ use Rattle.swc_left.proofs.left.new_expr.Goals as goal
 pub returns : goal.returns
 returns g c =
     m.node_on _ c.new_expr-node.result c.made.result (omega arith)
-    (made_over _ _ _ (one_expr c.args.callee ++ args_parts c.args.list.items) _ c.new_expr-node.result c.new_expr-node.ensures.made
-    (apart-first (expr_part c.args.callee) (args_parts c.args.list.items) c.requires)) c.made.ensures.ok c.made.ensures.refused (grows-same _) c.new_expr-node.ensures.grows
+    (made_over _ _ _ (one_expr c.args.callee ++ args_parts c.args.list.items) _ c.new_expr-node.result
+    c.new_expr-node.ensures.made
+    (apart-first (expr_part c.args.callee) (args_parts c.args.list.items) c.requires)) c.made.ensures.ok
+    c.made.ensures.refused (grows-same _) c.new_expr-node.ensures.grows
     (s.on_here g.met.I.Tokens.laws _ (λ x ts. refl))

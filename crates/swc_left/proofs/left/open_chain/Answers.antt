@@ -12,7 +12,8 @@ returns-in_err-expect-clause-heads g c =
 
 pub returns-in_err-start-clause-heads : goal.returns-in_err-start-clause-heads
 returns-in_err-start-clause-heads g c =
-    let p = err_from_is_err_and c.from_residual-in_err-start.result c.from_residual-in_err-start.ensures.1 in λ sure. rw (p.1, p.2)
+    let p = err_from_is_err_and c.from_residual-in_err-start.result c.from_residual-in_err-start.ensures.1 in
+    λ sure. rw (p.1, p.2)
     (s.unheard_after (s.on_call (λ x p. chain_dot x p.1) link.chain_splits (c.in_ok-expect.ensures.expects sure).on)
     (s.unheard_call (λ x q. chain_bracket q.0 x q.1) (λ x ts. refl) (c.in_err-start.ensures.eats sure)))
 
@@ -26,7 +27,8 @@ pub returns-in_err-eat-clause-heads : goal.returns-in_err-eat-clause-heads
 returns-in_err-eat-clause-heads g c =
     let p = err_from_is_err_and c.from_residual-in_err-eat.result c.from_residual-in_err-eat.ensures.1 in λ sure.
     let none = s.eats_none sure is_lbracket _ _ _ c.in-None.is (c.in_ok-start.ensures.eats sure) in rw (p.1, p.2)
-    (s.unheard_after (s.on_then (s.on_call (λ x p. chain_dot x p.1) link.chain_splits (c.in_ok-expect.ensures.expects sure).on)
+    (s.unheard_after (s.on_then (s.on_call (λ x p. chain_dot x p.1) link.chain_splits
+    (c.in_ok-expect.ensures.expects sure).on)
     (s.on_call (λ x q. chain_bracket q.0 x q.1) (λ x ts. refl) none))
     (s.unheard_call (λ x q. chain_paren q.0 x q.1) (λ x ts. refl) (c.in_err-eat.ensures.eats sure)))
 

@@ -14,7 +14,8 @@ returns-in-Name-clause-heads g c = λ sure.
 pub returns-in-Computed-clause-heads : goal.returns-in-Computed-clause-heads
 returns-in-Computed-clause-heads g c = λ sure.
     let first = c.skip.ensures.took.1 in
-    s.heard_answer (ap (λ v. head.Computed v false) (sym (s.place_was first c.cur_span-start.result c.cur_span-start.ensures)))
+    s.heard_answer (ap (λ v. head.Computed v false) (sym
+    (s.place_was first c.cur_span-start.result c.cur_span-start.ensures)))
     (s.heard_took g.met.I.Tokens.laws first (λ x ts. link.head_opens c.args.link (plain first.was) x ts
     ∙ ap (λ k. head_behind k (plain first.was).span x ts) c.in-Computed.is))
 
@@ -34,6 +35,7 @@ returns-in-Chain-clause-heads g c = λ sure.
 pub returns-in-Template-clause-heads : goal.returns-in-Template-clause-heads
 returns-in-Template-clause-heads g c = λ sure.
     let first = c.skip.ensures.took.1 in
-    s.heard_answer (ap (λ v. head.Template v) (sym (s.place_was first c.cur_span-start.result c.cur_span-start.ensures)))
+    s.heard_answer (ap (λ v. head.Template v)
+    (sym (s.place_was first c.cur_span-start.result c.cur_span-start.ensures)))
     (s.heard_took g.met.I.Tokens.laws first (λ x ts. link.head_opens c.args.link (plain first.was) x ts
     ∙ ap (λ k. head_behind k (plain first.was).span x ts) c.in-Template.is))

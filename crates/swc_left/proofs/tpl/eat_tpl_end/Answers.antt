@@ -23,7 +23,8 @@ returns-in-Some-clause-falls g c =
 
 pub returns-in_err-expect-in-None-clause-ends : goal.returns-in_err-expect-in-None-clause-ends
 returns-in_err-expect-in-None-clause-ends g c =
-    let p = err_from_is_err_and c.from_residual-in_err-expect-in-None.result c.from_residual-in_err-expect-in-None.ensures.1 in λ sure. rw (p.1, p.2)
+    let p = err_from_is_err_and c.from_residual-in_err-expect-in-None.result
+    c.from_residual-in_err-expect-in-None.ensures.1 in λ sure. rw (p.1, p.2)
     (s.unheard_after (s.on_call (λ x q. tpl_end_by q.0 x q.1) tpl.end_splits
     (s.eats_none sure is_backquote _ _ _ c.in-None.is (c.in_ok-end.ensures.eats sure)))
     (s.unheard_call (λ x q. Some (None, q.1)) (λ x ts. refl) (c.in_err-expect-in-None.ensures.expects sure)))

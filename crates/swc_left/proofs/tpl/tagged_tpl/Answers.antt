@@ -31,8 +31,10 @@ returns g c =
     let whole = ap (λ v. tagged_e (to (span_of l) parts.end) l (node tpl_kind (to c.args.start parts.end) v))
     (sym (trees-both (map quasi_tree parts.quasis.items) (map (tree_of nodes) parts.exprs.items))) in
     m.node_on _ c.tagged_tpl-node.result c.made.result (omega arith)
-    (made_over _ _ _ (one_expr c.args.tag ++ exprs_parts parts.exprs) _ c.tagged_tpl-node.result c.tagged_tpl-node.ensures.made
-    (apart-first (expr_part c.args.tag) (exprs_parts parts.exprs) c.requires)) c.made.ensures.ok c.made.ensures.refused (grows-same _) c.tagged_tpl-node.ensures.grows
+    (made_over _ _ _ (one_expr c.args.tag ++ exprs_parts parts.exprs) _ c.tagged_tpl-node.result
+    c.tagged_tpl-node.ensures.made
+    (apart-first (expr_part c.args.tag) (exprs_parts parts.exprs) c.requires)) c.made.ensures.ok c.made.ensures.refused
+    (grows-same _) c.tagged_tpl-node.ensures.grows
     (s.on_answer whole (s.on_checked (not (is_chain l)) c.in_ok-check_tag.ensures.checks
     (λ x ts well. tpl.tagged_well c.args.start l (tpl_parts_at nodes parts) x ts well)
     (λ x ts ill. tpl.tagged_ill c.args.start l (tpl_parts_at nodes parts) x ts ill)))

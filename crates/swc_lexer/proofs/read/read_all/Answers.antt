@@ -6,9 +6,11 @@ use Rattle.swc_lexer.proofs.read.read_all.Goals as goal
 
 pub loop-tokens-preserved : goal.loop-tokens-preserved
 loop-tokens-preserved c = (
-  ReadTo_more _ _ _ _ _ _ _ _ _ _ c.in-Some.found c.loop-tokens.invariant.0 c.in_ok-found.ensures.given c.in_ok-found.ensures.within c.in-Some.is
+  ReadTo_more _ _ _ _ _ _ _ _ _ _ c.in-Some.found c.loop-tokens.invariant.0 c.in_ok-found.ensures.given
+      c.in_ok-found.ensures.within c.in-Some.is
       (c.in_ok-push-in-Ok.ensures.items ∙ ap (λ z. c.loop-tokens.tokens.items ++ z ∷ []) c.in-Ok.ensures.token.0),
-  (let clean = All-push IsClean c.loop-tokens.tokens.items c.in-Ok.token c.loop-tokens.invariant.1 c.in-Ok.ensures.token.1 in
+  (let clean = All-push IsClean c.loop-tokens.tokens.items c.in-Ok.token c.loop-tokens.invariant.1
+      c.in-Ok.ensures.token.1 in
       rw c.in_ok-push-in-Ok.ensures.items clean),
 )
 
@@ -23,5 +25,8 @@ returns-in-Err c = record {
 }
 
 pub returns : goal.returns
-returns c =
-    (ReadTo_over _ _ _ _ _ _ _ _ c.loop-tokens.invariant.0 c.in_ok-found.ensures.given (none_of _ c.in_default.not-Some), c.loop-tokens.invariant.1)
+returns c = (
+  ReadTo_over _ _ _ _ _ _ _ _ c.loop-tokens.invariant.0 c.in_ok-found.ensures.given
+      (none_of _ c.in_default.not-Some),
+  c.loop-tokens.invariant.1,
+)

@@ -6,8 +6,10 @@ loop-reader-smaller c = lower _ _ _ _ _ _ c.in_ok-found.ensures.given c.in-Some.
 
 pub loop-reader-preserved : goal.loop-reader-preserved
 loop-reader-preserved c =
-    ReadTo_more _ _ _ _ _ _ _ _ _ _ c.in-Some.found c.loop-reader.invariant c.in_ok-found.ensures.given c.in_ok-found.ensures.within c.in-Some.is
+    ReadTo_more _ _ _ _ _ _ _ _ _ _ c.in-Some.found c.loop-reader.invariant c.in_ok-found.ensures.given
+    c.in_ok-found.ensures.within c.in-Some.is
     c.in_ok-push.ensures.items
 
 pub returns : goal.returns
-returns c = ReadTo_over _ _ _ _ _ _ _ _ c.loop-reader.invariant c.in_ok-found.ensures.given (none_of _ c.in_default.not-Some)
+returns c = ReadTo_over _ _ _ _ _ _ _ _ c.loop-reader.invariant c.in_ok-found.ensures.given
+    (none_of _ c.in_default.not-Some)

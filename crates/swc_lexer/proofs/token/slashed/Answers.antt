@@ -7,8 +7,10 @@ range-requires-clause-start_boundary c = λ h. after_slash c.args.text.now 0 c.u
 
 pub range-requires-clause-end_boundary : goal.range-requires-clause-end_boundary
 range-requires-clause-end_boundary c =
-    at_slash _ c.args.text.now (c.in-Some.len + 1) _ c.as_bytes-bytes.ensures.value c.is_at-closes.ensures.value c.if-closes.true
+    at_slash _ c.args.text.now (c.in-Some.len + 1) _ c.as_bytes-bytes.ensures.value c.is_at-closes.ensures.value
+    c.if-closes.true
 
 pub range_from-requires : goal.range_from-requires
 range_from-requires c = λ h.
-    past_slash _ c.args.text.now c.in-Some.len _ c.utf8.text c.as_bytes-bytes.ensures.value c.is_at-closes.ensures.value c.if-closes.true
+    past_slash _ c.args.text.now c.in-Some.len _ c.utf8.text c.as_bytes-bytes.ensures.value c.is_at-closes.ensures.value
+    c.if-closes.true

@@ -8,7 +8,8 @@ pub loop-part-init : goal.loop-part-init
 loop-part-init g c =
     let due = map part_of c.in_ok-due.due.items in
     subst (λ v. Going c.args.nodes.now (g.T.Parts.parts c.args.item.now) due (map part_of (reverse v)))
-    (sym c.new-found.ensures.items) (going_first c.args.nodes.now (g.T.Parts.parts c.args.item.now) due c.in_ok-due.ensures)
+    (sym c.new-found.ensures.items) (going_first c.args.nodes.now
+    (g.T.Parts.parts c.args.item.now) due c.in_ok-due.ensures)
 
 pub loop-part-smaller-in-Continue-branch-3 : goal.loop-part-smaller-in-Continue-branch-3
 loop-part-smaller-in-Continue-branch-3 g c =
@@ -17,7 +18,8 @@ loop-part-smaller-in-Continue-branch-3 g c =
     omega (arith, c.number.ensures, c.len.ensures, c.if-number-len.true) in
     let stood : Stood c.args.nodes.now p.at c.get.result.now =
     rw (sym c.number-then-number-len.ensures) c.get.ensures in
-    on_less (map part_of c.pop.new.self.items) p (taken _ _ c.in-Some.part c.in-Some.ensures.items) c.loop-part.invariant
+    on_less (map part_of c.pop.new.self.items) p (taken _ _ c.in-Some.part c.in-Some.ensures.items)
+    c.loop-part.invariant
     stood lt c.in_ok-list.ensures
 
 pub loop-part-preserved-in-Continue-branch-3 : goal.loop-part-preserved-in-Continue-branch-3
@@ -29,7 +31,8 @@ loop-part-preserved-in-Continue-branch-3 g c =
     rw (sym c.number-then-number-len.ensures) c.get.ensures in
     subst (Going c.args.nodes.now (g.T.Parts.parts c.args.item.now) (map part_of c.list.new.list.items))
     (sym (taken_first c.loop-part.found.items c.push.new.self.items c.in-Some.part c.in_ok-push.ensures.items))
-    (going_on (map part_of c.pop.new.self.items) p (taken _ _ c.in-Some.part c.in-Some.ensures.items) c.loop-part.invariant
+    (going_on (map part_of c.pop.new.self.items) p (taken _ _ c.in-Some.part c.in-Some.ensures.items)
+    c.loop-part.invariant
     stood lt c.in_ok-list.ensures)
 
 pub loop-part-smaller : goal.loop-part-smaller

@@ -101,8 +101,7 @@ returns-in-Err-clause-kept g c =
     c.truncate-in-Err.ensures.items
 
 pub loop-root-smaller : goal.loop-root-smaller
-loop-root-smaller g c =
-    less c.loop-root.roots.items c.pop.new.self.items c.in-Some-pop.root c.in-Some-pop.ensures.items
+loop-root-smaller g c = less c.loop-root.roots.items c.pop.new.self.items c.in-Some-pop.root c.in-Some-pop.ensures.items
 
 pub loop-root-preserved : goal.loop-root-preserved
 loop-root-preserved g c =

@@ -26,7 +26,8 @@ returns-in_ok-add_kept-in-Same-clause-turned g c =
     inl (
       refl,
       turned-same g.F.Spanned.place g.C.Spanned.place g.K.Spanned.place c.args.nodes.now.items c.args.number
-          c.requires.within c.args.role (map due c.args.due.now.items) (map due c.add_kept.new.due.items) c.index.result.now
+          c.requires.within c.args.role (map due c.args.due.now.items)
+          (map due c.add_kept.new.due.items) c.index.result.now
           c.index.ensures c.how.result c.index-in-Same.result.now c.index-in-Same.ensures c.how.ensures c.in-Same.is
           c.in_ok-add_kept-in-Same.ensures,
     )
@@ -36,7 +37,8 @@ returns-in_ok-rebind-in-Again-clause-turned g c =
     inl (
       refl,
       turned-again g.F.Spanned.place g.C.Spanned.place g.K.Spanned.place c.args.nodes.now.items c.args.number
-          c.requires.within c.args.role (map due c.args.due.now.items) (map due c.rebind.new.due.items) c.index.result.now
+          c.requires.within c.args.role (map due c.args.due.now.items)
+          (map due c.rebind.new.due.items) c.index.result.now
           c.index.ensures c.how.result c.index_mut.result.now c.rebind.new.node c.index_mut.ensures.value c.how.ensures
           c.in-Again.is c.in_ok-rebind-in-Again.ensures.node c.in_ok-rebind-in-Again.ensures.dues,
     )

@@ -11,7 +11,8 @@ loop-inner-preserved c =
     let us = c.enter.new.visits.items in
     let ws = c.take_done.new.around.items in
     record {
-      goes = λ at ps ds e g. goes_enter at ps ds vs us c.loop-inner.around.items ws c.in-Some.inner taken.1 put (omega (arith, e, taken.0))
+      goes = λ at ps ds e g. goes_enter at ps ds vs us c.loop-inner.around.items ws c.in-Some.inner taken.1 put
+          (omega (arith, e, taken.0))
           (c.loop-inner.invariant.goes at ps ds e g);
       left = entered_after vs us c.in-Some.inner.part (opened ws) put ∙ c.loop-inner.invariant.left;
     }

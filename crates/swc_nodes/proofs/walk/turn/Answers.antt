@@ -7,5 +7,7 @@ returns-then-len-at g c = past (omega (arith, c.number-at.ensures, c.len.ensures
 
 pub returns : goal.returns
 returns g c =
-    left {x = c.get.result.now} (omega (arith, c.number-at.ensures, c.len.ensures, c.if-len-at.false)) (rw (sym c.number-at.ensures) c.get.ensures)
-    (let o = c.args.due.now.ok.0 in omega (arith, c.len-rest.ensures)) c.in_ok-list.ensures c.in_ok-leave.ensures.around c.in_ok-leave.ensures.visits
+    left {x = c.get.result.now} (omega (arith, c.number-at.ensures, c.len.ensures, c.if-len-at.false))
+    (rw (sym c.number-at.ensures) c.get.ensures)
+    (let o = c.args.due.now.ok.0 in omega (arith, c.len-rest.ensures)) c.in_ok-list.ensures c.in_ok-leave.ensures.around
+    c.in_ok-leave.ensures.visits

@@ -22,38 +22,49 @@ loop-part-preserved g c =
     let due = c.turn.new.due.items in
     let same : c.len.result ≡ length due = let o = c.turn.new.due.ok.0 in omega (arith, c.len.ensures) in
     record {
-      walks = entered ns ps due c.turn.new.around.items c.enter_all.new.around.items c.turn.new.visits.items c.enter_all.new.visits.items c.len.result same
+      walks = entered ns ps due c.turn.new.around.items c.enter_all.new.around.items c.turn.new.visits.items
+          c.enter_all.new.visits.items c.len.result same
           c.in_ok-enter_all.ensures.goes c.in_ok-enter_all.ensures.left
-          (turned ns ps c.loop-part.due.items c.pop.new.self.items due c.in-Some.part c.loop-part.around.items c.turn.new.around.items
-          c.loop-part.visits.items c.turn.new.visits.items (taken _ _ c.in-Some.part c.in-Some.ensures.items) c.loop-part.invariant.ready
+          (turned ns ps c.loop-part.due.items c.pop.new.self.items due c.in-Some.part c.loop-part.around.items
+          c.turn.new.around.items
+          c.loop-part.visits.items c.turn.new.visits.items
+          (taken _ _ c.in-Some.part c.in-Some.ensures.items) c.loop-part.invariant.ready
           c.loop-part.invariant.walks c.in_ok-turn.ensures);
       ready = subst (λ v. IsReady v (reverse c.enter_all.new.around.items)) same c.in_ok-enter_all.ensures.ready;
     }
 
 pub loop-part-smaller : goal.loop-part-smaller
 loop-part-smaller g c =
-    turned_less c.args.nodes.now (g.T.Parts.parts c.args.item.now) c.loop-part.due.items c.pop.new.self.items c.turn.new.due.items c.in-Some.part
+    turned_less c.args.nodes.now (g.T.Parts.parts c.args.item.now) c.loop-part.due.items c.pop.new.self.items
+    c.turn.new.due.items c.in-Some.part
     c.loop-part.around.items c.turn.new.around.items c.loop-part.visits.items c.turn.new.visits.items
     (taken _ _ c.in-Some.part c.in-Some.ensures.items) c.loop-part.invariant.walks c.in_ok-turn.ensures
 
 pub returns-clause-walked : goal.returns-clause-walked
 returns-clause-walked g c =
-    all_walked c.args.nodes.now (g.T.Parts.parts c.args.item.now) c.loop-part.due c.loop-part.around.items c.loop-part.visits.items
-    c.reverse.new.self.items c.in_default.ensures.cases.0 c.reverse.ensures.items c.loop-part.invariant.ready c.loop-part.invariant.walks
+    all_walked c.args.nodes.now (g.T.Parts.parts c.args.item.now) c.loop-part.due c.loop-part.around.items
+    c.loop-part.visits.items
+    c.reverse.new.self.items c.in_default.ensures.cases.0 c.reverse.ensures.items c.loop-part.invariant.ready
+    c.loop-part.invariant.walks
 
 pub returns-clause-has : goal.returns-clause-has
 returns-clause-has g c =
-    has-reached (all_left c.args.nodes.now (g.T.Parts.parts c.args.item.now) c.loop-part.due c.loop-part.around.items c.loop-part.visits.items
+    has-reached (all_left c.args.nodes.now (g.T.Parts.parts c.args.item.now) c.loop-part.due c.loop-part.around.items
+    c.loop-part.visits.items
     c.reverse.new.self.items c.in_default.ensures.cases.0 c.reverse.ensures.items c.loop-part.invariant.walks)
 
 pub returns-clause-numbers : goal.returns-clause-numbers
 returns-clause-numbers g c =
-    found-numbers (left_in c.reverse.new.self.items) (all_left c.args.nodes.now (g.T.Parts.parts c.args.item.now) c.loop-part.due
-    c.loop-part.around.items c.loop-part.visits.items c.reverse.new.self.items c.in_default.ensures.cases.0 c.reverse.ensures.items
+    found-numbers (left_in c.reverse.new.self.items) (all_left c.args.nodes.now
+    (g.T.Parts.parts c.args.item.now) c.loop-part.due
+    c.loop-part.around.items c.loop-part.visits.items c.reverse.new.self.items c.in_default.ensures.cases.0
+    c.reverse.ensures.items
     c.loop-part.invariant.walks)
 
 pub returns-clause-rising : goal.returns-clause-rising
 returns-clause-rising g c =
-    rising-apart (left_in c.reverse.new.self.items) (all_left c.args.nodes.now (g.T.Parts.parts c.args.item.now) c.loop-part.due
-    c.loop-part.around.items c.loop-part.visits.items c.reverse.new.self.items c.in_default.ensures.cases.0 c.reverse.ensures.items
+    rising-apart (left_in c.reverse.new.self.items) (all_left c.args.nodes.now
+    (g.T.Parts.parts c.args.item.now) c.loop-part.due
+    c.loop-part.around.items c.loop-part.visits.items c.reverse.new.self.items c.in_default.ensures.cases.0
+    c.reverse.ensures.items
     c.loop-part.invariant.walks)

@@ -11,19 +11,23 @@ pub returns-then-is_simple_target-clause-checks : goal.returns-then-is_simple_ta
 returns-then-is_simple_target-clause-checks g c =
     let e = tree_of c.args.nodes.now c.args.left in
     check_passes (is_target (context g.I.Tokens.model c.args.input.now).strict e) g.met.I.Tokens.laws _
-    (ap (λ v. is_target v.strict e) (sym c.get_ctx-strict.ensures) ∙ sym c.is_simple_target.ensures ∙ c.if-is_simple_target.true)
+    (ap (λ v. is_target v.strict e) (sym c.get_ctx-strict.ensures) ∙ sym c.is_simple_target.ensures
+    ∙ c.if-is_simple_target.true)
 
 pub returns-then-is_simple_target-clause-target : goal.returns-then-is_simple_target-clause-target
 returns-then-is_simple_target-clause-target g c =
-    target-from c.get_ctx-strict.result.strict c.requires.from (sym c.is_simple_target.ensures ∙ c.if-is_simple_target.true)
+    target-from c.get_ctx-strict.result.strict c.requires.from
+    (sym c.is_simple_target.ensures ∙ c.if-is_simple_target.true)
 
 pub returns-clause-refuses : goal.returns-clause-refuses
 returns-clause-refuses g c =
     let e = tree_of c.args.nodes.now c.args.left in
     let bad : is_target (context g.I.Tokens.model c.args.input.now).strict e ≡ false =
-    ap (λ v. is_target v.strict e) (sym c.get_ctx-strict.ensures) ∙ sym c.is_simple_target.ensures ∙ c.if-is_simple_target.false in
+    ap (λ v. is_target v.strict e) (sym c.get_ctx-strict.ensures) ∙ sym c.is_simple_target.ensures
+    ∙ c.if-is_simple_target.false in
     let refused = c.syntax_error.ensures.refuses in
-    let later : Refuses g.I.Tokens.model c.args.input.now c.syntax_error.result c.syntax_error.new.input = elim c.match-op.branch [
+    let later : Refuses g.I.Tokens.model c.args.input.now c.syntax_error.result c.syntax_error.new.input =
+    elim c.match-op.branch [
       | in-Assign+in_ok-emit_err-in-Assign w ↦
           refuses_later w.in_ok-emit_err-in-Assign.ensures.tries
           (subst (λ b. Refuses g.I.Tokens.model b c.syntax_error.result c.syntax_error.new.input) w.input-is refused)

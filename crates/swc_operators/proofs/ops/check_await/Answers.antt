@@ -13,7 +13,8 @@ pub returns-clause-checks : goal.returns-clause-checks
 returns-clause-checks g c =
     let x = c.get_ctx-ctx.result in
     let one : (x.in_async || not x.in_function) ≡ true = elim c.else-ctx.branch [
-      | else-ctx-via-then-ctx+else-not-ctx w ↦ ap (λ b. b || not x.in_function) (not_false x.in_async w.if-not-ctx.false)
+      | else-ctx-via-then-ctx+else-not-ctx w ↦ ap (λ b. b || not x.in_function)
+          (not_false x.in_async w.if-not-ctx.false)
       | else-ctx-via-else-ctx w ↦ or_not x.in_async x.in_function w.if-ctx.false
     ] in
     let two : not (x.in_parameters && not x.in_function) ≡ true = elim c.else-ctx-2.branch [

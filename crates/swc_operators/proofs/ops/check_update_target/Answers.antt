@@ -9,13 +9,15 @@ pub returns-then-is_simple_target-clause-checks : goal.returns-then-is_simple_ta
 returns-then-is_simple_target-clause-checks g c =
     let e = tree_of c.args.nodes.now c.args.arg in
     check_passes (is_target (context g.I.Tokens.model c.args.input.now).strict e) g.met.I.Tokens.laws _
-    (ap (λ v. is_target v.strict e) (sym c.get_ctx-strict.ensures) ∙ sym c.is_simple_target.ensures ∙ c.if-is_simple_target.true)
+    (ap (λ v. is_target v.strict e) (sym c.get_ctx-strict.ensures) ∙ sym c.is_simple_target.ensures
+    ∙ c.if-is_simple_target.true)
 
 pub returns-clause-checks : goal.returns-clause-checks
 returns-clause-checks g c =
     let e = tree_of c.args.nodes.now c.args.arg in
     check_notes g.I.Tokens.model (is_target (context g.I.Tokens.model c.args.input.now).strict e) _ _ c.emit_err.result
-    (ap (λ v. is_target v.strict e) (sym c.get_ctx-strict.ensures) ∙ sym c.is_simple_target.ensures ∙ c.if-is_simple_target.false)
+    (ap (λ v. is_target v.strict e) (sym c.get_ctx-strict.ensures) ∙ sym c.is_simple_target.ensures
+    ∙ c.if-is_simple_target.false)
     c.emit_err.ensures.tries c.emit_err.ensures.notes
 
 pub returns-clause-kept : goal.returns-clause-kept

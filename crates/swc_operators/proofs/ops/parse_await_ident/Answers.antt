@@ -26,5 +26,6 @@ returns g c =
     m.node_on _ c.ident_expr-node.result c.made.result (omega arith) c.ident_expr-node.ensures.made c.made.ensures.ok
     c.made.ensures.refused (grows-same _) c.ident_expr-node.ensures.grows
     (s.on_answer (ap (ident_e c.args.start) (sym c.in_ok-sym.ensures.text))
-    (s.on_checked_in (await_ident_ok (context g.I.Tokens.model c.args.p.now.input)) c.in_ok-check_await_ident.ensures.checks
+    (s.on_checked_in (await_ident_ok (context g.I.Tokens.model c.args.p.now.input))
+    c.in_ok-check_await_ident.ensures.checks
     (λ ts h. update.ident_well c.args.start x ts h) (λ ts h. update.ident_ill c.args.start x ts h)))

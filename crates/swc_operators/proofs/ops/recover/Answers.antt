@@ -19,5 +19,6 @@ returns g c =
       memory = if_err (λ e. e.kind ≢ OutOfMemory) c.made.result done.memory;
       falls = on_ok c.made.result done.falls;
       grows = c.invalid-node.ensures.grows;
-      from = made_from c.invalid-node.new.self _ _ _ c.invalid-node.result c.made.result (omega arith) c.invalid-node.ensures.made c.made.ensures.ok;
+      from = made_from c.invalid-node.new.self _ _ _ c.invalid-node.result c.made.result
+          (omega arith) c.invalid-node.ensures.made c.made.ensures.ok;
     }

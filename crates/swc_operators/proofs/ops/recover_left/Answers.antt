@@ -7,7 +7,8 @@ use Rattle.swc_operators.proofs.ops.recover_left.Goals as goal
 
 pub returns-then-is_out_of_memory-clause-recovers : goal.returns-then-is_out_of_memory-clause-recovers
 returns-then-is_out_of_memory-clause-recovers g c =
-    not_recovered (forgoes_refuses (forgoes_on g.met.I.Tokens.laws _ _ (memory_is _ (sym c.is_out_of_memory.ensures ∙ c.if-is_out_of_memory.true)))) (λ n. n) (grows-same _)
+    not_recovered (forgoes_refuses (forgoes_on g.met.I.Tokens.laws _ _
+    (memory_is _ (sym c.is_out_of_memory.ensures ∙ c.if-is_out_of_memory.true)))) (λ n. n) (grows-same _)
 
 pub returns-in-Ok-Some-clause-recovers : goal.returns-in-Ok-Some-clause-recovers
 returns-in-Ok-Some-clause-recovers g c =
@@ -25,7 +26,9 @@ returns-in-Ok-Some-clause-recovers g c =
 
 pub returns-in-Ok-None-clause-recovers : goal.returns-in-Ok-None-clause-recovers
 returns-in-Ok-None-clause-recovers g c = let looked = c.in-Ok-None.ensures.looks in
-    not_recovered (record { spends = spent (here_leads looked); kind = c.requires; served = λ n. looked.served }) (λ n. n) (grows-same _)
+    not_recovered (record { spends = spent (here_leads looked); kind = c.requires; served = λ n. looked.served })
+    (λ n. n) (grows-same _)
 
 pub returns-in-Err-clause-recovers : goal.returns-in-Err-clause-recovers
-returns-in-Err-clause-recovers g c = let h = c.in-Err.ensures.looks in rw (c.instead.ensures) (not_recovered (forgoes_refuses h) (λ n. absurd (n h.kind)) (grows-same _))
+returns-in-Err-clause-recovers g c = let h = c.in-Err.ensures.looks in
+    rw (c.instead.ensures) (not_recovered (forgoes_refuses h) (λ n. absurd (n h.kind)) (grows-same _))

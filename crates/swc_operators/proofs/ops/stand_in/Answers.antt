@@ -10,8 +10,11 @@ returns-in_err-emit_err-clause-recovers g c =
 
 pub returns-in_err-left-clause-recovers : goal.returns-in_err-left-clause-recovers
 returns-in_err-left-clause-recovers g c =
-    let p = err_from_is_err_and c.from_residual-in_err-left.result c.from_residual-in_err-left.ensures.1 in rw (p.1, p.2)
-    (not_recovered (forgoes_later c.in_ok-emit_err.ensures.tries (forgoes_here g.met.I.Tokens.laws _ _ _ c.in_err-left.ensures.refused)) (λ n h. cc) c.invalid-node.ensures.grows)
+    let p = err_from_is_err_and c.from_residual-in_err-left.result c.from_residual-in_err-left.ensures.1 in
+    rw (p.1, p.2)
+    (not_recovered (forgoes_later c.in_ok-emit_err.ensures.tries
+    (forgoes_here g.met.I.Tokens.laws _ _ _ c.in_err-left.ensures.refused))
+    (λ n h. cc) c.invalid-node.ensures.grows)
 
 pub returns-clause-recovers : goal.returns-clause-recovers
 returns-clause-recovers g c = record {
@@ -21,5 +24,6 @@ returns-clause-recovers g c = record {
   memory = tt;
   falls = c.in_ok-emit_err.ensures.falls;
   grows = c.invalid-node.ensures.grows;
-  from = (made_at c.invalid-node.new.self _ _ c.invalid-node.result c.in_ok-left.left c.invalid-node.ensures.made c.in_ok-left.ensures.ok).from;
+  from = (made_at c.invalid-node.new.self _ _ c.invalid-node.result c.in_ok-left.left c.invalid-node.ensures.made
+      c.in_ok-left.ensures.ok).from;
 }

@@ -22,8 +22,10 @@ pub returns-clause-reads : goal.returns-clause-reads
 returns-clause-reads g c =
     let x = scope g.I.Tokens.model c.args.p.now.input in
     let arg = tree_of c.args.p.now.nodes c.args.arg in
-    m.node_on _ c.unary_op-node.result c.made.result (omega arith) c.unary_op-node.ensures.made c.made.ensures.ok c.made.ensures.refused (grows-same _) c.unary_op-node.ensures.grows
-    (s.on_checked_in (delete_ok (context g.I.Tokens.model c.args.p.now.input) c.args.op arg) c.in_ok-check_delete.ensures.checks
+    m.node_on _ c.unary_op-node.result c.made.result (omega arith) c.unary_op-node.ensures.made c.made.ensures.ok
+    c.made.ensures.refused (grows-same _) c.unary_op-node.ensures.grows
+    (s.on_checked_in (delete_ok (context g.I.Tokens.model c.args.p.now.input) c.args.op arg)
+    c.in_ok-check_delete.ensures.checks
     (λ ts h. rule.unary_op_well _ c.args.start c.args.op x arg ts h)
     (λ ts h. rule.unary_op_ill _ c.args.start c.args.op x arg ts h))
 

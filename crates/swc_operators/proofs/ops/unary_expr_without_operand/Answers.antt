@@ -21,8 +21,11 @@ returns g c =
     let view = tree_of c.unary_expr.new.p.nodes in
     let arg = tree_of c.recover.new.p.nodes c.in_ok-arg.arg in
     let above = h.from.above in record {
-      effect = s.tries_then model sure view (λ x ts. unary_op_node g.B.BodyForms.forms c.args.start c.args.op x arg ts) _ r h.effect more.reads.reads more.memory;
-      notes = λ l. s.notes_then model sure view (λ x ts. unary_op_node g.B.BodyForms.forms c.args.start c.args.op x arg ts) c.args.p.now.input (h.notes l) (s.here g.met.I.Tokens.laws _) _ r more.reads.reads;
+      effect = s.tries_then model sure view (λ x ts. unary_op_node g.B.BodyForms.forms c.args.start c.args.op x arg ts)
+          _ r h.effect more.reads.reads more.memory;
+      notes = λ l. s.notes_then model sure view (λ x ts.
+          unary_op_node g.B.BodyForms.forms c.args.start c.args.op x arg ts) c.args.p.now.input (h.notes l)
+          (s.here g.met.I.Tokens.laws _) _ r more.reads.reads;
       some = s.on_ok r h.some;
       memory = s.if_err (λ e. e.kind ≢ OutOfMemory) r h.some;
       falls = s.falls_after model c.unary_expr.new.p.input r h.effect more.reads.falls;

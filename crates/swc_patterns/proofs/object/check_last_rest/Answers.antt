@@ -19,24 +19,28 @@ pub returns-then-not-rest-clause-checks : goal.returns-then-not-rest-clause-chec
 returns-then-not-rest-clause-checks g c = λ sure. record {
   refuses = s.refused g.met.I.Tokens.laws (λ here. record { span = c.in_order.result; kind = DotsWithoutIdentifier }) _
       (λ here. λ e. cc) c.syntax_error.ensures;
-  none = λ n y l ts k. unnamed c.args.rest c.in-Some.rest c.args.comma (scope g.I.Tokens.model c.args.input.now) ts c.in-Some.is c.if-not-rest.true;
+  none = λ n y l ts k. unnamed c.args.rest c.in-Some.rest c.args.comma
+      (scope g.I.Tokens.model c.args.input.now) ts c.in-Some.is c.if-not-rest.true;
 }
 
 pub returns-then-not-rest-clause-judges : goal.returns-then-not-rest-clause-judges
 returns-then-not-rest-clause-judges g c = λ n.
-    last_dotted g.I.Tokens.model _ _ c.args.rest c.in-Some.rest c.args.comma c.in-Some.is c.if-not-rest.true c.in_order.ensures
+    last_dotted g.I.Tokens.model _ _ c.args.rest c.in-Some.rest c.args.comma c.in-Some.is c.if-not-rest.true
+    c.in_order.ensures
     c.syntax_error.ensures
 
 pub returns-in-Some-comma-clause-checks : goal.returns-in-Some-comma-clause-checks
 returns-in-Some-comma-clause-checks g c =
     let done = c.emit_err.ensures in
-    comma_checked g.I.Tokens.model _ _ c.args.rest c.in-Some.rest c.args.comma c.emit_err.result c.in-Some.is c.if-not-rest.false c.in-Some-comma.is
+    comma_checked g.I.Tokens.model _ _ c.args.rest c.in-Some.rest c.args.comma c.emit_err.result c.in-Some.is
+    c.if-not-rest.false c.in-Some-comma.is
     (emit-checked g.met.I.Tokens.laws _ _ _ c.emit_err.result done.silent done.recorded done.refused done.read)
 
 pub returns-in-Some-comma-clause-judges : goal.returns-in-Some-comma-clause-judges
 returns-in-Some-comma-clause-judges g c =
     let done = c.emit_err.ensures in
-    comma_judged g.I.Tokens.model _ _ c.args.rest c.in-Some.rest c.args.comma c.emit_err.result c.in-Some.is c.if-not-rest.false c.in-Some-comma.is
+    comma_judged g.I.Tokens.model _ _ c.args.rest c.in-Some.rest c.args.comma c.emit_err.result c.in-Some.is
+    c.if-not-rest.false c.in-Some-comma.is
     (emit-noted g.I.Tokens.model _ _ _ c.emit_err.result done.silent done.recorded)
     (emit-checked g.met.I.Tokens.laws _ _ _ c.emit_err.result done.silent done.recorded done.refused done.read)
 

@@ -6,4 +6,5 @@ use Rattle.swc_primary.proofs.methods.check_params.Goals as goal
 
 pub returns-in_default-clause-checks : goal.returns-in_default-clause-checks
 returns-in_default-clause-checks g c =
-    check_passes (accessor_ok c.args.kind (params_at c.args.nodes.now c.args.params.now)) g.met.I.Tokens.laws _ (search rules)
+    check_passes (accessor_ok c.args.kind (params_at c.args.nodes.now c.args.params.now)) g.met.I.Tokens.laws _
+    (search rules)

@@ -10,5 +10,6 @@ returns-in_err-check_count-clause-checks g c =
 
 pub returns-clause-checks : goal.returns-clause-checks
 returns-clause-checks g c =
-    check_later g.I.Tokens.model (not (just_one c.args.params.now.items)) (begins_rest c.args.nodes.now c.args.params.now.items) _ _ _
+    check_later g.I.Tokens.model (not (just_one c.args.params.now.items))
+    (begins_rest c.args.nodes.now c.args.params.now.items) _ _ _
     c.check_rest.result c.in_ok-check_count.ensures.checks c.check_rest.ensures.checks

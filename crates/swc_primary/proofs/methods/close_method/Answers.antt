@@ -22,7 +22,8 @@ returns-in_err-expect g c = λ k held.
     let place = g.B.Block.Spanned.place in
     let kind = c.args.kind in
     let ps = params_at c.args.p.now.nodes c.args.params in
-    let closed = s.on_checked {g = λ x ts. expected is_rparen x ts >>= (λ p. method_block_by hook place kind true c.args.start ps x p.1)}
+    let closed = s.on_checked {g = λ x ts. expected is_rparen x ts >>=
+    (λ p. method_block_by hook place kind true c.args.start ps x p.1)}
     (accessor_ok kind ps) c.in_ok-check_params.ensures.checks
     (λ x ts h. function.close_well hook place kind c.args.start ps x ts h)
     (λ x ts h. function.close_ill hook place kind c.args.start ps x ts h) in
@@ -38,7 +39,8 @@ returns-in_err-body g c = λ k held.
     let place = g.B.Block.Spanned.place in
     let kind = c.args.kind in
     let ps = params_at c.args.p.now.nodes c.args.params in
-    let closed = s.on_checked {g = λ x ts. expected is_rparen x ts >>= (λ p. method_block_by hook place kind true c.args.start ps x p.1)}
+    let closed = s.on_checked {g = λ x ts. expected is_rparen x ts >>=
+    (λ p. method_block_by hook place kind true c.args.start ps x p.1)}
     (accessor_ok kind ps) c.in_ok-check_params.ensures.checks
     (λ x ts h. function.close_well hook place kind c.args.start ps x ts h)
     (λ x ts h. function.close_ill hook place kind c.args.start ps x ts h) in
@@ -57,7 +59,8 @@ pub returns-in_err-params : goal.returns-in_err-params
 returns-in_err-params g c = λ k held.
     let ns = c.args.p.now.nodes in
     let later = s.leads_then c.in_ok-check_params.ensures.checks.leads
-    (s.leads_then (c.in_ok-expect.ensures.expects g.B.Bodies.is_faithful).on.leads c.in_ok-body.ensures.reads.on.leads) in
+    (s.leads_then (c.in_ok-expect.ensures.expects g.B.Bodies.is_faithful).on.leads
+    c.in_ok-body.ensures.reads.on.leads) in
     m.refused_more c.from_residual-in_err-params.ensures.1
     (s.unheard_memory (s.forgoes_later later c.in_err-params.ensures.tries))
     (grows-then (grows-kept c.parse_method_block.ensures.nodes) c.missing_param.ensures.grows)
@@ -98,7 +101,8 @@ returns g c = λ k held.
     let body = c.in_ok-body.body in
     let whole = method_function_of place kind c.args.start params body in
     let kept = grows-kept c.parse_method_block.ensures.nodes in
-    let closed = s.on_checked {g = λ x ts. expected is_rparen x ts >>= (λ p. method_block_by hook place kind true c.args.start ps x p.1)}
+    let closed = s.on_checked {g = λ x ts. expected is_rparen x ts >>=
+    (λ p. method_block_by hook place kind true c.args.start ps x p.1)}
     (accessor_ok kind ps) c.in_ok-check_params.ensures.checks
     (λ x ts h. function.close_well hook place kind c.args.start ps x ts h)
     (λ x ts h. function.close_ill hook place kind c.args.start ps x ts h) in

@@ -34,6 +34,7 @@ returns-in-Err-clause-opened g c = λ sure.
     let w = method_params (async_in c.args.kind) (generator_in c.args.kind) in
     s.parses_within g.I.Tokens.model sure (λ v. v) (expected is_lparen) (expected is_lparen) (Err c.in-Err.error)
     w (λ x. refl) (λ x ts. expected_within is_lparen w x ts) c.set_ctx.ensures.moves
-    (ap deciding (c.set_ctx.ensures.context ∙ c.method_params.ensures) ∙ ap (λ x. deciding (w x)) c.get_ctx-before.ensures)
+    (ap deciding (c.set_ctx.ensures.context ∙ c.method_params.ensures) ∙ ap
+    (λ x. deciding (w x)) c.get_ctx-before.ensures)
     (c.in-Err.ensures.expects sure) c.set_ctx-in-Err.ensures.moves
     (c.set_ctx-in-Err.ensures.context ∙ c.get_ctx-before.ensures)

@@ -4,8 +4,7 @@ use Rattle.swc_steps.proofs.Steps as s
 use Rattle.swc_primary.proofs.object.eat_questioned.Goals as goal
 
 pub returns-in-Cover-clause-acts : goal.returns-in-Cover-clause-acts
-returns-in-Cover-clause-acts g c =
-    s.eats_acts g.I.Tokens.model is_equals _ _ c.eat.result (c.eat.ensures.eats true)
+returns-in-Cover-clause-acts g c = s.eats_acts g.I.Tokens.model is_equals _ _ c.eat.result (c.eat.ensures.eats true)
 
 pub returns-in-Method-AsyncGenerator-clause-acts : goal.returns-in-Method-AsyncGenerator-clause-acts
 returns-in-Method-AsyncGenerator-clause-acts g c =

@@ -13,13 +13,16 @@ returns-in_err-name-clause-parses g c =
 
 pub returns-in_err-check_open_name-clause-parses : goal.returns-in_err-check_open_name-clause-parses
 returns-in_err-check_open_name-clause-parses g c =
-    let p = err_from_is_err_and c.from_residual-in_err-check_open_name.result c.from_residual-in_err-check_open_name.ensures.1 in λ sure. rw (p.1, p.2)
-    (s.unheard_memory (s.forgoes_later (c.in_ok-name.ensures.parses sure).on.leads c.in_err-check_open_name.ensures.checks))
+    let p = err_from_is_err_and c.from_residual-in_err-check_open_name.result
+    c.from_residual-in_err-check_open_name.ensures.1 in λ sure. rw (p.1, p.2)
+    (s.unheard_memory (s.forgoes_later (c.in_ok-name.ensures.parses sure).on.leads
+    c.in_err-check_open_name.ensures.checks))
 
 pub returns-clause-parses : goal.returns-clause-parses
 returns-clause-parses g c = λ sure.
     let name = name_spelling c.in_ok-name.name in
     s.heard_more _ open_name_splits (c.in_ok-name.ensures.parses sure)
-    (s.on_checked_in (not (is_reserved_word (context g.I.Tokens.model c.parse_ident_name.new.input) c.in_ok-name.name.sym)) c.in_ok-check_open_name.ensures.checks
+    (s.on_checked_in (not (is_reserved_word (context g.I.Tokens.model c.parse_ident_name.new.input)
+    c.in_ok-name.name.sym)) c.in_ok-check_open_name.ensures.checks
     (λ ts h. open_by_well (scope g.I.Tokens.model c.parse_ident_name.new.input) name ts h)
     (λ ts h. open_by_ill (scope g.I.Tokens.model c.parse_ident_name.new.input) name ts h))

@@ -15,7 +15,8 @@ returns-in_err-look-clause-parses g c =
 
 pub returns-in_err-check_questioned-clause-parses : goal.returns-in_err-check_questioned-clause-parses
 returns-in_err-check_questioned-clause-parses g c =
-    let p = err_from_is_err_and c.from_residual-in_err-check_questioned.result c.from_residual-in_err-check_questioned.ensures.1 in
+    let p = err_from_is_err_and c.from_residual-in_err-check_questioned.result
+    c.from_residual-in_err-check_questioned.ensures.1 in
     λ sure. rw (p.1, p.2)
     (s.unheard_memory (s.forgoes_later
     (s.leads_then (c.in_ok-name.ensures.parses sure).on.leads (s.here_leads c.in_ok-look.ensures.looks))
@@ -23,7 +24,8 @@ returns-in_err-check_questioned-clause-parses g c =
 
 pub returns-in_err-eat_questioned-clause-parses : goal.returns-in_err-eat_questioned-clause-parses
 returns-in_err-eat_questioned-clause-parses g c =
-    let p = err_from_is_err_and c.from_residual-in_err-eat_questioned.result c.from_residual-in_err-eat_questioned.ensures.1 in
+    let p = err_from_is_err_and c.from_residual-in_err-eat_questioned.result
+    c.from_residual-in_err-eat_questioned.ensures.1 in
     λ sure. rw (p.1, p.2)
     (s.unheard_none (λ x ts. refl) (s.refuses_later
     (s.leads_then (c.in_ok-name.ensures.parses sure).on.leads

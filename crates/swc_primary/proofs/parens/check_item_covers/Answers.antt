@@ -17,7 +17,8 @@ loop-item-init g c = (check_passes true g.met.I.Tokens.laws _ refl, omega arith)
 
 pub check_cover_names-requires : goal.check_cover_names-requires
 check_cover_names-requires g c =
-    item_from c.deref-item-items.result.now c.args.items.now.items c.loop-item.item-index _ c.deref-item-items.ensures.value
+    item_from c.deref-item-items.result.now c.args.items.now.items c.loop-item.item-index _
+    c.deref-item-items.ensures.value
     c.loop-item-test.true c.requires
 
 pub returns-in_err-check_cover_names-clause-checks : goal.returns-in_err-check_cover_names-clause-checks
@@ -37,7 +38,8 @@ returns-clause-checks g c =
     subst (λ v. Checks g.I.Tokens.model (v || no_covers (item_trees (tree_of c.args.nodes.now) c.args.items.now.items))
     c.args.input.now c.loop-item.input)
     (sym (ap (λ v. v.pedantic) (sym c.syntax-syntax.ensures) ∙ c.if-syntax.false))
-    (items_checked (tree_of c.args.nodes.now) c.deref-item-items.result.now c.args.items.now.items c.loop-item.item-index
+    (items_checked (tree_of c.args.nodes.now) c.deref-item-items.result.now c.args.items.now.items
+    c.loop-item.item-index
     c.deref-item-items.ensures.value (let h = c.loop-item-test.false in omega arith) c.loop-item.invariant.0)
 
 pub returns-clause-falls : goal.returns-clause-falls

@@ -5,7 +5,8 @@ use Rattle.swc_primary.proofs.parens.check_last_comma.Goals as goal
 
 pub returns-in-Some-clause-checks : goal.returns-in-Some-clause-checks
 returns-in-Some-clause-checks g c =
-    check_notes g.I.Tokens.model (not (is_some c.args.comma)) _ _ c.emit_err.result (ap (λ v. not (is_some v)) c.in-Some.is)
+    check_notes g.I.Tokens.model (not (is_some c.args.comma)) _ _ c.emit_err.result
+    (ap (λ v. not (is_some v)) c.in-Some.is)
     c.emit_err.ensures.tries c.emit_err.ensures.notes
 
 pub returns-in-None-clause-checks : goal.returns-in-None-clause-checks

@@ -13,20 +13,23 @@ returns-in_err-check_item_covers-clause-refuses g c =
 pub returns-then-is_empty-clause-refuses : goal.returns-then-is_empty-clause-refuses
 returns-then-is_empty-clause-refuses g c = (
   s.refuses_later c.in_ok-check_item_covers.ensures.checks.leads c.syntax_error.ensures.refuses,
-  λ n. paren_none (tree_of c.args.nodes.now) _ c.args.list.now.trailing_comma c.args.list.now.end c.args.list.now.items.items
+  λ n. paren_none (tree_of c.args.nodes.now) _ c.args.list.now.trailing_comma c.args.list.now.end
+      c.args.list.now.items.items
       (let e = eqb-true _ 0 (sym c.is_empty.ensures ∙ c.if-is_empty.true) in omega arith),
 )
 
 pub returns-in_err-check_last_comma-clause-refuses : goal.returns-in_err-check_last_comma-clause-refuses
 returns-in_err-check_last_comma-clause-refuses g c =
-    let p = err_from_is_err_and c.from_residual-in_err-check_last_comma.result c.from_residual-in_err-check_last_comma.ensures.1 in
+    let p = err_from_is_err_and c.from_residual-in_err-check_last_comma.result
+    c.from_residual-in_err-check_last_comma.ensures.1 in
     let h = s.forgoes_later c.in_ok-check_item_covers.ensures.checks.leads c.in_err-check_last_comma.ensures.checks in
     rw (p.1, p.2) (s.forgoes_refuses h, λ n. absurd (n h.kind))
 
 pub returns-clause-checks : goal.returns-clause-checks
 returns-clause-checks g c =
     paren_checked (tree_of c.args.nodes.now) _ c.refuse_spread.result c.args.list.now.trailing_comma c.args.list.now.end
-    c.args.list.now.items.items _ (grind (arith, common_steps, c.is_empty.ensures, c.if-is_empty.false)) c.in_ok-check_item_covers.ensures.checks
+    c.args.list.now.items.items _ (grind (arith, common_steps, c.is_empty.ensures, c.if-is_empty.false))
+    c.in_ok-check_item_covers.ensures.checks
     c.in_ok-check_last_comma.ensures.checks c.refuse_spread.ensures.passes
 
 pub returns-clause-refuses : goal.returns-clause-refuses

@@ -6,6 +6,7 @@ use Rattle.swc_primary.proofs.parens.check_prop.Goals as goal
 
 pub returns-in_default : goal.returns-in_default
 returns-in_default g c = record {
-  checks = check_passes (not (is_cover_prop c.args.prop.now)) g.met.I.Tokens.laws _ (ap not (no_assign c.args.prop.now c.in_default.not-Assign));
+  checks = check_passes (not (is_cover_prop c.args.prop.now)) g.met.I.Tokens.laws _
+      (ap not (no_assign c.args.prop.now c.in_default.not-Assign));
   falls = omega arith;
 }

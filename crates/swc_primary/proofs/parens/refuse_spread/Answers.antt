@@ -8,7 +8,8 @@ loop-item-init g c = (refl, refl)
 
 pub span-span-requires : goal.span-span-requires
 span-span-requires g c =
-    item_from c.deref-item-items.result.now c.args.items.now.items c.loop-item.item-index _ c.deref-item-items.ensures.value
+    item_from c.deref-item-items.result.now c.args.items.now.items c.loop-item.item-index _
+    c.deref-item-items.ensures.value
     c.loop-item-test.true c.requires
 
 pub returns-then-is_some-clause-refuses : goal.returns-then-is_some-clause-refuses

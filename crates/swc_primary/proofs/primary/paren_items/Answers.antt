@@ -35,9 +35,12 @@ returns g c = λ k apart.
     let xs = map (λ (x : ExprOrSpread ExprId). x.expr) c.args.list.items.items in
     let held = seq_between (first_start now xs) (last_end now xs)
     (held_exprs (item_trees (tree_of now) c.args.list.items.items)) in
-    let over = made_over now c.seq_of_items-node.new.self k (args_parts c.args.list.items) held c.seq_of_items-node.result c.seq_of_items-node.ensures.made apart in
-    let one = made_at c.seq_of_items-node.new.self k held c.seq_of_items-node.result c.in_ok-expr.expr over c.in_ok-expr.ensures.ok in
-    m.node_on _ c.paren_expr-node.result c.made-2.result one.from.above c.paren_expr-node.ensures.made c.made-2.ensures.ok
+    let over = made_over now c.seq_of_items-node.new.self k
+    (args_parts c.args.list.items) held c.seq_of_items-node.result c.seq_of_items-node.ensures.made apart in
+    let one = made_at c.seq_of_items-node.new.self k held c.seq_of_items-node.result c.in_ok-expr.expr over
+    c.in_ok-expr.ensures.ok in
+    m.node_on _ c.paren_expr-node.result c.made-2.result one.from.above c.paren_expr-node.ensures.made
+    c.made-2.ensures.ok
     c.made-2.ensures.refused c.seq_of_items-node.ensures.grows c.paren_expr-node.ensures.grows
     (s.on_answer (ap (λ v. paren_e (from_to c.args.start.lo c.args.list.end.hi) v) (sym one.stands))
     (s.on_then (free_on _ (c.in_ok-refuse_arrow.ensures.free g.B.Bodies.is_faithful))

@@ -24,7 +24,8 @@ pub returns-clause-reads : goal.returns-clause-reads
 returns-clause-reads g c =
     s.parses_after g.I.Tokens.model g.B.Bodies.is_faithful (λ v. v) _ _ c.answered.result
     (s.on_seen {g = by_hook g.B.BodyForms.forms.class} c.in_ok-look.ensures.looks (λ x ts same e. refl))
-    (hearing.hook_parses g.I.Tokens.model g.met.I.Tokens.laws _ g.met.B.Bodies.lawful.class.viewed g.B.Bodies.is_faithful _ c.class-answer.result c.answered.result
+    (hearing.hook_parses g.I.Tokens.model g.met.I.Tokens.laws _ g.met.B.Bodies.lawful.class.viewed
+    g.B.Bodies.is_faithful _ c.class-answer.result c.answered.result
     c.class-answer.ensures.hooked c.class-answer.ensures.faithful c.answered.ensures.runs c.answered.ensures.fails)
 
 pub class-answer-requires : goal.class-answer-requires

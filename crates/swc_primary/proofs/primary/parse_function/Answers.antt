@@ -24,7 +24,8 @@ pub returns-in_err-is_async_function-clause-reads : goal.returns-in_err-is_async
 returns-in_err-is_async_function-clause-reads g c =
     let r = c.from_residual-in_err-is_async_function in
     let p = err_from_is_err_and r.result r.ensures.1 in rw (p.1, p.2)
-    (s.unheard_memory (s.forgoes_later (s.here_leads c.in_ok-look.ensures.looks) c.in_err-is_async_function.ensures.tells))
+    (s.unheard_memory (s.forgoes_later (s.here_leads c.in_ok-look.ensures.looks)
+    c.in_err-is_async_function.ensures.tells))
 
 pub returns-then-branch-clause-reads : goal.returns-then-branch-clause-reads
 returns-then-branch-clause-reads g c =

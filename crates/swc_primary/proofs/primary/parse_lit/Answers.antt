@@ -15,18 +15,22 @@ returns-in_err-require_cur-clause-parses g c =
 
 pub returns-then-not-is_lit-clause-parses : goal.returns-then-not-is_lit-clause-parses
 returns-then-not-is_lit-clause-parses g c = λ sure.
-    s.unheard_at c.in_ok-require_cur.ensures.fits (λ x ts same e. rule.lit_not _ x ts (ap (at_token is_lit) e ∙ sym c.is_lit.ensures.value ∙ c.if-not-is_lit.true)) c.no_primary.ensures.refuses
+    s.unheard_at c.in_ok-require_cur.ensures.fits (λ x ts same e.
+    rule.lit_not _ x ts (ap (at_token is_lit) e ∙ sym c.is_lit.ensures.value ∙ c.if-not-is_lit.true))
+    c.no_primary.ensures.refuses
 
 pub returns-clause-parses : goal.returns-clause-parses
 returns-clause-parses g c = λ sure.
     let took = c.bump-token.ensures in
     let e = lit_in c.args.p.now.nodes c.lit_of.result in
     s.heard_after (s.on_seen c.in_ok-require_cur.ensures.fits (λ x ts same h. refl))
-    (s.heard_took g.met.I.Tokens.laws took (λ x ts. rule.lit_takes _ e x (plain took.was) ts (s.at_was lit_of e took c.prev_span-span.result c.prev_span-span.ensures
+    (s.heard_took g.met.I.Tokens.laws took (λ x ts. rule.lit_takes _ e x (plain took.was) ts
+    (s.at_was lit_of e took c.prev_span-span.result c.prev_span-span.ensures
     (literal_tree _ _ c.lit_of.result c.lit_of.ensures))))
 
 pub returns-clause-literal : goal.returns-clause-literal
 returns-clause-literal g c =
     s.literal_took c.in_ok-require_cur.ensures.fits c.bump-token.ensures
-    (s.at_was lit_of (lit_in c.args.p.now.nodes c.lit_of.result) c.bump-token.ensures c.prev_span-span.result c.prev_span-span.ensures
+    (s.at_was lit_of (lit_in c.args.p.now.nodes c.lit_of.result) c.bump-token.ensures c.prev_span-span.result
+    c.prev_span-span.ensures
     (literal_tree _ _ c.lit_of.result c.lit_of.ensures))

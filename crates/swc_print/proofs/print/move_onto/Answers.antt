@@ -3,7 +3,8 @@ use Rattle.swc_print.proofs.Added.{one_moved, none_left}
 use Rattle.swc_print.proofs.print.move_onto.Goals as goal
 
 pub loop-piece-preserved : goal.loop-piece-preserved
-loop-piece-preserved c = one_moved c.loop-piece.stack.items c.loop-piece.pieces.items c.push.new.self.items c.pop.new.self.items c.in-Some.piece _ c.in-Some.ensures.items c.in_ok-push.ensures.items c.loop-piece.invariant
+loop-piece-preserved c = one_moved c.loop-piece.stack.items c.loop-piece.pieces.items c.push.new.self.items
+    c.pop.new.self.items c.in-Some.piece _ c.in-Some.ensures.items c.in_ok-push.ensures.items c.loop-piece.invariant
 
 pub returns-clause-moved : goal.returns-clause-moved
 returns-clause-moved c =

@@ -167,15 +167,20 @@ parse_primary_expr-returns-in_err-list-in-Paren g t c =
     let first = c.skip.ensures.took.1 in
     let start = c.cur_span-start.result in
     let place = s.place_was first c.cur_span-start.result c.cur_span-start.ensures in
-    let begun = s.on_then (s.on_seen c.in_ok-look.ensures.looks (λ x ts same e. rule.paren_expr_picked _ x ts (ap (at_token is_lparen) e ∙ sign)))
+    let begun = s.on_then (s.on_seen c.in_ok-look.ensures.looks
+    (λ x ts same e. rule.paren_expr_picked _ x ts (ap (at_token is_lparen) e ∙ sign)))
     (s.on_took {g = paren_expr_tail g.B.BodyForms.forms start} g.met.I.Tokens.laws first
-    (λ x ts. args.paren_expr_opens _ (plain first.was) x ts (rule.passes_plain is_lparen _ _ first.current sign) ∙ ap (λ v. paren_expr_tail g.B.BodyForms.forms v x ts) (sym place))) in
+    (λ x ts. args.paren_expr_opens _ (plain first.was) x ts (rule.passes_plain is_lparen _ _ first.current sign) ∙ ap
+    (λ v. paren_expr_tail g.B.BodyForms.forms v x ts) (sym place))) in
     m.refused c.from_residual-in_err-list-in-Paren.ensures.1
     (s.unheard_after begun
     (s.unheard_call _ (args.paren_expr_splits _ start) c.in_err-list-in-Paren.ensures.reads)) c.parse_args.ensures.grows
 
 pub parse_primary_expr-paren_items-requires : goal.parse_primary_expr-paren_items-requires
-parse_primary_expr-paren_items-requires g t c = record { apart = apart-down (args_parts c.in_ok-list-in-Paren.list.items) c.in_ok-list-in-Paren.ensures.from }
+parse_primary_expr-paren_items-requires g t c = record {
+  apart =
+      apart-down (args_parts c.in_ok-list-in-Paren.list.items) c.in_ok-list-in-Paren.ensures.from;
+}
 
 pub parse_primary_expr-returns-in_ok-list-in-Paren : goal.parse_primary_expr-returns-in_ok-list-in-Paren
 parse_primary_expr-returns-in_ok-list-in-Paren g t c =
@@ -183,13 +188,17 @@ parse_primary_expr-returns-in_ok-list-in-Paren g t c =
     let first = c.skip.ensures.took.1 in
     let start = c.cur_span-start.result in
     let place = s.place_was first c.cur_span-start.result c.cur_span-start.ensures in
-    let begun = s.on_then (s.on_seen c.in_ok-look.ensures.looks (λ x ts same e. rule.paren_expr_picked _ x ts (ap (at_token is_lparen) e ∙ sign)))
+    let begun = s.on_then (s.on_seen c.in_ok-look.ensures.looks
+    (λ x ts same e. rule.paren_expr_picked _ x ts (ap (at_token is_lparen) e ∙ sign)))
     (s.on_took {g = paren_expr_tail g.B.BodyForms.forms start} g.met.I.Tokens.laws first
-    (λ x ts. args.paren_expr_opens _ (plain first.was) x ts (rule.passes_plain is_lparen _ _ first.current sign) ∙ ap (λ v. paren_expr_tail g.B.BodyForms.forms v x ts) (sym place))) in
+    (λ x ts. args.paren_expr_opens _ (plain first.was) x ts (rule.passes_plain is_lparen _ _ first.current sign) ∙ ap
+    (λ v. paren_expr_tail g.B.BodyForms.forms v x ts) (sym place))) in
     m.after {m = record c.args.p.now { input = c.skip.new.input }} c.paren_items.result begun (grows-same _)
     (m.call_read c.paren_items.result _ (args.paren_expr_splits _ start)
-    c.in_ok-list-in-Paren.ensures.reads (λ x ts us h y ys. closed_clean _ g.met.B.Bodies.lawful start c.in_ok-list-in-Paren.list x ts us
-    c.in_ok-list-in-Paren.ensures.from h y ys) c.parse_args.ensures.grows (λ x h. h) (c.paren_items.ensures (count c.args.p.now.nodes) c.in_ok-list-in-Paren.ensures.from))
+    c.in_ok-list-in-Paren.ensures.reads (λ x ts us h y ys.
+    closed_clean _ g.met.B.Bodies.lawful start c.in_ok-list-in-Paren.list x ts us
+    c.in_ok-list-in-Paren.ensures.from h y ys) c.parse_args.ensures.grows (λ x h. h)
+    (c.paren_items.ensures (count c.args.p.now.nodes) c.in_ok-list-in-Paren.ensures.from))
 
 pub parse_primary_expr-open_array-requires : goal.parse_primary_expr-open_array-requires
 parse_primary_expr-open_array-requires g t c = opening.is_array _ (sym c.primary_kind.ensures ∙ c.in-Array.is)
@@ -199,28 +208,42 @@ parse_primary_expr-returns-in_err-elems-in-Array g t c =
     let opens = c.open_array.ensures.opens in
     let lo = c.open_array.result.0 in
     let view = elems_at c.parse_elements-elems.new.p.nodes in
-    let begun = opening.array_begins g.B.Bodies.is_faithful g.B.BodyForms.forms c.in_ok-look.ensures.looks (sym c.primary_kind.ensures ∙ c.in-Array.is) opens in
-    let read = opening.elements_read g.B.Bodies.is_faithful g.B.BodyForms.forms view c.parse_elements-elems.result opens c.parse_elements-elems.ensures.reads c.set_ctx.ensures.moves c.set_ctx.ensures.context in
+    let begun = opening.array_begins g.B.Bodies.is_faithful g.B.BodyForms.forms c.in_ok-look.ensures.looks
+    (sym c.primary_kind.ensures ∙ c.in-Array.is) opens in
+    let read = opening.elements_read g.B.Bodies.is_faithful g.B.BodyForms.forms view c.parse_elements-elems.result opens
+    c.parse_elements-elems.ensures.reads c.set_ctx.ensures.moves c.set_ctx.ensures.context in
     m.refused c.from_residual-in_err-elems-in-Array.ensures.1
     (s.unheard_after begun
-    (s.unheard_call (λ x p. Some (array_from lo p.0, p.1)) (λ x ts. refl) (s.parses_err g.I.Tokens.model g.B.Bodies.is_faithful view (elements_inside g.B.BodyForms.forms) _ _ c.parse_elements-elems.result _ c.in_err-elems-in-Array.was read)))
+    (s.unheard_call (λ x p. Some (array_from lo p.0, p.1)) (λ x ts. refl)
+    (s.parses_err g.I.Tokens.model g.B.Bodies.is_faithful view
+    (elements_inside g.B.BodyForms.forms) _ _ c.parse_elements-elems.result _ c.in_err-elems-in-Array.was read)))
     c.parse_elements-elems.ensures.grows
 
 pub parse_primary_expr-array_lit-requires : goal.parse_primary_expr-array_lit-requires
 parse_primary_expr-array_lit-requires g t c =
-    record { apart = apart-down (elem_parts c.in_ok-elems-in-Array.field-0.items) (m.held_is _ c.parse_elements-elems.result c.in_ok-elems-in-Array.field-0 c.in_ok-elems-in-Array.was c.parse_elements-elems.ensures.from) }
+    record {
+      apart = apart-down (elem_parts c.in_ok-elems-in-Array.field-0.items)
+          (m.held_is _ c.parse_elements-elems.result c.in_ok-elems-in-Array.field-0 c.in_ok-elems-in-Array.was
+          c.parse_elements-elems.ensures.from);
+    }
 
 pub parse_primary_expr-returns-in_ok-elems-in-Array : goal.parse_primary_expr-returns-in_ok-elems-in-Array
 parse_primary_expr-returns-in_ok-elems-in-Array g t c =
     let opens = c.open_array.ensures.opens in
     let lo = c.open_array.result.0 in
     let view = elems_at c.parse_elements-elems.new.p.nodes in
-    let begun = opening.array_begins g.B.Bodies.is_faithful g.B.BodyForms.forms c.in_ok-look.ensures.looks (sym c.primary_kind.ensures ∙ c.in-Array.is) opens in
-    let read = opening.elements_read g.B.Bodies.is_faithful g.B.BodyForms.forms view c.parse_elements-elems.result opens c.parse_elements-elems.ensures.reads c.set_ctx.ensures.moves c.set_ctx.ensures.context in
-    let heard = s.parses_ok g.I.Tokens.model g.B.Bodies.is_faithful view (elements_inside g.B.BodyForms.forms) _ _ c.parse_elements-elems.result c.in_ok-elems-in-Array.field-0 c.in_ok-elems-in-Array.was read in
+    let begun = opening.array_begins g.B.Bodies.is_faithful g.B.BodyForms.forms c.in_ok-look.ensures.looks
+    (sym c.primary_kind.ensures ∙ c.in-Array.is) opens in
+    let read = opening.elements_read g.B.Bodies.is_faithful g.B.BodyForms.forms view c.parse_elements-elems.result opens
+    c.parse_elements-elems.ensures.reads c.set_ctx.ensures.moves c.set_ctx.ensures.context in
+    let heard = s.parses_ok g.I.Tokens.model g.B.Bodies.is_faithful view
+    (elements_inside g.B.BodyForms.forms) _ _ c.parse_elements-elems.result c.in_ok-elems-in-Array.field-0
+    c.in_ok-elems-in-Array.was read in
     m.after {m = record c.args.p.now { input = opens.between }} c.array_lit.result begun (grows-same _)
-    (m.call c.array_lit.result (λ x p. Some (array_from lo p.0, p.1)) (λ x ts. refl) heard c.parse_elements-elems.ensures.grows (λ x h. h)
-    (c.array_lit.ensures (count c.args.p.now.nodes) (m.held_is _ c.parse_elements-elems.result c.in_ok-elems-in-Array.field-0 c.in_ok-elems-in-Array.was c.parse_elements-elems.ensures.from)))
+    (m.call c.array_lit.result (λ x p. Some (array_from lo p.0, p.1))
+    (λ x ts. refl) heard c.parse_elements-elems.ensures.grows (λ x h. h)
+    (c.array_lit.ensures (count c.args.p.now.nodes) (m.held_is _ c.parse_elements-elems.result
+    c.in_ok-elems-in-Array.field-0 c.in_ok-elems-in-Array.was c.parse_elements-elems.ensures.from)))
 
 pub parse_primary_expr-open_object-requires : goal.parse_primary_expr-open_object-requires
 parse_primary_expr-open_object-requires g t c = opening.is_object _ (sym c.primary_kind.ensures ∙ c.in-Object.is)
@@ -230,71 +253,103 @@ parse_primary_expr-returns-in_err-props-in-Object g t c =
     let opens = c.open_object.ensures.opens in
     let lo = c.open_object.result.0 in
     let view = props_at c.parse_props-props.new.p.nodes in
-    let begun = opening.object_begins g.B.Bodies.is_faithful g.B.BodyForms.forms c.in_ok-look.ensures.looks (sym c.primary_kind.ensures ∙ c.in-Object.is) opens in
-    let read = opening.props_read g.B.Bodies.is_faithful g.B.BodyForms.forms view c.parse_props-props.result opens c.parse_props-props.ensures.reads c.set_ctx-in-Object.ensures.moves c.set_ctx-in-Object.ensures.context in
+    let begun = opening.object_begins g.B.Bodies.is_faithful g.B.BodyForms.forms c.in_ok-look.ensures.looks
+    (sym c.primary_kind.ensures ∙ c.in-Object.is) opens in
+    let read = opening.props_read g.B.Bodies.is_faithful g.B.BodyForms.forms view c.parse_props-props.result opens
+    c.parse_props-props.ensures.reads c.set_ctx-in-Object.ensures.moves c.set_ctx-in-Object.ensures.context in
     m.refused c.from_residual-in_err-props-in-Object.ensures.1
     (s.unheard_after begun
-    (s.unheard_call (λ x p. Some (object_from lo p.0, p.1)) (λ x ts. refl) (s.parses_err g.I.Tokens.model g.B.Bodies.is_faithful view (run g.B.BodyForms.forms (at Props)) _ _ c.parse_props-props.result _ c.in_err-props-in-Object.was read)))
+    (s.unheard_call (λ x p. Some (object_from lo p.0, p.1)) (λ x ts. refl)
+    (s.parses_err g.I.Tokens.model g.B.Bodies.is_faithful view
+    (run g.B.BodyForms.forms (at Props)) _ _ c.parse_props-props.result _ c.in_err-props-in-Object.was read)))
     c.parse_props-props.ensures.grows
 
 pub parse_primary_expr-object_lit-requires : goal.parse_primary_expr-object_lit-requires
 parse_primary_expr-object_lit-requires g t c =
-    record { apart = apart-down (props_parts c.in_ok-props-in-Object.field-0.items) (m.held_is _ c.parse_props-props.result c.in_ok-props-in-Object.field-0 c.in_ok-props-in-Object.was c.parse_props-props.ensures.from) }
+    record {
+      apart = apart-down (props_parts c.in_ok-props-in-Object.field-0.items)
+          (m.held_is _ c.parse_props-props.result c.in_ok-props-in-Object.field-0 c.in_ok-props-in-Object.was
+          c.parse_props-props.ensures.from);
+    }
 
 pub parse_primary_expr-returns-in_ok-props-in-Object : goal.parse_primary_expr-returns-in_ok-props-in-Object
 parse_primary_expr-returns-in_ok-props-in-Object g t c =
     let opens = c.open_object.ensures.opens in
     let lo = c.open_object.result.0 in
     let view = props_at c.parse_props-props.new.p.nodes in
-    let begun = opening.object_begins g.B.Bodies.is_faithful g.B.BodyForms.forms c.in_ok-look.ensures.looks (sym c.primary_kind.ensures ∙ c.in-Object.is) opens in
-    let read = opening.props_read g.B.Bodies.is_faithful g.B.BodyForms.forms view c.parse_props-props.result opens c.parse_props-props.ensures.reads c.set_ctx-in-Object.ensures.moves c.set_ctx-in-Object.ensures.context in
-    let heard = s.parses_ok g.I.Tokens.model g.B.Bodies.is_faithful view (run g.B.BodyForms.forms (at Props)) _ _ c.parse_props-props.result c.in_ok-props-in-Object.field-0 c.in_ok-props-in-Object.was read in
+    let begun = opening.object_begins g.B.Bodies.is_faithful g.B.BodyForms.forms c.in_ok-look.ensures.looks
+    (sym c.primary_kind.ensures ∙ c.in-Object.is) opens in
+    let read = opening.props_read g.B.Bodies.is_faithful g.B.BodyForms.forms view c.parse_props-props.result opens
+    c.parse_props-props.ensures.reads c.set_ctx-in-Object.ensures.moves c.set_ctx-in-Object.ensures.context in
+    let heard = s.parses_ok g.I.Tokens.model g.B.Bodies.is_faithful view
+    (run g.B.BodyForms.forms (at Props)) _ _ c.parse_props-props.result c.in_ok-props-in-Object.field-0
+    c.in_ok-props-in-Object.was read in
     m.after {m = record c.args.p.now { input = opens.between }} c.object_lit.result begun (grows-same _)
-    (m.call c.object_lit.result (λ x p. Some (object_from lo p.0, p.1)) (λ x ts. refl) heard c.parse_props-props.ensures.grows (λ x h. h)
-    (c.object_lit.ensures (count c.args.p.now.nodes) (m.held_is _ c.parse_props-props.result c.in_ok-props-in-Object.field-0 c.in_ok-props-in-Object.was c.parse_props-props.ensures.from)))
+    (m.call c.object_lit.result (λ x p. Some (object_from lo p.0, p.1))
+    (λ x ts. refl) heard c.parse_props-props.ensures.grows (λ x h. h)
+    (c.object_lit.ensures (count c.args.p.now.nodes) (m.held_is _ c.parse_props-props.result
+    c.in_ok-props-in-Object.field-0 c.in_ok-props-in-Object.was c.parse_props-props.ensures.from)))
 
 pub parse_primary_expr-returns-in_err-start-in-Template : goal.parse_primary_expr-returns-in_err-start-in-Template
 parse_primary_expr-returns-in_err-start-in-Template g t c =
-    let picked = s.on_seen {g = run g.B.BodyForms.forms (at (Template false))} c.in_ok-look.ensures.looks (λ x ts same e. rule.template_picked _ x ts (s.no_head same) (ap (at_token is_backquote) e ∙ opening.is_template _ (sym c.primary_kind.ensures ∙ c.in-Template.is))) in
+    let picked = s.on_seen {g = run g.B.BodyForms.forms (at (Template false))} c.in_ok-look.ensures.looks
+    (λ x ts same e. rule.template_picked _ x ts (s.no_head same)
+    (ap (at_token is_backquote) e ∙ opening.is_template _ (sym c.primary_kind.ensures ∙ c.in-Template.is))) in
     m.refused c.from_residual-in_err-start-in-Template.ensures.1
-    (s.unheard_after picked (s.unheard_call _ (tpl.template_splits _ false) (c.in_err-start-in-Template.ensures.expects g.B.Bodies.is_faithful))) (grows-same _)
+    (s.unheard_after picked (s.unheard_call _ (tpl.template_splits _ false)
+    (c.in_err-start-in-Template.ensures.expects g.B.Bodies.is_faithful))) (grows-same _)
 
 pub parse_primary_expr-returns-in_err-parts-in-Template : goal.parse_primary_expr-returns-in_err-parts-in-Template
 parse_primary_expr-returns-in_err-parts-in-Template g t c =
-    let picked = s.on_seen {g = run g.B.BodyForms.forms (at (Template false))} c.in_ok-look.ensures.looks (λ x ts same e. rule.template_picked _ x ts (s.no_head same) (ap (at_token is_backquote) e ∙ opening.is_template _ (sym c.primary_kind.ensures ∙ c.in-Template.is))) in
+    let picked = s.on_seen {g = run g.B.BodyForms.forms (at (Template false))} c.in_ok-look.ensures.looks
+    (λ x ts same e. rule.template_picked _ x ts (s.no_head same)
+    (ap (at_token is_backquote) e ∙ opening.is_template _ (sym c.primary_kind.ensures ∙ c.in-Template.is))) in
     let start = c.in_ok-start-in-Template.start in
     m.refused c.from_residual-in_err-parts-in-Template.ensures.1
-    (s.unheard_after (s.on_then picked (s.on_call _ (tpl.template_splits _ false) (c.in_ok-start-in-Template.ensures.expects g.B.Bodies.is_faithful).on))
-    (s.unheard_call (λ x p. Some (tpl_e (to start (span_of p.0)) p.0, p.1)) (λ x ts. refl) c.in_err-parts-in-Template.ensures.reads)) c.parse_tpl_elements.ensures.grows
+    (s.unheard_after (s.on_then picked (s.on_call _ (tpl.template_splits _ false)
+    (c.in_ok-start-in-Template.ensures.expects g.B.Bodies.is_faithful).on))
+    (s.unheard_call (λ x p. Some (tpl_e (to start (span_of p.0)) p.0, p.1))
+    (λ x ts. refl) c.in_err-parts-in-Template.ensures.reads)) c.parse_tpl_elements.ensures.grows
 
 pub parse_primary_expr-tpl-node-requires : goal.parse_primary_expr-tpl-node-requires
-parse_primary_expr-tpl-node-requires g t c = record { apart = apart-down (exprs_parts c.in_ok-parts-in-Template.parts.exprs) c.in_ok-parts-in-Template.ensures.from }
+parse_primary_expr-tpl-node-requires g t c = record {
+  apart =
+      apart-down (exprs_parts c.in_ok-parts-in-Template.parts.exprs) c.in_ok-parts-in-Template.ensures.from;
+}
 
 pub parse_primary_expr-returns-in_ok-parts-in-Template : goal.parse_primary_expr-returns-in_ok-parts-in-Template
 parse_primary_expr-returns-in_ok-parts-in-Template g t c =
-    let picked = s.on_seen {g = run g.B.BodyForms.forms (at (Template false))} c.in_ok-look.ensures.looks (λ x ts same e. rule.template_picked _ x ts (s.no_head same) (ap (at_token is_backquote) e ∙ opening.is_template _ (sym c.primary_kind.ensures ∙ c.in-Template.is))) in
+    let picked = s.on_seen {g = run g.B.BodyForms.forms (at (Template false))} c.in_ok-look.ensures.looks
+    (λ x ts same e. rule.template_picked _ x ts (s.no_head same)
+    (ap (at_token is_backquote) e ∙ opening.is_template _ (sym c.primary_kind.ensures ∙ c.in-Template.is))) in
     let start = c.in_ok-start-in-Template.start in
     let parts = c.in_ok-parts-in-Template.parts in
     let now = c.parse_tpl_elements.new.p.nodes in
     m.node _ c.tpl-node.result c.made.result (omega arith)
-    (made_over _ _ _ (exprs_parts parts.exprs) _ c.tpl-node.result c.tpl-node.ensures.made c.in_ok-parts-in-Template.ensures.from)
+    (made_over _ _ _ (exprs_parts parts.exprs) _ c.tpl-node.result c.tpl-node.ensures.made
+    c.in_ok-parts-in-Template.ensures.from)
     c.made.ensures.ok c.made.ensures.refused c.parse_tpl_elements.ensures.grows c.tpl-node.ensures.grows
     (s.heard_after picked
-    (s.heard_answer (ap (λ v. node tpl_kind (to start parts.end) v) (sym (trees-both (map quasi_tree parts.quasis.items) (map (tree_of now) parts.exprs.items))))
+    (s.heard_answer (ap (λ v. node tpl_kind (to start parts.end) v)
+    (sym (trees-both (map quasi_tree parts.quasis.items) (map (tree_of now) parts.exprs.items))))
     (s.heard_more _ (tpl.template_splits _ false) (c.in_ok-start-in-Template.ensures.expects g.B.Bodies.is_faithful)
-    (s.on_call (λ x p. Some (tpl_e (to start (span_of p.0)) p.0, p.1)) (λ x ts. refl) c.in_ok-parts-in-Template.ensures.reads.on))))
+    (s.on_call (λ x p. Some (tpl_e (to start (span_of p.0)) p.0, p.1))
+    (λ x ts. refl) c.in_ok-parts-in-Template.ensures.reads.on))))
 
 pub parse_primary_expr-parse_plain_primary-requires : goal.parse_primary_expr-parse_plain_primary-requires
-parse_primary_expr-parse_plain_primary-requires g t c = record { looked = opening.looked c.in_ok-look.ensures.looks; plain = sym c.primary_kind.ensures ∙ c.in-Plain.is }
+parse_primary_expr-parse_plain_primary-requires g t c =
+    record { looked = opening.looked c.in_ok-look.ensures.looks; plain = sym c.primary_kind.ensures ∙ c.in-Plain.is }
 
 pub parse_primary_expr-returns-in-Plain : goal.parse_primary_expr-returns-in-Plain
-parse_primary_expr-returns-in-Plain g t c = m.after c.parse_plain_primary.result (s.on_seen c.in_ok-look.ensures.looks (λ x ts same e. refl)) (grows-same _) c.parse_plain_primary.ensures
+parse_primary_expr-returns-in-Plain g t c = m.after c.parse_plain_primary.result
+    (s.on_seen c.in_ok-look.ensures.looks (λ x ts same e. refl)) (grows-same _) c.parse_plain_primary.ensures
 
 pub parse_elements-loop-items-init : goal.parse_elements-loop-items-init
 parse_elements-loop-items-init g t c =
     loop.started (list.elements_list _) _ _ _ _ g.met.I.Tokens.laws c.new-items.ensures.items
 
-pub parse_elements-loop-items-preserved-in_ok-add-in-Some-2 : goal.parse_elements-loop-items-preserved-in_ok-add-in-Some-2
+pub parse_elements-loop-items-preserved-in_ok-add-in-Some-2 :
+    goal.parse_elements-loop-items-preserved-in_ok-add-in-Some-2
 parse_elements-loop-items-preserved-in_ok-add-in-Some-2 g t c =
     let inv = c.loop-items.invariant in
     let more = loop.goes_on (list.elements_list _) inv c.in-None.is (c.in_ok-end.ensures.eats _) in
@@ -316,7 +371,8 @@ parse_elements-loop-items-preserved g t c =
 pub parse_elements-returns-in_err-end : goal.parse_elements-returns-in_err-end
 parse_elements-returns-in_err-end g t c =
     let inv = c.loop-items.invariant in
-    m.refused c.from_residual.ensures.1 (loop.end_refused (list.elements_list _) inv (c.in_err-end.ensures.eats _)) inv.grows
+    m.refused c.from_residual.ensures.1 (loop.end_refused (list.elements_list _) inv (c.in_err-end.ensures.eats _))
+    inv.grows
 
 pub parse_elements-returns-in-Some : goal.parse_elements-returns-in-Some
 parse_elements-returns-in-Some g t c =
@@ -374,14 +430,18 @@ parse_expr_or_spread-returns-in_err-spread g t c =
 pub parse_expr_or_spread-returns-in-Ok : goal.parse_expr_or_spread-returns-in-Ok
 parse_expr_or_spread-returns-in-Ok g t c =
     m.yes (Ok _)
-    (s.heard_after (s.on_call _ (list.item_splits _) (s.eats_on g.B.Bodies.is_faithful is_dots c.in_ok-spread.spread _ _ (c.in_ok-spread.ensures.eats g.B.Bodies.is_faithful)))
-    (s.heard_call (λ x q. Some (item_tree_of c.in_ok-spread.spread q.0, q.1)) (λ x ts. refl) (λ x ts. refl) c.in-Ok.ensures.reads))
+    (s.heard_after (s.on_call _ (list.item_splits _) (s.eats_on g.B.Bodies.is_faithful is_dots c.in_ok-spread.spread _ _
+    (c.in_ok-spread.ensures.eats g.B.Bodies.is_faithful)))
+    (s.heard_call (λ x q. Some (item_tree_of c.in_ok-spread.spread q.0, q.1)) (λ x ts. refl)
+    (λ x ts. refl) c.in-Ok.ensures.reads))
     c.parse_assignment_expr.ensures.grows c.in-Ok.ensures.from
 
 pub parse_expr_or_spread-returns-in-Err : goal.parse_expr_or_spread-returns-in-Err
 parse_expr_or_spread-returns-in-Err g t c =
     m.no (s.unheard_as c.label_spread.result c.label_spread.ensures.kind c.label_spread.ensures.memory
-    (s.unheard_after (s.on_call _ (list.item_splits _) (s.eats_on g.B.Bodies.is_faithful is_dots c.in_ok-spread.spread _ _ (c.in_ok-spread.ensures.eats g.B.Bodies.is_faithful)))
+    (s.unheard_after (s.on_call _ (list.item_splits _)
+    (s.eats_on g.B.Bodies.is_faithful is_dots c.in_ok-spread.spread _ _
+    (c.in_ok-spread.ensures.eats g.B.Bodies.is_faithful)))
     (s.unheard_call (λ x q. Some (item_tree_of c.in_ok-spread.spread q.0, q.1)) (λ x ts. refl) c.in-Err.ensures.reads)))
     c.parse_assignment_expr.ensures.grows
 
@@ -400,7 +460,8 @@ parse_props-loop-items-preserved g t c =
 pub parse_props-returns-in_err-end : goal.parse_props-returns-in_err-end
 parse_props-returns-in_err-end g t c =
     m.refused c.from_residual.ensures.1
-    (loop.end_refused (props.props_list _) c.loop-items.invariant (c.in_err-end.ensures.eats _)) c.loop-items.invariant.grows
+    (loop.end_refused (props.props_list _) c.loop-items.invariant (c.in_err-end.ensures.eats _))
+    c.loop-items.invariant.grows
 
 pub parse_props-returns-in-Some : goal.parse_props-returns-in-Some
 parse_props-returns-in-Some g t c =
@@ -434,13 +495,17 @@ parse_object_prop-returns-in_err-name g t c =
 
 pub parse_object_prop-returns-in-Shorthand : goal.parse_object_prop-returns-in-Shorthand
 parse_object_prop-returns-in-Shorthand g t c =
-    let left = begins.begun g.I.Tokens.model g.B.Bodies.is_faithful g.B.BodyForms.forms _ _ (head.Shorthand c.in-Shorthand.name) c.in-Shorthand.is c.in_ok-name.ensures.reads in
+    let left = begins.begun g.I.Tokens.model g.B.Bodies.is_faithful g.B.BodyForms.forms _ _
+    (head.Shorthand c.in-Shorthand.name) c.in-Shorthand.is c.in_ok-name.ensures.reads in
     m.yes (Ok _) left (grows-same _) (apart-none (omega arith))
 
 pub parse_object_prop-returns-in_err-expr-in-Spread : goal.parse_object_prop-returns-in_err-expr-in-Spread
 parse_object_prop-returns-in_err-expr-in-Spread g t c =
-    let inner = assign_within g.B.BodyForms.forms c.include_in-before.ensures.before c.include_in-before.ensures.moves c.include_in-before.ensures.context c.parse_assignment_expr-read.ensures c.in_err-expr-in-Spread.ensures.answer c.in_err-expr-in-Spread.ensures.moves c.in_err-expr-in-Spread.ensures.context in
-    let left = begins.begun g.I.Tokens.model g.B.Bodies.is_faithful g.B.BodyForms.forms _ _ (head.Spread c.in-Spread.dots) c.in-Spread.is c.in_ok-name.ensures.reads in
+    let inner = assign_within g.B.BodyForms.forms c.include_in-before.ensures.before c.include_in-before.ensures.moves
+    c.include_in-before.ensures.context c.parse_assignment_expr-read.ensures c.in_err-expr-in-Spread.ensures.answer
+    c.in_err-expr-in-Spread.ensures.moves c.in_err-expr-in-Spread.ensures.context in
+    let left = begins.begun g.I.Tokens.model g.B.Bodies.is_faithful g.B.BodyForms.forms _ _
+    (head.Spread c.in-Spread.dots) c.in-Spread.is c.in_ok-name.ensures.reads in
     m.refused c.from_residual-in_err-expr-in-Spread.ensures.1
     (s.unheard_after left
     (s.unheard_call _ (props.spread_prop_splits _ c.in-Spread.dots) inner.reads))
@@ -448,64 +513,87 @@ parse_object_prop-returns-in_err-expr-in-Spread g t c =
 
 pub parse_object_prop-returns-in_ok-expr-in-Spread : goal.parse_object_prop-returns-in_ok-expr-in-Spread
 parse_object_prop-returns-in_ok-expr-in-Spread g t c =
-    let inner = assign_within g.B.BodyForms.forms {o = Ok c.in_ok-expr-in-Spread.expr} c.include_in-before.ensures.before c.include_in-before.ensures.moves c.include_in-before.ensures.context c.parse_assignment_expr-read.ensures c.in_ok-expr-in-Spread.ensures.answer c.in_ok-expr-in-Spread.ensures.moves c.in_ok-expr-in-Spread.ensures.context in
-    let left = begins.begun g.I.Tokens.model g.B.Bodies.is_faithful g.B.BodyForms.forms _ _ (head.Spread c.in-Spread.dots) c.in-Spread.is c.in_ok-name.ensures.reads in
+    let inner = assign_within g.B.BodyForms.forms {o =
+    Ok c.in_ok-expr-in-Spread.expr} c.include_in-before.ensures.before c.include_in-before.ensures.moves
+    c.include_in-before.ensures.context c.parse_assignment_expr-read.ensures c.in_ok-expr-in-Spread.ensures.answer
+    c.in_ok-expr-in-Spread.ensures.moves c.in_ok-expr-in-Spread.ensures.context in
+    let left = begins.begun g.I.Tokens.model g.B.Bodies.is_faithful g.B.BodyForms.forms _ _
+    (head.Spread c.in-Spread.dots) c.in-Spread.is c.in_ok-name.ensures.reads in
     m.yes (Ok _)
     (s.heard_answer (sym c.spread_prop.ensures.tree) (s.heard_after left
     (s.heard_call _ (props.spread_prop_splits _ c.in-Spread.dots) (λ x ts. refl) inner.reads)))
     inner.grows
-    (subst (λ ps. Apart (count c.args.p.now.nodes) c.parse_assignment_expr-read.new.p.nodes ps) (sym c.spread_prop.ensures.parts)
+    (subst (λ ps. Apart (count c.args.p.now.nodes) c.parse_assignment_expr-read.new.p.nodes ps)
+    (sym c.spread_prop.ensures.parts)
     (apart-from (expr_part c.in_ok-expr-in-Spread.expr) inner.from))
 
 pub parse_object_prop-returns-in_err-value-in-Cover : goal.parse_object_prop-returns-in_err-value-in-Cover
 parse_object_prop-returns-in_err-value-in-Cover g t c =
-    let inner = assign_within g.B.BodyForms.forms c.include_in-before-in-Cover.ensures.before c.include_in-before-in-Cover.ensures.moves c.include_in-before-in-Cover.ensures.context c.parse_assignment_expr-read-in-Cover.ensures c.in_err-value-in-Cover.ensures.answer c.in_err-value-in-Cover.ensures.moves c.in_err-value-in-Cover.ensures.context in
+    let inner = assign_within g.B.BodyForms.forms c.include_in-before-in-Cover.ensures.before
+    c.include_in-before-in-Cover.ensures.moves c.include_in-before-in-Cover.ensures.context
+    c.parse_assignment_expr-read-in-Cover.ensures c.in_err-value-in-Cover.ensures.answer
+    c.in_err-value-in-Cover.ensures.moves c.in_err-value-in-Cover.ensures.context in
     let n = ident_spelling c.in-Cover.name in
-    let left = begins.begun g.I.Tokens.model g.B.Bodies.is_faithful g.B.BodyForms.forms _ _ (head.Cover c.in-Cover.name) c.in-Cover.is c.in_ok-name.ensures.reads in
+    let left = begins.begun g.I.Tokens.model g.B.Bodies.is_faithful g.B.BodyForms.forms _ _
+    (head.Cover c.in-Cover.name) c.in-Cover.is c.in_ok-name.ensures.reads in
     m.refused c.from_residual-in_err-value-in-Cover.ensures.1
     (s.unheard_after left
     (s.unheard_call _ (props.cover_tail_splits _ n) inner.reads)) inner.grows
 
 pub parse_object_prop-returns-in_ok-value-in-Cover : goal.parse_object_prop-returns-in_ok-value-in-Cover
 parse_object_prop-returns-in_ok-value-in-Cover g t c =
-    let inner = assign_within g.B.BodyForms.forms {o = Ok c.in_ok-value-in-Cover.value} c.include_in-before-in-Cover.ensures.before c.include_in-before-in-Cover.ensures.moves c.include_in-before-in-Cover.ensures.context c.parse_assignment_expr-read-in-Cover.ensures c.in_ok-value-in-Cover.ensures.answer c.in_ok-value-in-Cover.ensures.moves c.in_ok-value-in-Cover.ensures.context in
+    let inner = assign_within g.B.BodyForms.forms {o =
+    Ok c.in_ok-value-in-Cover.value} c.include_in-before-in-Cover.ensures.before
+    c.include_in-before-in-Cover.ensures.moves c.include_in-before-in-Cover.ensures.context
+    c.parse_assignment_expr-read-in-Cover.ensures c.in_ok-value-in-Cover.ensures.answer
+    c.in_ok-value-in-Cover.ensures.moves c.in_ok-value-in-Cover.ensures.context in
     let n = ident_spelling c.in-Cover.name in
-    let left = begins.begun g.I.Tokens.model g.B.Bodies.is_faithful g.B.BodyForms.forms _ _ (head.Cover c.in-Cover.name) c.in-Cover.is c.in_ok-name.ensures.reads in
+    let left = begins.begun g.I.Tokens.model g.B.Bodies.is_faithful g.B.BodyForms.forms _ _
+    (head.Cover c.in-Cover.name) c.in-Cover.is c.in_ok-name.ensures.reads in
     let value = c.in_ok-value-in-Cover in
     let v = tree_of c.parse_assignment_expr-read-in-Cover.new.p.nodes value.value in
     m.yes (Ok _)
     (s.heard_answer (sym c.cover_prop.ensures.tree) (s.heard_after left
     (s.heard_call_read _ (props.cover_tail_splits _ n)
     (λ x ts us h y ys. ap (λ e. Some (cover_e (from_to n.at.lo e) (ident_e n.at n.text) v, ys))
-    (sym (ending.ended _ g.met.B.Bodies.lawful value.value Assign (with_in x) ts us inner.from (sym (rule.inside_assign _ x ts) ∙ h))))
+    (sym (ending.ended _ g.met.B.Bodies.lawful value.value Assign (with_in x) ts us inner.from
+    (sym (rule.inside_assign _ x ts) ∙ h))))
     inner.reads)))
     inner.grows
-    (subst (λ ps. Apart (count c.args.p.now.nodes) c.parse_assignment_expr-read-in-Cover.new.p.nodes ps) (sym c.cover_prop.ensures.parts)
+    (subst (λ ps. Apart (count c.args.p.now.nodes) c.parse_assignment_expr-read-in-Cover.new.p.nodes ps)
+    (sym c.cover_prop.ensures.parts)
     (apart-from (expr_part c.in_ok-value-in-Cover.value) inner.from))
 
 pub parse_object_prop-returns-in_err-key-in-Key : goal.parse_object_prop-returns-in_err-key-in-Key
 parse_object_prop-returns-in_err-key-in-Key g t c =
-    let left = begins.begun g.I.Tokens.model g.B.Bodies.is_faithful g.B.BodyForms.forms _ _ head.Key c.in-Key.is c.in_ok-name.ensures.reads in
+    let left = begins.begun g.I.Tokens.model g.B.Bodies.is_faithful g.B.BodyForms.forms _ _ head.Key c.in-Key.is
+    c.in_ok-name.ensures.reads in
     m.refused c.from_residual-in_err-key-in-Key.ensures.1
-    (s.unheard_after left (s.unheard_call _ (method.key_splits _) c.in_err-key-in-Key.ensures.reads)) c.parse_prop_name.ensures.grows
+    (s.unheard_after left (s.unheard_call _ (method.key_splits _) c.in_err-key-in-Key.ensures.reads))
+    c.parse_prop_name.ensures.grows
 
 pub parse_object_prop-returns-in_err-key-in-Method : goal.parse_object_prop-returns-in_err-key-in-Method
 parse_object_prop-returns-in_err-key-in-Method g t c =
     let kind = c.in-Method.kind in
     let start = c.in-Method.start in
-    let left = begins.begun g.I.Tokens.model g.B.Bodies.is_faithful g.B.BodyForms.forms _ _ (head.Method c.in-Method.kind c.in-Method.start) c.in-Method.is c.in_ok-name.ensures.reads in
+    let left = begins.begun g.I.Tokens.model g.B.Bodies.is_faithful g.B.BodyForms.forms _ _
+    (head.Method c.in-Method.kind c.in-Method.start) c.in-Method.is c.in_ok-name.ensures.reads in
     m.refused c.from_residual-in_err-key-in-Method.ensures.1
-    (s.unheard_after left (s.unheard_call _ (method.method_tail_splits _ kind start) c.in_err-key-in-Method.ensures.reads)) c.parse_prop_name-in-Method.ensures.grows
+    (s.unheard_after left (s.unheard_call _ (method.method_tail_splits _ kind start)
+    c.in_err-key-in-Method.ensures.reads)) c.parse_prop_name-in-Method.ensures.grows
 
 pub parse_object_prop-returns-in_err-function-in-Method : goal.parse_object_prop-returns-in_err-function-in-Method
 parse_object_prop-returns-in_err-function-in-Method g t c =
     let kind = c.in-Method.kind in
     let start = c.in-Method.start in
     let key = key_at c.parse_prop_name-in-Method.new.p.nodes c.in_ok-key-in-Method.key in
-    let left = begins.begun g.I.Tokens.model g.B.Bodies.is_faithful g.B.BodyForms.forms _ _ (head.Method c.in-Method.kind c.in-Method.start) c.in-Method.is c.in_ok-name.ensures.reads in
+    let left = begins.begun g.I.Tokens.model g.B.Bodies.is_faithful g.B.BodyForms.forms _ _
+    (head.Method c.in-Method.kind c.in-Method.start) c.in-Method.is c.in_ok-name.ensures.reads in
     m.refused c.from_residual-in_err-function-in-Method.ensures.1
-    (s.unheard_after (s.on_then left (s.on_call _ (method.method_tail_splits _ kind start) c.in_ok-key-in-Method.ensures.reads.on))
-    (s.unheard_call _ (method.method_behind_splits _ (Some kind) start key) c.in_err-function-in-Method.ensures.reads)) (grows-then c.parse_prop_name-in-Method.ensures.grows c.parse_method-in-Method.ensures.grows)
+    (s.unheard_after (s.on_then left (s.on_call _ (method.method_tail_splits _ kind start)
+    c.in_ok-key-in-Method.ensures.reads.on))
+    (s.unheard_call _ (method.method_behind_splits _ (Some kind) start key) c.in_err-function-in-Method.ensures.reads))
+    (grows-then c.parse_prop_name-in-Method.ensures.grows c.parse_method-in-Method.ensures.grows)
 
 pub parse_object_prop-returns-in_ok-function-in-Method : goal.parse_object_prop-returns-in_ok-function-in-Method
 parse_object_prop-returns-in_ok-function-in-Method g t c =
@@ -516,33 +604,43 @@ parse_object_prop-returns-in_ok-function-in-Method g t c =
     let fun = c.in_ok-function-in-Method.function in
     let read = c.in_ok-function-in-Method.ensures in
     let grown = c.parse_method-in-Method.ensures.grows in
-    let left = begins.begun g.I.Tokens.model g.B.Bodies.is_faithful g.B.BodyForms.forms _ _ (head.Method c.in-Method.kind c.in-Method.start) c.in-Method.is c.in_ok-name.ensures.reads in
+    let left = begins.begun g.I.Tokens.model g.B.Bodies.is_faithful g.B.BodyForms.forms _ _
+    (head.Method c.in-Method.kind c.in-Method.start) c.in-Method.is c.in_ok-name.ensures.reads in
     m.yes (Ok _)
     (s.heard_after left
-    (s.heard_answer (method.method_made (Some kind) start name fun c.method_of-in-Method.result c.method_of-in-Method.ensures grown c.in_ok-key-in-Method.ensures.from read.from.1)
+    (s.heard_answer (method.method_made (Some kind) start name fun c.method_of-in-Method.result
+    c.method_of-in-Method.ensures grown c.in_ok-key-in-Method.ensures.from read.from.1)
     (s.heard_more _ (method.method_tail_splits _ kind start) c.in_ok-key-in-Method.ensures.reads
     (s.on_call _ (method.method_behind_splits _ (Some kind) start key) read.reads.on))))
     (grows-then c.parse_prop_name-in-Method.ensures.grows grown)
-    (method.method_apart (Some kind) start name fun c.method_of-in-Method.result c.method_of-in-Method.ensures grown c.in_ok-key-in-Method.ensures.from read.from.0)
+    (method.method_apart (Some kind) start name fun c.method_of-in-Method.result c.method_of-in-Method.ensures grown
+    c.in_ok-key-in-Method.ensures.from read.from.0)
 
 pub parse_object_prop-returns-in_err-eat-in-Key : goal.parse_object_prop-returns-in_err-eat-in-Key
 parse_object_prop-returns-in_err-eat-in-Key g t c =
     let key = key_at c.parse_prop_name.new.p.nodes c.in_ok-key-in-Key.key in
-    let left = begins.begun g.I.Tokens.model g.B.Bodies.is_faithful g.B.BodyForms.forms _ _ head.Key c.in-Key.is c.in_ok-name.ensures.reads in
+    let left = begins.begun g.I.Tokens.model g.B.Bodies.is_faithful g.B.BodyForms.forms _ _ head.Key c.in-Key.is
+    c.in_ok-name.ensures.reads in
     let named = s.on_then left (s.on_call _ (method.key_splits _) c.in_ok-key-in-Key.ensures.reads.on) in
     m.refused c.from_residual-in_err-eat-in-Key.ensures.1
     (s.unheard_after named
     (s.unheard_call _ (method.behind_key_splits _ key)
-    (s.unheard_call _ (method.after_splits _) (c.in_err-eat-in-Key.ensures.eats g.B.Bodies.is_faithful)))) c.parse_prop_name.ensures.grows
+    (s.unheard_call _ (method.after_splits _) (c.in_err-eat-in-Key.ensures.eats g.B.Bodies.is_faithful))))
+    c.parse_prop_name.ensures.grows
 
 pub parse_object_prop-returns-in_err-value-in-Some : goal.parse_object_prop-returns-in_err-value-in-Some
 parse_object_prop-returns-in_err-value-in-Some g t c =
-    let inner = assign_within g.B.BodyForms.forms c.include_in-before-in-Some.ensures.before c.include_in-before-in-Some.ensures.moves c.include_in-before-in-Some.ensures.context c.parse_assignment_expr-read-in-Some.ensures c.in_err-value-in-Some.ensures.answer c.in_err-value-in-Some.ensures.moves c.in_err-value-in-Some.ensures.context in
+    let inner = assign_within g.B.BodyForms.forms c.include_in-before-in-Some.ensures.before
+    c.include_in-before-in-Some.ensures.moves c.include_in-before-in-Some.ensures.context
+    c.parse_assignment_expr-read-in-Some.ensures c.in_err-value-in-Some.ensures.answer
+    c.in_err-value-in-Some.ensures.moves c.in_err-value-in-Some.ensures.context in
     let key = key_at c.parse_prop_name.new.p.nodes c.in_ok-key-in-Key.key in
-    let left = begins.begun g.I.Tokens.model g.B.Bodies.is_faithful g.B.BodyForms.forms _ _ head.Key c.in-Key.is c.in_ok-name.ensures.reads in
+    let left = begins.begun g.I.Tokens.model g.B.Bodies.is_faithful g.B.BodyForms.forms _ _ head.Key c.in-Key.is
+    c.in_ok-name.ensures.reads in
     let named = s.on_then left (s.on_call _ (method.key_splits _) c.in_ok-key-in-Key.ensures.reads.on) in
     let some = s.on_call _ (method.after_splits g.B.BodyForms.forms)
-    (s.eats_some g.B.Bodies.is_faithful is_colon _ c.in-Some.field-0 _ _ c.in-Some.is (c.in_ok-eat-in-Key.ensures.eats g.B.Bodies.is_faithful)).on in
+    (s.eats_some g.B.Bodies.is_faithful is_colon _ c.in-Some.field-0 _ _ c.in-Some.is
+    (c.in_ok-eat-in-Key.ensures.eats g.B.Bodies.is_faithful)).on in
     m.refused c.from_residual-in_err-value-in-Some.ensures.1
     (s.unheard_after named
     (s.unheard_call _ (method.behind_key_splits _ key)
@@ -552,13 +650,20 @@ parse_object_prop-returns-in_err-value-in-Some g t c =
 
 pub parse_object_prop-returns-in_ok-value-in-Some : goal.parse_object_prop-returns-in_ok-value-in-Some
 parse_object_prop-returns-in_ok-value-in-Some g t c =
-    let inner = assign_within g.B.BodyForms.forms {o = Ok c.in_ok-value-in-Some.value} c.include_in-before-in-Some.ensures.before c.include_in-before-in-Some.ensures.moves c.include_in-before-in-Some.ensures.context c.parse_assignment_expr-read-in-Some.ensures c.in_ok-value-in-Some.ensures.answer c.in_ok-value-in-Some.ensures.moves c.in_ok-value-in-Some.ensures.context in
+    let inner = assign_within g.B.BodyForms.forms {o =
+    Ok c.in_ok-value-in-Some.value} c.include_in-before-in-Some.ensures.before
+    c.include_in-before-in-Some.ensures.moves c.include_in-before-in-Some.ensures.context
+    c.parse_assignment_expr-read-in-Some.ensures c.in_ok-value-in-Some.ensures.answer
+    c.in_ok-value-in-Some.ensures.moves c.in_ok-value-in-Some.ensures.context in
     let key = key_at c.parse_prop_name.new.p.nodes c.in_ok-key-in-Key.key in
-    let left = begins.begun g.I.Tokens.model g.B.Bodies.is_faithful g.B.BodyForms.forms _ _ head.Key c.in-Key.is c.in_ok-name.ensures.reads in
+    let left = begins.begun g.I.Tokens.model g.B.Bodies.is_faithful g.B.BodyForms.forms _ _ head.Key c.in-Key.is
+    c.in_ok-name.ensures.reads in
     let some = s.on_call _ (method.after_splits g.B.BodyForms.forms)
-    (s.eats_some g.B.Bodies.is_faithful is_colon _ c.in-Some.field-0 _ _ c.in-Some.is (c.in_ok-eat-in-Key.ensures.eats g.B.Bodies.is_faithful)).on in
+    (s.eats_some g.B.Bodies.is_faithful is_colon _ c.in-Some.field-0 _ _ c.in-Some.is
+    (c.in_ok-eat-in-Key.ensures.eats g.B.Bodies.is_faithful)).on in
     let read = s.heard_after some (s.heard_call _ (method.after_colon_splits _) (λ x ts. refl) inner.reads) in
-    let made = method.key_prop_made c.in_ok-key-in-Key.key c.in_ok-value-in-Some.value c.key_prop.result c.key_prop.ensures inner.grows c.in_ok-key-in-Key.ensures.from inner.from in
+    let made = method.key_prop_made c.in_ok-key-in-Key.key c.in_ok-value-in-Some.value c.key_prop.result
+    c.key_prop.ensures inner.grows c.in_ok-key-in-Key.ensures.from inner.from in
     m.yes (Ok _)
     (s.heard_answer made.0 (s.heard_after left
     (s.heard_more _ (method.key_splits _) c.in_ok-key-in-Key.ensures.reads
@@ -568,15 +673,18 @@ parse_object_prop-returns-in_ok-value-in-Some g t c =
 pub parse_object_prop-returns-in_err-function-in-None : goal.parse_object_prop-returns-in_err-function-in-None
 parse_object_prop-returns-in_err-function-in-None g t c =
     let key = key_at c.parse_prop_name.new.p.nodes c.in_ok-key-in-Key.key in
-    let left = begins.begun g.I.Tokens.model g.B.Bodies.is_faithful g.B.BodyForms.forms _ _ head.Key c.in-Key.is c.in_ok-name.ensures.reads in
+    let left = begins.begun g.I.Tokens.model g.B.Bodies.is_faithful g.B.BodyForms.forms _ _ head.Key c.in-Key.is
+    c.in_ok-name.ensures.reads in
     let named = s.on_then left (s.on_call _ (method.key_splits _) c.in_ok-key-in-Key.ensures.reads.on) in
     let none = s.on_call _ (method.after_splits g.B.BodyForms.forms)
-    (s.eats_none g.B.Bodies.is_faithful is_colon _ _ _ c.in-None.is (c.in_ok-eat-in-Key.ensures.eats g.B.Bodies.is_faithful)) in
+    (s.eats_none g.B.Bodies.is_faithful is_colon _ _ _ c.in-None.is
+    (c.in_ok-eat-in-Key.ensures.eats g.B.Bodies.is_faithful)) in
     let same = s.on_here g.met.I.Tokens.laws c.eat.new.input (function.plain_function g.B.BodyForms.forms) in
     m.refused c.from_residual-in_err-function-in-None.ensures.1
     (s.unheard_after named
     (s.unheard_call _ (method.behind_key_splits _ key)
-    (s.unheard_after (s.on_then none same) c.in_err-function-in-None.ensures.reads))) (grows-then c.parse_prop_name.ensures.grows c.parse_method.ensures.grows)
+    (s.unheard_after (s.on_then none same) c.in_err-function-in-None.ensures.reads)))
+    (grows-then c.parse_prop_name.ensures.grows c.parse_method.ensures.grows)
 
 pub parse_object_prop-returns-in_ok-function-in-None : goal.parse_object_prop-returns-in_ok-function-in-None
 parse_object_prop-returns-in_ok-function-in-None g t c =
@@ -585,18 +693,22 @@ parse_object_prop-returns-in_ok-function-in-None g t c =
     let fun = c.in_ok-function-in-None.function in
     let answer = c.in_ok-function-in-None.ensures in
     let grown = c.parse_method.ensures.grows in
-    let left = begins.begun g.I.Tokens.model g.B.Bodies.is_faithful g.B.BodyForms.forms _ _ head.Key c.in-Key.is c.in_ok-name.ensures.reads in
+    let left = begins.begun g.I.Tokens.model g.B.Bodies.is_faithful g.B.BodyForms.forms _ _ head.Key c.in-Key.is
+    c.in_ok-name.ensures.reads in
     let none = s.on_call _ (method.after_splits g.B.BodyForms.forms)
-    (s.eats_none g.B.Bodies.is_faithful is_colon _ _ _ c.in-None.is (c.in_ok-eat-in-Key.ensures.eats g.B.Bodies.is_faithful)) in
+    (s.eats_none g.B.Bodies.is_faithful is_colon _ _ _ c.in-None.is
+    (c.in_ok-eat-in-Key.ensures.eats g.B.Bodies.is_faithful)) in
     let same = s.on_here g.met.I.Tokens.laws c.eat.new.input (function.plain_function g.B.BodyForms.forms) in
     let read = s.heard_after (s.on_then none same) answer.reads in
     m.yes (Ok _)
-    (s.heard_answer (method.plain_made c.span-start.result name fun c.method_of.result c.span-start.ensures c.method_of.ensures grown c.in_ok-key-in-Key.ensures.from)
+    (s.heard_answer (method.plain_made c.span-start.result name fun c.method_of.result c.span-start.ensures
+    c.method_of.ensures grown c.in_ok-key-in-Key.ensures.from)
     (s.heard_after left
     (s.heard_more _ (method.key_splits _) c.in_ok-key-in-Key.ensures.reads
     (s.on_call _ (method.behind_key_splits _ key) read.on))))
     (grows-then c.parse_prop_name.ensures.grows grown)
-    (method.method_apart None c.span-start.result name fun c.method_of.result c.method_of.ensures grown c.in_ok-key-in-Key.ensures.from answer.from.0)
+    (method.method_apart None c.span-start.result name fun c.method_of.result c.method_of.ensures grown
+    c.in_ok-key-in-Key.ensures.from answer.from.0)
 
 pub parse_method-returns-in_err-start : goal.parse_method-returns-in_err-start
 parse_method-returns-in_err-start g t c =
@@ -666,49 +778,72 @@ parse_lhs_expr-returns-in_err-look g t c =
 pub parse_lhs_expr-returns-in_err-base : goal.parse_lhs_expr-returns-in_err-base
 parse_lhs_expr-returns-in_err-base g t c =
     m.refused c.from_residual-in_err-base.ensures.1
-    (s.unheard_after (s.on_seen {g = λ x ts. plain_base _ true x ts >>= (λ p. run _ (links true p.0) x p.1)} c.in_ok-look.ensures.looks
+    (s.unheard_after (s.on_seen {g = λ x ts. plain_base _ true x ts >>=
+    (λ p. run _ (links true p.0) x p.1)} c.in_ok-look.ensures.looks
     (λ x ts same e. link.lhs_splits _ true x ts (s.no_head same) (link.not_new (first ts)
-    (ap (λ o. at_token is_super o || at_token is_import o) e ∙ sym c.is_super_or_import.ensures ∙ c.if-is_super_or_import.true))))
-    (s.unheard_call (λ x p. run _ (links true p.0) x p.1) (λ x ts. refl) c.in_err-base.ensures.reads)) c.parse_base.ensures.grows
+    (ap (λ o. at_token is_super o || at_token is_import o) e ∙ sym c.is_super_or_import.ensures
+    ∙ c.if-is_super_or_import.true))))
+    (s.unheard_call (λ x p. run _ (links true p.0) x p.1) (λ x ts. refl) c.in_err-base.ensures.reads))
+    c.parse_base.ensures.grows
 
 pub parse_lhs_expr-returns-then-is_super_or_import : goal.parse_lhs_expr-returns-then-is_super_or_import
 parse_lhs_expr-returns-then-is_super_or_import g t c =
-    m.after {m = record c.args.p.now { input = c.look.new.input }} c.parse_subscripts.result (s.on_seen {g = λ x ts. plain_base _ true x ts >>= (λ p. run _ (links true p.0) x p.1)} c.in_ok-look.ensures.looks
+    m.after {m = record c.args.p.now { input = c.look.new.input }} c.parse_subscripts.result
+    (s.on_seen {g = λ x ts. plain_base _ true x ts >>=
+    (λ p. run _ (links true p.0) x p.1)} c.in_ok-look.ensures.looks
     (λ x ts same e. link.lhs_splits _ true x ts (s.no_head same) (link.not_new (first ts)
-    (ap (λ o. at_token is_super o || at_token is_import o) e ∙ sym c.is_super_or_import.ensures ∙ c.if-is_super_or_import.true)))) (grows-same _)
+    (ap (λ o. at_token is_super o || at_token is_import o) e ∙ sym c.is_super_or_import.ensures
+    ∙ c.if-is_super_or_import.true)))) (grows-same _)
     (m.call c.parse_subscripts.result (λ x p. run _ (links true p.0) x p.1) (λ x ts. refl)
-    c.in_ok-base.ensures.reads c.parse_base.ensures.grows (λ x. from-down c.in_ok-base.ensures.from.above) c.parse_subscripts.ensures)
+    c.in_ok-base.ensures.reads c.parse_base.ensures.grows
+    (λ x. from-down c.in_ok-base.ensures.from.above) c.parse_subscripts.ensures)
 
 pub parse_lhs_expr-returns-in_err-callee : goal.parse_lhs_expr-returns-in_err-callee
 parse_lhs_expr-returns-in_err-callee g t c =
     let tree = tree_of c.parse_member_expr-member.new.p.nodes in
-    let member = s.parses_aside g.I.Tokens.model g.B.Bodies.is_faithful tree (run _ (at (Lhs false))) c.parse_member_expr-member.result
-    c.set_ctx.ensures.moves (ap deciding c.set_ctx.ensures.context ∙ ap deciding c.get_ctx-ctx.ensures) c.parse_member_expr-member.ensures.reads c.set_ctx-2.ensures.moves
+    let member = s.parses_aside g.I.Tokens.model g.B.Bodies.is_faithful tree
+    (run _ (at (Lhs false))) c.parse_member_expr-member.result
+    c.set_ctx.ensures.moves (ap deciding c.set_ctx.ensures.context ∙ ap deciding c.get_ctx-ctx.ensures)
+    c.parse_member_expr-member.ensures.reads c.set_ctx-2.ensures.moves
     (c.set_ctx-2.ensures.context ∙ c.get_ctx-ctx.ensures) in
     m.refused c.from_residual-in_err-callee.ensures.1
-    (s.unheard_after (s.on_seen {g = λ x ts. run _ (at (Lhs false)) x ts >>= (λ p. run _ (links true p.0) x p.1)} c.in_ok-look.ensures.looks
-    (λ x ts same e. link.lhs_parts _ x ts (s.no_head same) (ap (λ o. at_token is_super o || at_token is_import o) e ∙ sym c.is_super_or_import.ensures ∙ c.if-is_super_or_import.false)))
+    (s.unheard_after (s.on_seen {g = λ x ts. run _ (at (Lhs false)) x ts >>=
+    (λ p. run _ (links true p.0) x p.1)} c.in_ok-look.ensures.looks
+    (λ x ts same e. link.lhs_parts _ x ts (s.no_head same)
+    (ap (λ o. at_token is_super o || at_token is_import o) e ∙ sym c.is_super_or_import.ensures
+    ∙ c.if-is_super_or_import.false)))
     (s.unheard_call (λ x p. run _ (links true p.0) x p.1) (λ x ts. refl)
-    (s.parses_err g.I.Tokens.model g.B.Bodies.is_faithful tree (run _ (at (Lhs false))) _ _ c.parse_member_expr-member.result _ c.in_err-callee.was member)))
+    (s.parses_err g.I.Tokens.model g.B.Bodies.is_faithful tree
+    (run _ (at (Lhs false))) _ _ c.parse_member_expr-member.result _ c.in_err-callee.was member)))
     c.parse_member_expr-member.ensures.grows
 
 pub parse_lhs_expr-parse_subscripts-requires-2 : goal.parse_lhs_expr-parse_subscripts-requires-2
 parse_lhs_expr-parse_subscripts-requires-2 g t c =
     let falls = c.parse_member_expr-member.ensures.falls in
     let read = c.in_ok-callee.was in
-    let from = from-down (omega arith) (m.held_is _ c.parse_member_expr-member.result c.in_ok-callee.callee read c.parse_member_expr-member.ensures.from) in
+    let from = from-down (omega arith) (m.held_is _ c.parse_member_expr-member.result c.in_ok-callee.callee read
+    c.parse_member_expr-member.ensures.from) in
     λ κs outlives. (search rules, (search rules, (search rules, (search rules, (search rules, (search rules, from))))))
 
 pub parse_lhs_expr-returns : goal.parse_lhs_expr-returns
 parse_lhs_expr-returns g t c =
     let tree = tree_of c.parse_member_expr-member.new.p.nodes in
-    let member = s.parses_aside g.I.Tokens.model g.B.Bodies.is_faithful tree (run _ (at (Lhs false))) c.parse_member_expr-member.result
-    c.set_ctx.ensures.moves (ap deciding c.set_ctx.ensures.context ∙ ap deciding c.get_ctx-ctx.ensures) c.parse_member_expr-member.ensures.reads c.set_ctx-2.ensures.moves
+    let member = s.parses_aside g.I.Tokens.model g.B.Bodies.is_faithful tree
+    (run _ (at (Lhs false))) c.parse_member_expr-member.result
+    c.set_ctx.ensures.moves (ap deciding c.set_ctx.ensures.context ∙ ap deciding c.get_ctx-ctx.ensures)
+    c.parse_member_expr-member.ensures.reads c.set_ctx-2.ensures.moves
     (c.set_ctx-2.ensures.context ∙ c.get_ctx-ctx.ensures) in
-    let read = s.parses_ok g.I.Tokens.model g.B.Bodies.is_faithful tree (run _ (at (Lhs false))) _ _ c.parse_member_expr-member.result c.in_ok-callee.callee c.in_ok-callee.was member in
-    let held = m.held_is _ c.parse_member_expr-member.result c.in_ok-callee.callee c.in_ok-callee.was c.parse_member_expr-member.ensures.from in
-    m.after {m = record c.args.p.now { input = c.look.new.input }} c.parse_subscripts-2.result (s.on_seen {g = λ x ts. run _ (at (Lhs false)) x ts >>= (λ p. run _ (links true p.0) x p.1)} c.in_ok-look.ensures.looks
-    (λ x ts same e. link.lhs_parts _ x ts (s.no_head same) (ap (λ o. at_token is_super o || at_token is_import o) e ∙ sym c.is_super_or_import.ensures ∙ c.if-is_super_or_import.false))) (grows-same _)
+    let read = s.parses_ok g.I.Tokens.model g.B.Bodies.is_faithful tree
+    (run _ (at (Lhs false))) _ _ c.parse_member_expr-member.result c.in_ok-callee.callee c.in_ok-callee.was
+    member in
+    let held = m.held_is _ c.parse_member_expr-member.result c.in_ok-callee.callee c.in_ok-callee.was
+    c.parse_member_expr-member.ensures.from in
+    m.after {m = record c.args.p.now { input = c.look.new.input }} c.parse_subscripts-2.result
+    (s.on_seen {g = λ x ts. run _ (at (Lhs false)) x ts >>=
+    (λ p. run _ (links true p.0) x p.1)} c.in_ok-look.ensures.looks
+    (λ x ts same e. link.lhs_parts _ x ts (s.no_head same)
+    (ap (λ o. at_token is_super o || at_token is_import o) e ∙ sym c.is_super_or_import.ensures
+    ∙ c.if-is_super_or_import.false))) (grows-same _)
     (m.call c.parse_subscripts-2.result (λ x p. run _ (links true p.0) x p.1) (λ x ts. refl)
     read c.parse_member_expr-member.ensures.grows (λ x. from-down held.above) c.parse_subscripts-2.ensures)
 
@@ -721,17 +856,23 @@ pub parse_member_expr-returns-in_err-base : goal.parse_member_expr-returns-in_er
 parse_member_expr-returns-in_err-base g t c =
     let b = false in
     m.refused c.from_residual-in_err-base.ensures.1
-    (s.unheard_after (s.on_seen {g = λ x ts. plain_base _ b x ts >>= (λ p. run _ (links b p.0) x p.1)} c.in_ok-look.ensures.looks
-    (λ x ts same e. link.lhs_splits _ b x ts (s.no_head same) (ap (at_token is_new) e ∙ sym c.is_sign.ensures.value ∙ c.if-not-is_sign.true)))
-    (s.unheard_call (λ x p. run _ (links b p.0) x p.1) (λ x ts. refl) c.in_err-base.ensures.reads)) c.parse_base.ensures.grows
+    (s.unheard_after (s.on_seen {g = λ x ts. plain_base _ b x ts >>=
+    (λ p. run _ (links b p.0) x p.1)} c.in_ok-look.ensures.looks
+    (λ x ts same e. link.lhs_splits _ b x ts (s.no_head same)
+    (ap (at_token is_new) e ∙ sym c.is_sign.ensures.value ∙ c.if-not-is_sign.true)))
+    (s.unheard_call (λ x p. run _ (links b p.0) x p.1) (λ x ts. refl) c.in_err-base.ensures.reads))
+    c.parse_base.ensures.grows
 
 pub parse_member_expr-returns-then-not-is_sign : goal.parse_member_expr-returns-then-not-is_sign
 parse_member_expr-returns-then-not-is_sign g t c =
     let b = false in
-    m.after {m = record c.args.p.now { input = c.look.new.input }} c.parse_subscripts.result (s.on_seen {g = λ x ts. plain_base _ b x ts >>= (λ p. run _ (links b p.0) x p.1)} c.in_ok-look.ensures.looks
-    (λ x ts same e. link.lhs_splits _ b x ts (s.no_head same) (ap (at_token is_new) e ∙ sym c.is_sign.ensures.value ∙ c.if-not-is_sign.true))) (grows-same _)
+    m.after {m = record c.args.p.now { input = c.look.new.input }} c.parse_subscripts.result
+    (s.on_seen {g = λ x ts. plain_base _ b x ts >>= (λ p. run _ (links b p.0) x p.1)} c.in_ok-look.ensures.looks
+    (λ x ts same e. link.lhs_splits _ b x ts (s.no_head same)
+    (ap (at_token is_new) e ∙ sym c.is_sign.ensures.value ∙ c.if-not-is_sign.true))) (grows-same _)
     (m.call c.parse_subscripts.result (λ x p. run _ (links b p.0) x p.1) (λ x ts. refl)
-    c.in_ok-base.ensures.reads c.parse_base.ensures.grows (λ x. from-down c.in_ok-base.ensures.from.above) c.parse_subscripts.ensures)
+    c.in_ok-base.ensures.reads c.parse_base.ensures.grows
+    (λ x. from-down c.in_ok-base.ensures.from.above) c.parse_subscripts.ensures)
 
 pub parse_member_expr-returns-in_err-eat : goal.parse_member_expr-returns-in_err-eat
 parse_member_expr-returns-in_err-eat g t c =
@@ -739,12 +880,18 @@ parse_member_expr-returns-in_err-eat g t c =
     let b = false in
     let start = c.cur_span-start.result in
     let place = s.place_was first start c.cur_span-start.ensures in
-    let seen = s.on_seen {f = run g.B.BodyForms.forms (at (Lhs b))} {g = new_lhs g.B.BodyForms.forms b} c.in_ok-look.ensures.looks (λ x ts same e. link.new_splits g.B.BodyForms.forms b x ts (s.no_head same) (ap (at_token is_new) e ∙ sym c.is_sign.ensures.value ∙ c.if-not-is_sign.false)) in
-    let behind = s.on_then seen (s.on_took {f = new_lhs g.B.BodyForms.forms b} {g = new_tail g.B.BodyForms.forms b start} g.met.I.Tokens.laws first
-    (λ x ts. link.new_opens g.B.BodyForms.forms b (plain first.was) x ts ∙ ap (λ v. new_tail g.B.BodyForms.forms b v x ts) (sym place))) in
+    let seen = s.on_seen {f = run g.B.BodyForms.forms (at (Lhs b))}
+    {g = new_lhs g.B.BodyForms.forms b} c.in_ok-look.ensures.looks
+    (λ x ts same e. link.new_splits g.B.BodyForms.forms b x ts (s.no_head same)
+    (ap (at_token is_new) e ∙ sym c.is_sign.ensures.value ∙ c.if-not-is_sign.false)) in
+    let behind = s.on_then seen (s.on_took {f = new_lhs g.B.BodyForms.forms b}
+    {g = new_tail g.B.BodyForms.forms b start} g.met.I.Tokens.laws first
+    (λ x ts. link.new_opens g.B.BodyForms.forms b (plain first.was) x ts ∙ ap
+    (λ v. new_tail g.B.BodyForms.forms b v x ts) (sym place))) in
     m.refused c.from_residual-in_err-eat.ensures.1
     (s.unheard_after behind
-    (s.unheard_call (λ x q. new_by _ b start q.0 x q.1) (λ x ts. refl) (c.in_err-eat.ensures.eats g.B.Bodies.is_faithful))) (grows-same _)
+    (s.unheard_call (λ x q. new_by _ b start q.0 x q.1) (λ x ts. refl)
+    (c.in_err-eat.ensures.eats g.B.Bodies.is_faithful))) (grows-same _)
 
 pub parse_member_expr-returns-in_err-target-in-Some : goal.parse_member_expr-returns-in_err-target-in-Some
 parse_member_expr-returns-in_err-target-in-Some g t c =
@@ -752,13 +899,20 @@ parse_member_expr-returns-in_err-target-in-Some g t c =
     let b = false in
     let start = c.cur_span-start.result in
     let place = s.place_was first start c.cur_span-start.ensures in
-    let seen = s.on_seen {f = run g.B.BodyForms.forms (at (Lhs b))} {g = new_lhs g.B.BodyForms.forms b} c.in_ok-look.ensures.looks (λ x ts same e. link.new_splits g.B.BodyForms.forms b x ts (s.no_head same) (ap (at_token is_new) e ∙ sym c.is_sign.ensures.value ∙ c.if-not-is_sign.false)) in
-    let behind = s.on_then seen (s.on_took {f = new_lhs g.B.BodyForms.forms b} {g = new_tail g.B.BodyForms.forms b start} g.met.I.Tokens.laws first
-    (λ x ts. link.new_opens g.B.BodyForms.forms b (plain first.was) x ts ∙ ap (λ v. new_tail g.B.BodyForms.forms b v x ts) (sym place))) in
-    let some = s.eats_some g.B.Bodies.is_faithful is_dot _ c.in-Some.field-0 _ _ c.in-Some.is (c.in_ok-eat.ensures.eats g.B.Bodies.is_faithful) in
+    let seen = s.on_seen {f = run g.B.BodyForms.forms (at (Lhs b))}
+    {g = new_lhs g.B.BodyForms.forms b} c.in_ok-look.ensures.looks
+    (λ x ts same e. link.new_splits g.B.BodyForms.forms b x ts (s.no_head same)
+    (ap (at_token is_new) e ∙ sym c.is_sign.ensures.value ∙ c.if-not-is_sign.false)) in
+    let behind = s.on_then seen (s.on_took {f = new_lhs g.B.BodyForms.forms b}
+    {g = new_tail g.B.BodyForms.forms b start} g.met.I.Tokens.laws first
+    (λ x ts. link.new_opens g.B.BodyForms.forms b (plain first.was) x ts ∙ ap
+    (λ v. new_tail g.B.BodyForms.forms b v x ts) (sym place))) in
+    let some = s.eats_some g.B.Bodies.is_faithful is_dot _ c.in-Some.field-0 _ _ c.in-Some.is
+    (c.in_ok-eat.ensures.eats g.B.Bodies.is_faithful) in
     m.refused c.from_residual-in_err-target-in-Some.ensures.1
     (s.unheard_after (s.on_then behind (s.on_call (λ x q. new_by _ b start q.0 x q.1) (λ x ts. refl) some.on))
-    (s.unheard_call (λ x q. run _ (links b q.0) x q.1) (λ x ts. refl) c.in_err-target-in-Some.ensures.reads)) c.parse_new_target.ensures.grows
+    (s.unheard_call (λ x q. run _ (links b q.0) x q.1) (λ x ts. refl) c.in_err-target-in-Some.ensures.reads))
+    c.parse_new_target.ensures.grows
 
 pub parse_member_expr-returns-in-Some : goal.parse_member_expr-returns-in-Some
 parse_member_expr-returns-in-Some g t c =
@@ -766,20 +920,29 @@ parse_member_expr-returns-in-Some g t c =
     let b = false in
     let start = c.cur_span-start.result in
     let place = s.place_was first start c.cur_span-start.ensures in
-    let seen = s.on_seen {f = run g.B.BodyForms.forms (at (Lhs b))} {g = new_lhs g.B.BodyForms.forms b} c.in_ok-look.ensures.looks (λ x ts same e. link.new_splits g.B.BodyForms.forms b x ts (s.no_head same) (ap (at_token is_new) e ∙ sym c.is_sign.ensures.value ∙ c.if-not-is_sign.false)) in
-    let behind = s.on_then seen (s.on_took {f = new_lhs g.B.BodyForms.forms b} {g = new_tail g.B.BodyForms.forms b start} g.met.I.Tokens.laws first
-    (λ x ts. link.new_opens g.B.BodyForms.forms b (plain first.was) x ts ∙ ap (λ v. new_tail g.B.BodyForms.forms b v x ts) (sym place))) in
-    let some = s.eats_some g.B.Bodies.is_faithful is_dot _ c.in-Some.field-0 _ _ c.in-Some.is (c.in_ok-eat.ensures.eats g.B.Bodies.is_faithful) in
-    m.after {m = record c.args.p.now { input = c.eat.new.input }} c.parse_subscripts-in-Some.result (s.on_then behind (s.on_call (λ x q. new_by _ b start q.0 x q.1) (λ x ts. refl) some.on)) (grows-same _)
+    let seen = s.on_seen {f = run g.B.BodyForms.forms (at (Lhs b))}
+    {g = new_lhs g.B.BodyForms.forms b} c.in_ok-look.ensures.looks
+    (λ x ts same e. link.new_splits g.B.BodyForms.forms b x ts (s.no_head same)
+    (ap (at_token is_new) e ∙ sym c.is_sign.ensures.value ∙ c.if-not-is_sign.false)) in
+    let behind = s.on_then seen (s.on_took {f = new_lhs g.B.BodyForms.forms b}
+    {g = new_tail g.B.BodyForms.forms b start} g.met.I.Tokens.laws first
+    (λ x ts. link.new_opens g.B.BodyForms.forms b (plain first.was) x ts ∙ ap
+    (λ v. new_tail g.B.BodyForms.forms b v x ts) (sym place))) in
+    let some = s.eats_some g.B.Bodies.is_faithful is_dot _ c.in-Some.field-0 _ _ c.in-Some.is
+    (c.in_ok-eat.ensures.eats g.B.Bodies.is_faithful) in
+    m.after {m = record c.args.p.now { input = c.eat.new.input }} c.parse_subscripts-in-Some.result
+    (s.on_then behind (s.on_call (λ x q. new_by _ b start q.0 x q.1) (λ x ts. refl) some.on)) (grows-same _)
     (m.call c.parse_subscripts-in-Some.result (λ x q. run _ (links b q.0) x q.1) (λ x ts. refl)
-    c.in_ok-target-in-Some.ensures.reads c.parse_new_target.ensures.grows (λ x. from-down c.in_ok-target-in-Some.ensures.from.above) c.parse_subscripts-in-Some.ensures)
+    c.in_ok-target-in-Some.ensures.reads c.parse_new_target.ensures.grows
+    (λ x. from-down c.in_ok-target-in-Some.ensures.from.above) c.parse_subscripts-in-Some.ensures)
 
 pub parse_member_expr-returns-in_err-less : goal.parse_member_expr-returns-in_err-less
 parse_member_expr-returns-in_err-less g t c =
     m.refused c.from_residual-in_err-less.ensures.1
     (s.unheard_memory (s.forgoes_later (s.leads_then (s.here_leads c.in_ok-look.ensures.looks)
     (s.leads_then (s.took_leads g.met.I.Tokens.laws c.skip.ensures.took.1)
-    (s.eats_none g.B.Bodies.is_faithful is_dot _ _ _ c.in-None.is (c.in_ok-eat.ensures.eats g.B.Bodies.is_faithful)).leads))
+    (s.eats_none g.B.Bodies.is_faithful is_dot _ _ _ c.in-None.is
+    (c.in_ok-eat.ensures.eats g.B.Bodies.is_faithful)).leads))
     (s.forgoes_here g.met.I.Tokens.laws _ _ _ c.in_err-less.ensures.refused))) (grows-same _)
 
 pub parse_member_expr-returns-in_err-callee : goal.parse_member_expr-returns-in_err-callee
@@ -788,13 +951,21 @@ parse_member_expr-returns-in_err-callee g t c =
     let b = false in
     let start = c.cur_span-start.result in
     let place = s.place_was first start c.cur_span-start.ensures in
-    let seen = s.on_seen {f = run g.B.BodyForms.forms (at (Lhs b))} {g = new_lhs g.B.BodyForms.forms b} c.in_ok-look.ensures.looks (λ x ts same e. link.new_splits g.B.BodyForms.forms b x ts (s.no_head same) (ap (at_token is_new) e ∙ sym c.is_sign.ensures.value ∙ c.if-not-is_sign.false)) in
-    let behind = s.on_then seen (s.on_took {f = new_lhs g.B.BodyForms.forms b} {g = new_tail g.B.BodyForms.forms b start} g.met.I.Tokens.laws first
-    (λ x ts. link.new_opens g.B.BodyForms.forms b (plain first.was) x ts ∙ ap (λ v. new_tail g.B.BodyForms.forms b v x ts) (sym place))) in
-    let none = s.eats_none g.B.Bodies.is_faithful is_dot _ _ _ c.in-None.is (c.in_ok-eat.ensures.eats g.B.Bodies.is_faithful) in
-    let begun = s.on_then behind (s.on_call (λ x q. new_by g.B.BodyForms.forms b start q.0 x q.1) (λ x ts. refl) none) in
+    let seen = s.on_seen {f = run g.B.BodyForms.forms (at (Lhs b))}
+    {g = new_lhs g.B.BodyForms.forms b} c.in_ok-look.ensures.looks
+    (λ x ts same e. link.new_splits g.B.BodyForms.forms b x ts (s.no_head same)
+    (ap (at_token is_new) e ∙ sym c.is_sign.ensures.value ∙ c.if-not-is_sign.false)) in
+    let behind = s.on_then seen (s.on_took {f = new_lhs g.B.BodyForms.forms b}
+    {g = new_tail g.B.BodyForms.forms b start} g.met.I.Tokens.laws first
+    (λ x ts. link.new_opens g.B.BodyForms.forms b (plain first.was) x ts ∙ ap
+    (λ v. new_tail g.B.BodyForms.forms b v x ts) (sym place))) in
+    let none = s.eats_none g.B.Bodies.is_faithful is_dot _ _ _ c.in-None.is
+    (c.in_ok-eat.ensures.eats g.B.Bodies.is_faithful) in
+    let begun = s.on_then behind (s.on_call (λ x q. new_by g.B.BodyForms.forms b start q.0 x q.1)
+    (λ x ts. refl) none) in
     m.refused c.from_residual-in_err-callee.ensures.1
-    (s.unheard_after begun (s.unheard_call _ (link.construct_splits _ b start) c.in_err-callee.ensures.reads)) c.parse_member_expr.ensures.grows
+    (s.unheard_after begun (s.unheard_call _ (link.construct_splits _ b start) c.in_err-callee.ensures.reads))
+    c.parse_member_expr.ensures.grows
 
 pub parse_member_expr-returns-in_err-refuse_opt_chain : goal.parse_member_expr-returns-in_err-refuse_opt_chain
 parse_member_expr-returns-in_err-refuse_opt_chain g t c =
@@ -802,14 +973,23 @@ parse_member_expr-returns-in_err-refuse_opt_chain g t c =
     let b = false in
     let start = c.cur_span-start.result in
     let place = s.place_was first start c.cur_span-start.ensures in
-    let seen = s.on_seen {f = run g.B.BodyForms.forms (at (Lhs b))} {g = new_lhs g.B.BodyForms.forms b} c.in_ok-look.ensures.looks (λ x ts same e. link.new_splits g.B.BodyForms.forms b x ts (s.no_head same) (ap (at_token is_new) e ∙ sym c.is_sign.ensures.value ∙ c.if-not-is_sign.false)) in
-    let behind = s.on_then seen (s.on_took {f = new_lhs g.B.BodyForms.forms b} {g = new_tail g.B.BodyForms.forms b start} g.met.I.Tokens.laws first
-    (λ x ts. link.new_opens g.B.BodyForms.forms b (plain first.was) x ts ∙ ap (λ v. new_tail g.B.BodyForms.forms b v x ts) (sym place))) in
-    let none = s.eats_none g.B.Bodies.is_faithful is_dot _ _ _ c.in-None.is (c.in_ok-eat.ensures.eats g.B.Bodies.is_faithful) in
-    let begun = s.on_then behind (s.on_call (λ x q. new_by g.B.BodyForms.forms b start q.0 x q.1) (λ x ts. refl) none) in
+    let seen = s.on_seen {f = run g.B.BodyForms.forms (at (Lhs b))}
+    {g = new_lhs g.B.BodyForms.forms b} c.in_ok-look.ensures.looks
+    (λ x ts same e. link.new_splits g.B.BodyForms.forms b x ts (s.no_head same)
+    (ap (at_token is_new) e ∙ sym c.is_sign.ensures.value ∙ c.if-not-is_sign.false)) in
+    let behind = s.on_then seen (s.on_took {f = new_lhs g.B.BodyForms.forms b}
+    {g = new_tail g.B.BodyForms.forms b start} g.met.I.Tokens.laws first
+    (λ x ts. link.new_opens g.B.BodyForms.forms b (plain first.was) x ts ∙ ap
+    (λ v. new_tail g.B.BodyForms.forms b v x ts) (sym place))) in
+    let none = s.eats_none g.B.Bodies.is_faithful is_dot _ _ _ c.in-None.is
+    (c.in_ok-eat.ensures.eats g.B.Bodies.is_faithful) in
+    let begun = s.on_then behind (s.on_call (λ x q. new_by g.B.BodyForms.forms b start q.0 x q.1)
+    (λ x ts. refl) none) in
     m.refused c.from_residual-in_err-refuse_opt_chain.ensures.1
-    (s.unheard_after begun (s.unheard_after (s.on_call _ (link.construct_splits _ b start) c.in_ok-callee.ensures.reads.on)
-    (s.unheard_none (λ x ts. link.construct_refused _ b start _ x ts c.in_err-refuse_opt_chain.ensures.refuses.1) c.in_err-refuse_opt_chain.ensures.refuses.0))) c.parse_member_expr.ensures.grows
+    (s.unheard_after begun (s.unheard_after (s.on_call _
+    (link.construct_splits _ b start) c.in_ok-callee.ensures.reads.on)
+    (s.unheard_none (λ x ts. link.construct_refused _ b start _ x ts c.in_err-refuse_opt_chain.ensures.refuses.1)
+    c.in_err-refuse_opt_chain.ensures.refuses.0))) c.parse_member_expr.ensures.grows
 
 pub parse_member_expr-returns-in_err-eat-2 : goal.parse_member_expr-returns-in_err-eat-2
 parse_member_expr-returns-in_err-eat-2 g t c =
@@ -817,17 +997,28 @@ parse_member_expr-returns-in_err-eat-2 g t c =
     let b = false in
     let start = c.cur_span-start.result in
     let place = s.place_was first start c.cur_span-start.ensures in
-    let seen = s.on_seen {f = run g.B.BodyForms.forms (at (Lhs b))} {g = new_lhs g.B.BodyForms.forms b} c.in_ok-look.ensures.looks (λ x ts same e. link.new_splits g.B.BodyForms.forms b x ts (s.no_head same) (ap (at_token is_new) e ∙ sym c.is_sign.ensures.value ∙ c.if-not-is_sign.false)) in
-    let behind = s.on_then seen (s.on_took {f = new_lhs g.B.BodyForms.forms b} {g = new_tail g.B.BodyForms.forms b start} g.met.I.Tokens.laws first
-    (λ x ts. link.new_opens g.B.BodyForms.forms b (plain first.was) x ts ∙ ap (λ v. new_tail g.B.BodyForms.forms b v x ts) (sym place))) in
-    let none = s.eats_none g.B.Bodies.is_faithful is_dot _ _ _ c.in-None.is (c.in_ok-eat.ensures.eats g.B.Bodies.is_faithful) in
-    let begun = s.on_then behind (s.on_call (λ x q. new_by g.B.BodyForms.forms b start q.0 x q.1) (λ x ts. refl) none) in
+    let seen = s.on_seen {f = run g.B.BodyForms.forms (at (Lhs b))}
+    {g = new_lhs g.B.BodyForms.forms b} c.in_ok-look.ensures.looks
+    (λ x ts same e. link.new_splits g.B.BodyForms.forms b x ts (s.no_head same)
+    (ap (at_token is_new) e ∙ sym c.is_sign.ensures.value ∙ c.if-not-is_sign.false)) in
+    let behind = s.on_then seen (s.on_took {f = new_lhs g.B.BodyForms.forms b}
+    {g = new_tail g.B.BodyForms.forms b start} g.met.I.Tokens.laws first
+    (λ x ts. link.new_opens g.B.BodyForms.forms b (plain first.was) x ts ∙ ap
+    (λ v. new_tail g.B.BodyForms.forms b v x ts) (sym place))) in
+    let none = s.eats_none g.B.Bodies.is_faithful is_dot _ _ _ c.in-None.is
+    (c.in_ok-eat.ensures.eats g.B.Bodies.is_faithful) in
+    let begun = s.on_then behind (s.on_call (λ x q. new_by g.B.BodyForms.forms b start q.0 x q.1)
+    (λ x ts. refl) none) in
     let l = tree_of c.parse_member_expr.new.p.nodes c.in_ok-callee.callee in
     let named = s.on_call _ (link.construct_splits g.B.BodyForms.forms b start) c.in_ok-callee.ensures.reads.on in
-    let passes = s.on_by (λ x ts. link.construct_passes g.B.BodyForms.forms b start l x ts c.in_ok-refuse_opt_chain.ensures.passes.1) (s.on_same {f = construct_node g.B.BodyForms.forms b start l} g.met.I.Tokens.laws c.in_ok-refuse_opt_chain.ensures.passes.0) in
+    let passes = s.on_by (λ x ts. link.construct_passes g.B.BodyForms.forms b start l x ts
+    c.in_ok-refuse_opt_chain.ensures.passes.1) (s.on_same
+    {f = construct_node g.B.BodyForms.forms b start l} g.met.I.Tokens.laws
+    c.in_ok-refuse_opt_chain.ensures.passes.0) in
     m.refused c.from_residual-in_err-eat-2.ensures.1
     (s.unheard_after begun (s.unheard_after named (s.unheard_after passes
-    (s.unheard_call (λ x q. construct_by _ b start l q.0 x q.1) (λ x ts. refl) (c.in_err-eat-2.ensures.eats g.B.Bodies.is_faithful))))) c.parse_member_expr.ensures.grows
+    (s.unheard_call (λ x q. construct_by _ b start l q.0 x q.1) (λ x ts. refl)
+    (c.in_err-eat-2.ensures.eats g.B.Bodies.is_faithful))))) c.parse_member_expr.ensures.grows
 
 pub parse_member_expr-returns-in_err-list-in-Some-2 : goal.parse_member_expr-returns-in_err-list-in-Some-2
 parse_member_expr-returns-in_err-list-in-Some-2 g t c =
@@ -835,16 +1026,28 @@ parse_member_expr-returns-in_err-list-in-Some-2 g t c =
     let b = false in
     let start = c.cur_span-start.result in
     let place = s.place_was first start c.cur_span-start.ensures in
-    let seen = s.on_seen {f = run g.B.BodyForms.forms (at (Lhs b))} {g = new_lhs g.B.BodyForms.forms b} c.in_ok-look.ensures.looks (λ x ts same e. link.new_splits g.B.BodyForms.forms b x ts (s.no_head same) (ap (at_token is_new) e ∙ sym c.is_sign.ensures.value ∙ c.if-not-is_sign.false)) in
-    let behind = s.on_then seen (s.on_took {f = new_lhs g.B.BodyForms.forms b} {g = new_tail g.B.BodyForms.forms b start} g.met.I.Tokens.laws first
-    (λ x ts. link.new_opens g.B.BodyForms.forms b (plain first.was) x ts ∙ ap (λ v. new_tail g.B.BodyForms.forms b v x ts) (sym place))) in
-    let none = s.eats_none g.B.Bodies.is_faithful is_dot _ _ _ c.in-None.is (c.in_ok-eat.ensures.eats g.B.Bodies.is_faithful) in
-    let begun = s.on_then behind (s.on_call (λ x q. new_by g.B.BodyForms.forms b start q.0 x q.1) (λ x ts. refl) none) in
+    let seen = s.on_seen {f = run g.B.BodyForms.forms (at (Lhs b))}
+    {g = new_lhs g.B.BodyForms.forms b} c.in_ok-look.ensures.looks
+    (λ x ts same e. link.new_splits g.B.BodyForms.forms b x ts (s.no_head same)
+    (ap (at_token is_new) e ∙ sym c.is_sign.ensures.value ∙ c.if-not-is_sign.false)) in
+    let behind = s.on_then seen (s.on_took {f = new_lhs g.B.BodyForms.forms b}
+    {g = new_tail g.B.BodyForms.forms b start} g.met.I.Tokens.laws first
+    (λ x ts. link.new_opens g.B.BodyForms.forms b (plain first.was) x ts ∙ ap
+    (λ v. new_tail g.B.BodyForms.forms b v x ts) (sym place))) in
+    let none = s.eats_none g.B.Bodies.is_faithful is_dot _ _ _ c.in-None.is
+    (c.in_ok-eat.ensures.eats g.B.Bodies.is_faithful) in
+    let begun = s.on_then behind (s.on_call (λ x q. new_by g.B.BodyForms.forms b start q.0 x q.1)
+    (λ x ts. refl) none) in
     let l = tree_of c.parse_member_expr.new.p.nodes c.in_ok-callee.callee in
     let named = s.on_call _ (link.construct_splits g.B.BodyForms.forms b start) c.in_ok-callee.ensures.reads.on in
-    let passes = s.on_by (λ x ts. link.construct_passes g.B.BodyForms.forms b start l x ts c.in_ok-refuse_opt_chain.ensures.passes.1) (s.on_same {f = construct_node g.B.BodyForms.forms b start l} g.met.I.Tokens.laws c.in_ok-refuse_opt_chain.ensures.passes.0) in
-    let some = s.eats_some g.B.Bodies.is_faithful is_lparen _ c.in-Some-2.field-0 _ _ c.in-Some-2.is (c.in_ok-eat-2.ensures.eats g.B.Bodies.is_faithful) in
-    let opened = s.on_then begun (s.on_then named (s.on_then passes (s.on_call (λ x q. construct_by g.B.BodyForms.forms b start l q.0 x q.1) (λ x ts. refl) some.on))) in
+    let passes = s.on_by (λ x ts. link.construct_passes g.B.BodyForms.forms b start l x ts
+    c.in_ok-refuse_opt_chain.ensures.passes.1) (s.on_same
+    {f = construct_node g.B.BodyForms.forms b start l} g.met.I.Tokens.laws
+    c.in_ok-refuse_opt_chain.ensures.passes.0) in
+    let some = s.eats_some g.B.Bodies.is_faithful is_lparen _ c.in-Some-2.field-0 _ _ c.in-Some-2.is
+    (c.in_ok-eat-2.ensures.eats g.B.Bodies.is_faithful) in
+    let opened = s.on_then begun (s.on_then named (s.on_then passes
+    (s.on_call (λ x q. construct_by g.B.BodyForms.forms b start l q.0 x q.1) (λ x ts. refl) some.on))) in
     m.refused c.from_residual-in_err-list-in-Some-2.ensures.1
     (s.unheard_after opened (s.unheard_call (λ x q. run _ (links b q.0) x q.1) (λ x ts. refl)
     (s.unheard_call _ (link.new_args_splits _ start l) c.in_err-list-in-Some-2.ensures.reads)))
@@ -861,20 +1064,35 @@ parse_member_expr-returns-in_err-base-in-Some-2 g t c =
     let b = false in
     let start = c.cur_span-start.result in
     let place = s.place_was first start c.cur_span-start.ensures in
-    let seen = s.on_seen {f = run g.B.BodyForms.forms (at (Lhs b))} {g = new_lhs g.B.BodyForms.forms b} c.in_ok-look.ensures.looks (λ x ts same e. link.new_splits g.B.BodyForms.forms b x ts (s.no_head same) (ap (at_token is_new) e ∙ sym c.is_sign.ensures.value ∙ c.if-not-is_sign.false)) in
-    let behind = s.on_then seen (s.on_took {f = new_lhs g.B.BodyForms.forms b} {g = new_tail g.B.BodyForms.forms b start} g.met.I.Tokens.laws first
-    (λ x ts. link.new_opens g.B.BodyForms.forms b (plain first.was) x ts ∙ ap (λ v. new_tail g.B.BodyForms.forms b v x ts) (sym place))) in
-    let none = s.eats_none g.B.Bodies.is_faithful is_dot _ _ _ c.in-None.is (c.in_ok-eat.ensures.eats g.B.Bodies.is_faithful) in
-    let begun = s.on_then behind (s.on_call (λ x q. new_by g.B.BodyForms.forms b start q.0 x q.1) (λ x ts. refl) none) in
+    let seen = s.on_seen {f = run g.B.BodyForms.forms (at (Lhs b))}
+    {g = new_lhs g.B.BodyForms.forms b} c.in_ok-look.ensures.looks
+    (λ x ts same e. link.new_splits g.B.BodyForms.forms b x ts (s.no_head same)
+    (ap (at_token is_new) e ∙ sym c.is_sign.ensures.value ∙ c.if-not-is_sign.false)) in
+    let behind = s.on_then seen (s.on_took {f = new_lhs g.B.BodyForms.forms b}
+    {g = new_tail g.B.BodyForms.forms b start} g.met.I.Tokens.laws first
+    (λ x ts. link.new_opens g.B.BodyForms.forms b (plain first.was) x ts ∙ ap
+    (λ v. new_tail g.B.BodyForms.forms b v x ts) (sym place))) in
+    let none = s.eats_none g.B.Bodies.is_faithful is_dot _ _ _ c.in-None.is
+    (c.in_ok-eat.ensures.eats g.B.Bodies.is_faithful) in
+    let begun = s.on_then behind (s.on_call (λ x q. new_by g.B.BodyForms.forms b start q.0 x q.1)
+    (λ x ts. refl) none) in
     let l = tree_of c.parse_member_expr.new.p.nodes c.in_ok-callee.callee in
     let named = s.on_call _ (link.construct_splits g.B.BodyForms.forms b start) c.in_ok-callee.ensures.reads.on in
-    let passes = s.on_by (λ x ts. link.construct_passes g.B.BodyForms.forms b start l x ts c.in_ok-refuse_opt_chain.ensures.passes.1) (s.on_same {f = construct_node g.B.BodyForms.forms b start l} g.met.I.Tokens.laws c.in_ok-refuse_opt_chain.ensures.passes.0) in
-    let some = s.eats_some g.B.Bodies.is_faithful is_lparen _ c.in-Some-2.field-0 _ _ c.in-Some-2.is (c.in_ok-eat-2.ensures.eats g.B.Bodies.is_faithful) in
-    let opened = s.on_then begun (s.on_then named (s.on_then passes (s.on_call (λ x q. construct_by g.B.BodyForms.forms b start l q.0 x q.1) (λ x ts. refl) some.on))) in
-    let base = m.tail {p = record c.parse_member_expr.new.p { input = c.eat-2.new.input }} (Err _) (λ v x p. new_node start v p.0 x p.1)
-    (link.new_args_splits g.B.BodyForms.forms start l) c.in_ok-list-in-Some-2.ensures.reads c.parse_args.ensures.grows c.in_ok-callee.ensures.from c.in_err-base-in-Some-2.ensures in
+    let passes = s.on_by (λ x ts. link.construct_passes g.B.BodyForms.forms b start l x ts
+    c.in_ok-refuse_opt_chain.ensures.passes.1) (s.on_same
+    {f = construct_node g.B.BodyForms.forms b start l} g.met.I.Tokens.laws
+    c.in_ok-refuse_opt_chain.ensures.passes.0) in
+    let some = s.eats_some g.B.Bodies.is_faithful is_lparen _ c.in-Some-2.field-0 _ _ c.in-Some-2.is
+    (c.in_ok-eat-2.ensures.eats g.B.Bodies.is_faithful) in
+    let opened = s.on_then begun (s.on_then named (s.on_then passes
+    (s.on_call (λ x q. construct_by g.B.BodyForms.forms b start l q.0 x q.1) (λ x ts. refl) some.on))) in
+    let base = m.tail {p = record c.parse_member_expr.new.p { input = c.eat-2.new.input }} (Err _)
+    (λ v x p. new_node start v p.0 x p.1)
+    (link.new_args_splits g.B.BodyForms.forms start l) c.in_ok-list-in-Some-2.ensures.reads c.parse_args.ensures.grows
+    c.in_ok-callee.ensures.from c.in_err-base-in-Some-2.ensures in
     m.refused c.from_residual-in_err-base-in-Some-2.ensures.1
-    (s.unheard_after opened (s.unheard_call (λ x q. run _ (links b q.0) x q.1) (λ x ts. refl) base.reads)) (grows-then c.parse_member_expr.ensures.grows base.grows)
+    (s.unheard_after opened (s.unheard_call (λ x q. run _ (links b q.0) x q.1) (λ x ts. refl) base.reads))
+    (grows-then c.parse_member_expr.ensures.grows base.grows)
 
 pub parse_member_expr-returns-in_ok-base-in-Some-2 : goal.parse_member_expr-returns-in_ok-base-in-Some-2
 parse_member_expr-returns-in_ok-base-in-Some-2 g t c =
@@ -882,21 +1100,38 @@ parse_member_expr-returns-in_ok-base-in-Some-2 g t c =
     let b = false in
     let start = c.cur_span-start.result in
     let place = s.place_was first start c.cur_span-start.ensures in
-    let seen = s.on_seen {f = run g.B.BodyForms.forms (at (Lhs b))} {g = new_lhs g.B.BodyForms.forms b} c.in_ok-look.ensures.looks (λ x ts same e. link.new_splits g.B.BodyForms.forms b x ts (s.no_head same) (ap (at_token is_new) e ∙ sym c.is_sign.ensures.value ∙ c.if-not-is_sign.false)) in
-    let behind = s.on_then seen (s.on_took {f = new_lhs g.B.BodyForms.forms b} {g = new_tail g.B.BodyForms.forms b start} g.met.I.Tokens.laws first
-    (λ x ts. link.new_opens g.B.BodyForms.forms b (plain first.was) x ts ∙ ap (λ v. new_tail g.B.BodyForms.forms b v x ts) (sym place))) in
-    let none = s.eats_none g.B.Bodies.is_faithful is_dot _ _ _ c.in-None.is (c.in_ok-eat.ensures.eats g.B.Bodies.is_faithful) in
-    let begun = s.on_then behind (s.on_call (λ x q. new_by g.B.BodyForms.forms b start q.0 x q.1) (λ x ts. refl) none) in
+    let seen = s.on_seen {f = run g.B.BodyForms.forms (at (Lhs b))}
+    {g = new_lhs g.B.BodyForms.forms b} c.in_ok-look.ensures.looks
+    (λ x ts same e. link.new_splits g.B.BodyForms.forms b x ts (s.no_head same)
+    (ap (at_token is_new) e ∙ sym c.is_sign.ensures.value ∙ c.if-not-is_sign.false)) in
+    let behind = s.on_then seen (s.on_took {f = new_lhs g.B.BodyForms.forms b}
+    {g = new_tail g.B.BodyForms.forms b start} g.met.I.Tokens.laws first
+    (λ x ts. link.new_opens g.B.BodyForms.forms b (plain first.was) x ts ∙ ap
+    (λ v. new_tail g.B.BodyForms.forms b v x ts) (sym place))) in
+    let none = s.eats_none g.B.Bodies.is_faithful is_dot _ _ _ c.in-None.is
+    (c.in_ok-eat.ensures.eats g.B.Bodies.is_faithful) in
+    let begun = s.on_then behind (s.on_call (λ x q. new_by g.B.BodyForms.forms b start q.0 x q.1)
+    (λ x ts. refl) none) in
     let l = tree_of c.parse_member_expr.new.p.nodes c.in_ok-callee.callee in
     let named = s.on_call _ (link.construct_splits g.B.BodyForms.forms b start) c.in_ok-callee.ensures.reads.on in
-    let passes = s.on_by (λ x ts. link.construct_passes g.B.BodyForms.forms b start l x ts c.in_ok-refuse_opt_chain.ensures.passes.1) (s.on_same {f = construct_node g.B.BodyForms.forms b start l} g.met.I.Tokens.laws c.in_ok-refuse_opt_chain.ensures.passes.0) in
-    let some = s.eats_some g.B.Bodies.is_faithful is_lparen _ c.in-Some-2.field-0 _ _ c.in-Some-2.is (c.in_ok-eat-2.ensures.eats g.B.Bodies.is_faithful) in
-    let opened = s.on_then begun (s.on_then named (s.on_then passes (s.on_call (λ x q. construct_by g.B.BodyForms.forms b start l q.0 x q.1) (λ x ts. refl) some.on))) in
-    let base = m.tail {p = record c.parse_member_expr.new.p { input = c.eat-2.new.input }} (Ok c.in_ok-base-in-Some-2.base) (λ v x p. new_node start v p.0 x p.1)
-    (link.new_args_splits g.B.BodyForms.forms start l) c.in_ok-list-in-Some-2.ensures.reads c.parse_args.ensures.grows c.in_ok-callee.ensures.from c.in_ok-base-in-Some-2.ensures in
-    m.after {m = record c.parse_member_expr.new.p { input = c.eat-2.new.input }} c.parse_subscripts-in-Some-2.result opened c.parse_member_expr.ensures.grows
-    (m.call {j = first_at c.new_expr.new.p.nodes c.in_ok-base-in-Some-2.base.0} c.parse_subscripts-in-Some-2.result (λ x q. run _ (links b q.0) x q.1) (λ x ts. refl)
-    base.reads base.grows (λ x. from-down (let a = c.in_ok-callee.ensures.from.above in let d = base.from.above in omega arith)) c.parse_subscripts-in-Some-2.ensures)
+    let passes = s.on_by (λ x ts. link.construct_passes g.B.BodyForms.forms b start l x ts
+    c.in_ok-refuse_opt_chain.ensures.passes.1) (s.on_same
+    {f = construct_node g.B.BodyForms.forms b start l} g.met.I.Tokens.laws
+    c.in_ok-refuse_opt_chain.ensures.passes.0) in
+    let some = s.eats_some g.B.Bodies.is_faithful is_lparen _ c.in-Some-2.field-0 _ _ c.in-Some-2.is
+    (c.in_ok-eat-2.ensures.eats g.B.Bodies.is_faithful) in
+    let opened = s.on_then begun (s.on_then named (s.on_then passes
+    (s.on_call (λ x q. construct_by g.B.BodyForms.forms b start l q.0 x q.1) (λ x ts. refl) some.on))) in
+    let base = m.tail {p = record c.parse_member_expr.new.p { input = c.eat-2.new.input }}
+    (Ok c.in_ok-base-in-Some-2.base) (λ v x p. new_node start v p.0 x p.1)
+    (link.new_args_splits g.B.BodyForms.forms start l) c.in_ok-list-in-Some-2.ensures.reads c.parse_args.ensures.grows
+    c.in_ok-callee.ensures.from c.in_ok-base-in-Some-2.ensures in
+    m.after {m = record c.parse_member_expr.new.p { input = c.eat-2.new.input }} c.parse_subscripts-in-Some-2.result
+    opened c.parse_member_expr.ensures.grows
+    (m.call {j = first_at c.new_expr.new.p.nodes c.in_ok-base-in-Some-2.base.0} c.parse_subscripts-in-Some-2.result
+    (λ x q. run _ (links b q.0) x q.1) (λ x ts. refl)
+    base.reads base.grows (λ x. from-down (let a = c.in_ok-callee.ensures.from.above in let d = base.from.above in
+    omega arith)) c.parse_subscripts-in-Some-2.ensures)
 
 pub parse_member_expr-returns-in-None-2 : goal.parse_member_expr-returns-in-None-2
 parse_member_expr-returns-in-None-2 g t c =
@@ -904,17 +1139,29 @@ parse_member_expr-returns-in-None-2 g t c =
     let b = false in
     let start = c.cur_span-start.result in
     let place = s.place_was first start c.cur_span-start.ensures in
-    let seen = s.on_seen {f = run g.B.BodyForms.forms (at (Lhs b))} {g = new_lhs g.B.BodyForms.forms b} c.in_ok-look.ensures.looks (λ x ts same e. link.new_splits g.B.BodyForms.forms b x ts (s.no_head same) (ap (at_token is_new) e ∙ sym c.is_sign.ensures.value ∙ c.if-not-is_sign.false)) in
-    let behind = s.on_then seen (s.on_took {f = new_lhs g.B.BodyForms.forms b} {g = new_tail g.B.BodyForms.forms b start} g.met.I.Tokens.laws first
-    (λ x ts. link.new_opens g.B.BodyForms.forms b (plain first.was) x ts ∙ ap (λ v. new_tail g.B.BodyForms.forms b v x ts) (sym place))) in
-    let none = s.eats_none g.B.Bodies.is_faithful is_dot _ _ _ c.in-None.is (c.in_ok-eat.ensures.eats g.B.Bodies.is_faithful) in
-    let begun = s.on_then behind (s.on_call (λ x q. new_by g.B.BodyForms.forms b start q.0 x q.1) (λ x ts. refl) none) in
+    let seen = s.on_seen {f = run g.B.BodyForms.forms (at (Lhs b))}
+    {g = new_lhs g.B.BodyForms.forms b} c.in_ok-look.ensures.looks
+    (λ x ts same e. link.new_splits g.B.BodyForms.forms b x ts (s.no_head same)
+    (ap (at_token is_new) e ∙ sym c.is_sign.ensures.value ∙ c.if-not-is_sign.false)) in
+    let behind = s.on_then seen (s.on_took {f = new_lhs g.B.BodyForms.forms b}
+    {g = new_tail g.B.BodyForms.forms b start} g.met.I.Tokens.laws first
+    (λ x ts. link.new_opens g.B.BodyForms.forms b (plain first.was) x ts ∙ ap
+    (λ v. new_tail g.B.BodyForms.forms b v x ts) (sym place))) in
+    let none = s.eats_none g.B.Bodies.is_faithful is_dot _ _ _ c.in-None.is
+    (c.in_ok-eat.ensures.eats g.B.Bodies.is_faithful) in
+    let begun = s.on_then behind (s.on_call (λ x q. new_by g.B.BodyForms.forms b start q.0 x q.1)
+    (λ x ts. refl) none) in
     let l = tree_of c.parse_member_expr.new.p.nodes c.in_ok-callee.callee in
     let named = s.on_call _ (link.construct_splits g.B.BodyForms.forms b start) c.in_ok-callee.ensures.reads.on in
-    let passes = s.on_by (λ x ts. link.construct_passes g.B.BodyForms.forms b start l x ts c.in_ok-refuse_opt_chain.ensures.passes.1) (s.on_same {f = construct_node g.B.BodyForms.forms b start l} g.met.I.Tokens.laws c.in_ok-refuse_opt_chain.ensures.passes.0) in
-    let closed = s.eats_none g.B.Bodies.is_faithful is_lparen _ _ _ c.in-None-2.is (c.in_ok-eat-2.ensures.eats g.B.Bodies.is_faithful) in
+    let passes = s.on_by (λ x ts. link.construct_passes g.B.BodyForms.forms b start l x ts
+    c.in_ok-refuse_opt_chain.ensures.passes.1) (s.on_same
+    {f = construct_node g.B.BodyForms.forms b start l} g.met.I.Tokens.laws
+    c.in_ok-refuse_opt_chain.ensures.passes.0) in
+    let closed = s.eats_none g.B.Bodies.is_faithful is_lparen _ _ _ c.in-None-2.is
+    (c.in_ok-eat-2.ensures.eats g.B.Bodies.is_faithful) in
     m.node _ c.bare_new_expr-node.result c.made.result (c.in_ok-callee.ensures.from.above)
-    c.bare_new_expr-node.ensures.made c.made.ensures.ok c.made.ensures.refused c.parse_member_expr.ensures.grows c.bare_new_expr-node.ensures.grows
+    c.bare_new_expr-node.ensures.made c.made.ensures.ok c.made.ensures.refused c.parse_member_expr.ensures.grows
+    c.bare_new_expr-node.ensures.grows
     (s.heard_after begun (s.heard_more _ (link.construct_splits _ b start) c.in_ok-callee.ensures.reads
     (s.on_then passes (s.on_call (λ x q. construct_by _ b start l q.0 x q.1) (λ x ts. refl) closed))))
 
@@ -927,22 +1174,27 @@ parse_base-returns-in_err-start g t c =
 pub parse_base-returns-in-Some : goal.parse_base-returns-in-Some
 parse_base-returns-in-Some g t c =
     let b = not c.args.no_call in
-    let some = s.eats_some g.B.Bodies.is_faithful is_super _ c.in-Some.start _ _ c.in-Some.is (c.in_ok-start.ensures.eats g.B.Bodies.is_faithful) in
+    let some = s.eats_some g.B.Bodies.is_faithful is_super _ c.in-Some.start _ _ c.in-Some.is
+    (c.in_ok-start.ensures.eats g.B.Bodies.is_faithful) in
     m.after c.parse_super.result (s.on_call _ (base.plain_splits _ b) some.on) (grows-same _) c.parse_super.ensures
 
 pub parse_base-returns-in_err-start-2 : goal.parse_base-returns-in_err-start-2
 parse_base-returns-in_err-start-2 g t c =
     let b = not c.args.no_call in
-    let none = s.eats_none g.B.Bodies.is_faithful is_super _ _ _ c.in-None.is (c.in_ok-start.ensures.eats g.B.Bodies.is_faithful) in
+    let none = s.eats_none g.B.Bodies.is_faithful is_super _ _ _ c.in-None.is
+    (c.in_ok-start.ensures.eats g.B.Bodies.is_faithful) in
     m.refused c.from_residual-in_err-start-2.ensures.1
     (s.unheard_after (s.on_call _ (base.plain_splits _ b) none)
-    (s.unheard_call (λ x q. import_by _ b q.0 x q.1) (λ x ts. refl) (c.in_err-start-2.ensures.eats g.B.Bodies.is_faithful))) (grows-same _)
+    (s.unheard_call (λ x q. import_by _ b q.0 x q.1) (λ x ts. refl)
+    (c.in_err-start-2.ensures.eats g.B.Bodies.is_faithful))) (grows-same _)
 
 pub parse_base-returns-in-None-2 : goal.parse_base-returns-in-None-2
 parse_base-returns-in-None-2 g t c =
     let b = not c.args.no_call in
-    let none = s.eats_none g.B.Bodies.is_faithful is_super _ _ _ c.in-None.is (c.in_ok-start.ensures.eats g.B.Bodies.is_faithful) in
-    let no = s.eats_none g.B.Bodies.is_faithful is_import _ _ _ c.in-None-2.is (c.in_ok-start-2.ensures.eats g.B.Bodies.is_faithful) in
+    let none = s.eats_none g.B.Bodies.is_faithful is_super _ _ _ c.in-None.is
+    (c.in_ok-start.ensures.eats g.B.Bodies.is_faithful) in
+    let no = s.eats_none g.B.Bodies.is_faithful is_import _ _ _ c.in-None-2.is
+    (c.in_ok-start-2.ensures.eats g.B.Bodies.is_faithful) in
     m.after c.parse_primary_expr.result (s.on_then (s.on_call _ (base.plain_splits _ b) none)
     (s.on_call (λ x q. import_by _ b q.0 x q.1) (λ x ts. refl) no)) (grows-same _) c.parse_primary_expr.ensures
 
@@ -950,68 +1202,90 @@ pub parse_base-returns-in_err-span : goal.parse_base-returns-in_err-span
 parse_base-returns-in_err-span g t c =
     let b = not c.args.no_call in
     let start = c.in-Some-2.start in
-    let none = s.eats_none g.B.Bodies.is_faithful is_super _ _ _ c.in-None.is (c.in_ok-start.ensures.eats g.B.Bodies.is_faithful) in
-    let some = s.eats_some g.B.Bodies.is_faithful is_import _ start _ _ c.in-Some-2.is (c.in_ok-start-2.ensures.eats g.B.Bodies.is_faithful) in
-    let begun = s.on_then (s.on_call _ (base.plain_splits g.B.BodyForms.forms b) none) (s.on_call (λ x q. import_by g.B.BodyForms.forms b q.0 x q.1) (λ x ts. refl) some.on) in
+    let none = s.eats_none g.B.Bodies.is_faithful is_super _ _ _ c.in-None.is
+    (c.in_ok-start.ensures.eats g.B.Bodies.is_faithful) in
+    let some = s.eats_some g.B.Bodies.is_faithful is_import _ start _ _ c.in-Some-2.is
+    (c.in_ok-start-2.ensures.eats g.B.Bodies.is_faithful) in
+    let begun = s.on_then (s.on_call _ (base.plain_splits g.B.BodyForms.forms b) none)
+    (s.on_call (λ x q. import_by g.B.BodyForms.forms b q.0 x q.1) (λ x ts. refl) some.on) in
     m.refused c.from_residual-in_err-span.ensures.1
-    (s.unheard_after begun (s.unheard_call _ (base.import_splits _ b start) (c.in_err-span.ensures.parses g.B.Bodies.is_faithful))) (grows-kept c.import_head.ensures.nodes)
+    (s.unheard_after begun (s.unheard_call _ (base.import_splits _ b start)
+    (c.in_err-span.ensures.parses g.B.Bodies.is_faithful))) (grows-kept c.import_head.ensures.nodes)
 
 pub parse_base-returns-in-Meta : goal.parse_base-returns-in-Meta
 parse_base-returns-in-Meta g t c =
     let b = not c.args.no_call in
     let start = c.in-Some-2.start in
-    let none = s.eats_none g.B.Bodies.is_faithful is_super _ _ _ c.in-None.is (c.in_ok-start.ensures.eats g.B.Bodies.is_faithful) in
-    let some = s.eats_some g.B.Bodies.is_faithful is_import _ start _ _ c.in-Some-2.is (c.in_ok-start-2.ensures.eats g.B.Bodies.is_faithful) in
-    let begun = s.on_then (s.on_call _ (base.plain_splits g.B.BodyForms.forms b) none) (s.on_call (λ x q. import_by g.B.BodyForms.forms b q.0 x q.1) (λ x ts. refl) some.on) in
+    let none = s.eats_none g.B.Bodies.is_faithful is_super _ _ _ c.in-None.is
+    (c.in_ok-start.ensures.eats g.B.Bodies.is_faithful) in
+    let some = s.eats_some g.B.Bodies.is_faithful is_import _ start _ _ c.in-Some-2.is
+    (c.in_ok-start-2.ensures.eats g.B.Bodies.is_faithful) in
+    let begun = s.on_then (s.on_call _ (base.plain_splits g.B.BodyForms.forms b) none)
+    (s.on_call (λ x q. import_by g.B.BodyForms.forms b q.0 x q.1) (λ x ts. refl) some.on) in
     let kept = grows-kept c.import_head.ensures.nodes in
     m.after {m = record c.args.p.now { input = c.eat-2.new.input }} c.import_meta.result begun (grows-same _)
     (m.call c.import_meta.result _ (base.import_splits _ b start)
-    (s.heard_answer c.in-Meta.is (c.in_ok-span.ensures.parses g.B.Bodies.is_faithful)) kept (λ x. from-down (grows-count kept)) c.import_meta.ensures)
+    (s.heard_answer c.in-Meta.is (c.in_ok-span.ensures.parses g.B.Bodies.is_faithful)) kept
+    (λ x. from-down (grows-count kept)) c.import_meta.ensures)
 
 pub parse_base-returns-in_err-list-in-Call : goal.parse_base-returns-in_err-list-in-Call
 parse_base-returns-in_err-list-in-Call g t c =
     let b = not c.args.no_call in
     let start = c.in-Some-2.start in
     let i = c.in-Call.import in
-    let none = s.eats_none g.B.Bodies.is_faithful is_super _ _ _ c.in-None.is (c.in_ok-start.ensures.eats g.B.Bodies.is_faithful) in
-    let some = s.eats_some g.B.Bodies.is_faithful is_import _ start _ _ c.in-Some-2.is (c.in_ok-start-2.ensures.eats g.B.Bodies.is_faithful) in
-    let begun = s.on_then (s.on_call _ (base.plain_splits g.B.BodyForms.forms b) none) (s.on_call (λ x q. import_by g.B.BodyForms.forms b q.0 x q.1) (λ x ts. refl) some.on) in
+    let none = s.eats_none g.B.Bodies.is_faithful is_super _ _ _ c.in-None.is
+    (c.in_ok-start.ensures.eats g.B.Bodies.is_faithful) in
+    let some = s.eats_some g.B.Bodies.is_faithful is_import _ start _ _ c.in-Some-2.is
+    (c.in_ok-start-2.ensures.eats g.B.Bodies.is_faithful) in
+    let begun = s.on_then (s.on_call _ (base.plain_splits g.B.BodyForms.forms b) none)
+    (s.on_call (λ x q. import_by g.B.BodyForms.forms b q.0 x q.1) (λ x ts. refl) some.on) in
     m.refused c.from_residual-in_err-list-in-Call.ensures.1
     (s.unheard_after begun (s.unheard_after (s.on_call _ (base.import_splits _ b start)
     (s.heard_answer c.in-Call.is (c.in_ok-span.ensures.parses g.B.Bodies.is_faithful)).on)
-    (s.unheard_call (λ x p. import_node start (import_e i.span i.phase) p.0 x p.1) (λ x ts. refl) c.in_err-list-in-Call.ensures.reads))) (grows-then (grows-kept c.import_head.ensures.nodes) c.parse_args.ensures.grows)
+    (s.unheard_call (λ x p. import_node start (import_e i.span i.phase) p.0 x p.1)
+    (λ x ts. refl) c.in_err-list-in-Call.ensures.reads)))
+    (grows-then (grows-kept c.import_head.ensures.nodes) c.parse_args.ensures.grows)
 
 pub parse_base-import_call-requires : goal.parse_base-import_call-requires
-parse_base-import_call-requires g t c = apart-down (args_parts c.in_ok-list-in-Call.list.items) c.in_ok-list-in-Call.ensures.from
+parse_base-import_call-requires g t c = apart-down (args_parts c.in_ok-list-in-Call.list.items)
+    c.in_ok-list-in-Call.ensures.from
 
 pub parse_base-returns-in_ok-list-in-Call : goal.parse_base-returns-in_ok-list-in-Call
 parse_base-returns-in_ok-list-in-Call g t c =
     let b = not c.args.no_call in
     let start = c.in-Some-2.start in
     let i = c.in-Call.import in
-    let none = s.eats_none g.B.Bodies.is_faithful is_super _ _ _ c.in-None.is (c.in_ok-start.ensures.eats g.B.Bodies.is_faithful) in
-    let some = s.eats_some g.B.Bodies.is_faithful is_import _ start _ _ c.in-Some-2.is (c.in_ok-start-2.ensures.eats g.B.Bodies.is_faithful) in
-    let begun = s.on_then (s.on_call _ (base.plain_splits g.B.BodyForms.forms b) none) (s.on_call (λ x q. import_by g.B.BodyForms.forms b q.0 x q.1) (λ x ts. refl) some.on) in
+    let none = s.eats_none g.B.Bodies.is_faithful is_super _ _ _ c.in-None.is
+    (c.in_ok-start.ensures.eats g.B.Bodies.is_faithful) in
+    let some = s.eats_some g.B.Bodies.is_faithful is_import _ start _ _ c.in-Some-2.is
+    (c.in_ok-start-2.ensures.eats g.B.Bodies.is_faithful) in
+    let begun = s.on_then (s.on_call _ (base.plain_splits g.B.BodyForms.forms b) none)
+    (s.on_call (λ x q. import_by g.B.BodyForms.forms b q.0 x q.1) (λ x ts. refl) some.on) in
     let kept = grows-kept c.import_head.ensures.nodes in
     m.after {m = c.import_head.new.p} c.import_call.result
     (s.on_then begun (s.on_call _ (base.import_splits _ b start)
     (s.heard_answer c.in-Call.is (c.in_ok-span.ensures.parses g.B.Bodies.is_faithful)).on)) kept
     (m.call c.import_call.result (λ x p. import_node start (import_e i.span i.phase) p.0 x p.1) (λ x ts. refl)
-    c.in_ok-list-in-Call.ensures.reads c.parse_args.ensures.grows (λ x. from-down (grows-count kept)) (c.import_call.ensures _ c.in_ok-list-in-Call.ensures.from))
+    c.in_ok-list-in-Call.ensures.reads c.parse_args.ensures.grows (λ x. from-down (grows-count kept))
+    (c.import_call.ensures _ c.in_ok-list-in-Call.ensures.from))
 
 pub parse_super-returns-in_err-super_head : goal.parse_super-returns-in_err-super_head
 parse_super-returns-in_err-super_head g t c =
     m.refused c.from_residual.ensures.1
-    (s.unheard_call _ (base.super_splits _ (not c.args.no_call) c.args.start) (c.in_err-super_head.ensures.continues g.B.Bodies.is_faithful)) (grows-same _)
+    (s.unheard_call _ (base.super_splits _ (not c.args.no_call) c.args.start)
+    (c.in_err-super_head.ensures.continues g.B.Bodies.is_faithful)) (grows-same _)
 
 pub parse_super-returns-in-Name : goal.parse_super-returns-in-Name
 parse_super-returns-in-Name g t c =
     m.after c.parse_super_name.result (s.on_call _ (base.super_splits _ (not c.args.no_call) c.args.start)
-    (s.on_answer c.in-Name.is (c.in_ok-super_head.ensures.continues g.B.Bodies.is_faithful))) (grows-same _) c.parse_super_name.ensures
+    (s.on_answer c.in-Name.is (c.in_ok-super_head.ensures.continues g.B.Bodies.is_faithful)))
+    (grows-same _) c.parse_super_name.ensures
 
 pub parse_super-returns-in_err-expr-in-Computed : goal.parse_super-returns-in_err-expr-in-Computed
 parse_super-returns-in_err-expr-in-Computed g t c =
-    let inner = expr_within g.B.BodyForms.forms c.include_in-before.ensures.before c.include_in-before.ensures.moves c.include_in-before.ensures.context c.parse_expr-read.ensures c.in_err-expr-in-Computed.ensures.answer c.in_err-expr-in-Computed.ensures.moves c.in_err-expr-in-Computed.ensures.context in
+    let inner = expr_within g.B.BodyForms.forms c.include_in-before.ensures.before c.include_in-before.ensures.moves
+    c.include_in-before.ensures.context c.parse_expr-read.ensures c.in_err-expr-in-Computed.ensures.answer
+    c.in_err-expr-in-Computed.ensures.moves c.in_err-expr-in-Computed.ensures.context in
     let q = c.in-Computed.bracket in
     m.refused c.from_residual-in_err-expr-in-Computed.ensures.1
     (s.unheard_after (s.on_call _ (base.super_splits _ (not c.args.no_call) c.args.start)
@@ -1020,7 +1294,10 @@ parse_super-returns-in_err-expr-in-Computed g t c =
 
 pub parse_super-returns-in-Computed : goal.parse_super-returns-in-Computed
 parse_super-returns-in-Computed g t c =
-    let inner = expr_within g.B.BodyForms.forms {o = Ok c.in_ok-expr-in-Computed.expr} c.include_in-before.ensures.before c.include_in-before.ensures.moves c.include_in-before.ensures.context c.parse_expr-read.ensures c.in_ok-expr-in-Computed.ensures.answer c.in_ok-expr-in-Computed.ensures.moves c.in_ok-expr-in-Computed.ensures.context in
+    let inner = expr_within g.B.BodyForms.forms {o = Ok c.in_ok-expr-in-Computed.expr}
+    c.include_in-before.ensures.before c.include_in-before.ensures.moves c.include_in-before.ensures.context
+    c.parse_expr-read.ensures c.in_ok-expr-in-Computed.ensures.answer c.in_ok-expr-in-Computed.ensures.moves
+    c.in_ok-expr-in-Computed.ensures.context in
     let q = c.in-Computed.bracket in
     m.after {m = record c.args.p.now { input = c.super_head.new.input }} c.super_computed.result
     (s.on_call _ (base.super_splits _ (not c.args.no_call) c.args.start)
@@ -1037,7 +1314,8 @@ parse_super-returns-in_err-list-in-Call g t c =
     (s.unheard_call _ (base.args_splits _ c.args.start) c.in_err-list-in-Call.ensures.reads)) c.parse_args.ensures.grows
 
 pub parse_super-callee_call-requires : goal.parse_super-callee_call-requires
-parse_super-callee_call-requires g t c = apart-down (args_parts c.in_ok-list-in-Call.list.items) c.in_ok-list-in-Call.ensures.from
+parse_super-callee_call-requires g t c = apart-down (args_parts c.in_ok-list-in-Call.list.items)
+    c.in_ok-list-in-Call.ensures.from
 
 pub parse_super-returns-in-Call : goal.parse_super-returns-in-Call
 parse_super-returns-in-Call g t c =
@@ -1045,46 +1323,74 @@ parse_super-returns-in-Call g t c =
     (s.on_call _ (base.super_splits _ (not c.args.no_call) c.args.start)
     (s.on_answer c.in-Call.is (c.in_ok-super_head.ensures.continues g.B.Bodies.is_faithful))) (grows-same _)
     (m.call c.callee_call.result _ (base.args_splits _ c.args.start)
-    c.in_ok-list-in-Call.ensures.reads c.parse_args.ensures.grows (λ x h. h) (c.callee_call.ensures _ c.in_ok-list-in-Call.ensures.from))
+    c.in_ok-list-in-Call.ensures.reads c.parse_args.ensures.grows (λ x h. h)
+    (c.callee_call.ensures _ c.in_ok-list-in-Call.ensures.from))
 
 -- neither a property nor a call: nothing is read
 pub parse_super-returns-in_err-super_chain : goal.parse_super-returns-in_err-super_chain
 parse_super-returns-in_err-super_chain g t c =
-    let other = s.on_call _ (base.super_splits g.B.BodyForms.forms (not c.args.no_call) c.args.start) (s.on_answer c.in-Other.is (c.in_ok-super_head.ensures.continues g.B.Bodies.is_faithful)) in
+    let other = s.on_call _ (base.super_splits g.B.BodyForms.forms (not c.args.no_call) c.args.start)
+    (s.on_answer c.in-Other.is (c.in_ok-super_head.ensures.continues g.B.Bodies.is_faithful)) in
     m.refused c.from_residual-in_err-super_chain.ensures.1
     (s.unheard_after other (s.unheard_none (λ x ts. refl) c.in_err-super_chain.ensures.acts)) (grows-same _)
 
 pub parse_super-returns-in-Name-2 : goal.parse_super-returns-in-Name-2
 parse_super-returns-in-Name-2 g t c =
-    let other = s.on_call _ (base.super_splits g.B.BodyForms.forms (not c.args.no_call) c.args.start) (s.on_answer c.in-Other.is (c.in_ok-super_head.ensures.continues g.B.Bodies.is_faithful)) in
-    m.after c.refuse_super_name.result (s.on_then other (s.on_none {g = nothing} (λ x ts. refl) (λ x ts. refl) c.in_ok-super_chain.ensures.acts)) (grows-same _) c.refuse_super_name.ensures
+    let other = s.on_call _ (base.super_splits g.B.BodyForms.forms (not c.args.no_call) c.args.start)
+    (s.on_answer c.in-Other.is (c.in_ok-super_head.ensures.continues g.B.Bodies.is_faithful)) in
+    m.after c.refuse_super_name.result (s.on_then other
+    (s.on_none {g = nothing} (λ x ts. refl) (λ x ts. refl) c.in_ok-super_chain.ensures.acts))
+    (grows-same _) c.refuse_super_name.ensures
 
 pub parse_super-returns-in_err-leave-in-Computed-2 : goal.parse_super-returns-in_err-leave-in-Computed-2
 parse_super-returns-in_err-leave-in-Computed-2 g t c =
-    let inner = expr_within g.B.BodyForms.forms c.include_in-before-in-Computed-2.ensures.before c.include_in-before-in-Computed-2.ensures.moves c.include_in-before-in-Computed-2.ensures.context c.parse_expr-read-in-Computed-2.ensures c.in_err-leave-in-Computed-2.ensures.answer c.in_err-leave-in-Computed-2.ensures.moves c.in_err-leave-in-Computed-2.ensures.context in
-    let other = s.on_call _ (base.super_splits g.B.BodyForms.forms (not c.args.no_call) c.args.start) (s.on_answer c.in-Other.is (c.in_ok-super_head.ensures.continues g.B.Bodies.is_faithful)) in
+    let inner = expr_within g.B.BodyForms.forms c.include_in-before-in-Computed-2.ensures.before
+    c.include_in-before-in-Computed-2.ensures.moves c.include_in-before-in-Computed-2.ensures.context
+    c.parse_expr-read-in-Computed-2.ensures c.in_err-leave-in-Computed-2.ensures.answer
+    c.in_err-leave-in-Computed-2.ensures.moves c.in_err-leave-in-Computed-2.ensures.context in
+    let other = s.on_call _ (base.super_splits g.B.BodyForms.forms (not c.args.no_call) c.args.start)
+    (s.on_answer c.in-Other.is (c.in_ok-super_head.ensures.continues g.B.Bodies.is_faithful)) in
     m.refused c.from_residual-in_err-leave-in-Computed-2.ensures.1
-    (s.unheard_after other (s.unheard_none (λ x ts. refl) (s.refuses_later c.in_ok-super_chain.ensures.acts inner.reads.refuses))) inner.grows
+    (s.unheard_after other (s.unheard_none (λ x ts. refl)
+    (s.refuses_later c.in_ok-super_chain.ensures.acts inner.reads.refuses))) inner.grows
 
 pub parse_super-returns-in_ok-leave-in-Computed-2 : goal.parse_super-returns-in_ok-leave-in-Computed-2
 parse_super-returns-in_ok-leave-in-Computed-2 g t c =
-    let inner = expr_within g.B.BodyForms.forms c.include_in-before-in-Computed-2.ensures.before c.include_in-before-in-Computed-2.ensures.moves c.include_in-before-in-Computed-2.ensures.context c.parse_expr-read-in-Computed-2.ensures c.in_ok-leave-in-Computed-2.ensures.answer c.in_ok-leave-in-Computed-2.ensures.moves c.in_ok-leave-in-Computed-2.ensures.context in
-    let other = s.on_call _ (base.super_splits g.B.BodyForms.forms (not c.args.no_call) c.args.start) (s.on_answer c.in-Other.is (c.in_ok-super_head.ensures.continues g.B.Bodies.is_faithful)) in
-    m.no (s.unheard_after other (s.unheard_none (λ x ts. refl) (s.refuses_later (s.leads_then c.in_ok-super_chain.ensures.acts inner.reads.on.leads) c.refuse_super_brackets.ensures))) inner.grows
+    let inner = expr_within g.B.BodyForms.forms c.include_in-before-in-Computed-2.ensures.before
+    c.include_in-before-in-Computed-2.ensures.moves c.include_in-before-in-Computed-2.ensures.context
+    c.parse_expr-read-in-Computed-2.ensures c.in_ok-leave-in-Computed-2.ensures.answer
+    c.in_ok-leave-in-Computed-2.ensures.moves c.in_ok-leave-in-Computed-2.ensures.context in
+    let other = s.on_call _ (base.super_splits g.B.BodyForms.forms (not c.args.no_call) c.args.start)
+    (s.on_answer c.in-Other.is (c.in_ok-super_head.ensures.continues g.B.Bodies.is_faithful)) in
+    m.no (s.unheard_after other (s.unheard_none (λ x ts. refl)
+    (s.refuses_later (s.leads_then c.in_ok-super_chain.ensures.acts inner.reads.on.leads)
+    c.refuse_super_brackets.ensures))) inner.grows
 
 pub parse_super-returns-in_err-parse_args-in-Call-2 : goal.parse_super-returns-in_err-parse_args-in-Call-2
 parse_super-returns-in_err-parse_args-in-Call-2 g t c =
-    let other = s.on_call _ (base.super_splits g.B.BodyForms.forms (not c.args.no_call) c.args.start) (s.on_answer c.in-Other.is (c.in_ok-super_head.ensures.continues g.B.Bodies.is_faithful)) in
+    let other = s.on_call _ (base.super_splits g.B.BodyForms.forms (not c.args.no_call) c.args.start)
+    (s.on_answer c.in-Other.is (c.in_ok-super_head.ensures.continues g.B.Bodies.is_faithful)) in
     m.refused c.from_residual-in_err-parse_args-in-Call-2.ensures.1
-    (s.unheard_after other (s.unheard_none (λ x ts. refl) (s.refuses_later c.in_ok-super_chain.ensures.acts c.in_err-parse_args-in-Call-2.ensures.reads.refuses))) c.parse_args-in-Call-2.ensures.grows
+    (s.unheard_after other (s.unheard_none (λ x ts. refl)
+    (s.refuses_later c.in_ok-super_chain.ensures.acts c.in_err-parse_args-in-Call-2.ensures.reads.refuses)))
+    c.parse_args-in-Call-2.ensures.grows
 
 pub parse_super-returns-in_ok-parse_args-in-Call-2 : goal.parse_super-returns-in_ok-parse_args-in-Call-2
 parse_super-returns-in_ok-parse_args-in-Call-2 g t c =
-    let other = s.on_call _ (base.super_splits g.B.BodyForms.forms (not c.args.no_call) c.args.start) (s.on_answer c.in-Other.is (c.in_ok-super_head.ensures.continues g.B.Bodies.is_faithful)) in
-    m.no (s.unheard_after other (s.unheard_none (λ x ts. refl) (s.refuses_later (s.leads_then c.in_ok-super_chain.ensures.acts c.in_ok-parse_args-in-Call-2.ensures.reads.on.leads) c.refuse_super_args.ensures))) c.parse_args-in-Call-2.ensures.grows
+    let other = s.on_call _ (base.super_splits g.B.BodyForms.forms (not c.args.no_call) c.args.start)
+    (s.on_answer c.in-Other.is (c.in_ok-super_head.ensures.continues g.B.Bodies.is_faithful)) in
+    m.no (s.unheard_after other (s.unheard_none (λ x ts. refl)
+    (s.refuses_later (s.leads_then c.in_ok-super_chain.ensures.acts
+    c.in_ok-parse_args-in-Call-2.ensures.reads.on.leads) c.refuse_super_args.ensures)))
+    c.parse_args-in-Call-2.ensures.grows
 
 pub parse_subscripts-loop-head-init : goal.parse_subscripts-loop-head-init
-parse_subscripts-loop-head-init g t c = (s.on_here g.met.I.Tokens.laws _ (λ x ts. refl), omega arith, grows-same _, from_self c.requires.from)
+parse_subscripts-loop-head-init g t c = (
+  s.on_here g.met.I.Tokens.laws _ (λ x ts. refl),
+  omega arith,
+  grows-same _,
+  from_self c.requires.from,
+)
 
 pub parse_subscripts-returns-in_err-head : goal.parse_subscripts-returns-in_err-head
 parse_subscripts-returns-in_err-head g t c =
@@ -1108,35 +1414,48 @@ parse_subscripts-returns-in_err-obj-in-Name g t c =
     m.passed_more c.from_residual-in_err-obj-in-Name.ensures.1
     (chain.not_linked g.B.BodyForms.forms c.args.p.now c.loop-head.p _ c.loop-head.invariant c.in-Some.is
     (c.in_ok-head.ensures.heads g.B.Bodies.is_faithful)
-    (m.after (Err _) (s.on_here {f = link_tail _ c.in-Some.head (tree_of c.loop-head.p.nodes c.loop-head.obj)} g.met.I.Tokens.laws _
-    (λ x ts. link.tail_name _ c.in-Some.head c.in-Name.optional _ x ts c.in-Name.is)) (grows-same _) c.in_err-obj-in-Name.ensures))
+    (m.after (Err _) (s.on_here {f = link_tail _ c.in-Some.head (tree_of c.loop-head.p.nodes c.loop-head.obj)}
+    g.met.I.Tokens.laws _
+    (λ x ts. link.tail_name _ c.in-Some.head c.in-Name.optional _ x ts c.in-Name.is))
+    (grows-same _) c.in_err-obj-in-Name.ensures))
 
 pub parse_subscripts-loop-head-preserved-in-Name : goal.parse_subscripts-loop-head-preserved-in-Name
 parse_subscripts-loop-head-preserved-in-Name g t c =
     chain.linked g.B.BodyForms.forms c.args.p.now c.loop-head.p _ c.loop-head.invariant c.in-Some.is
     (c.in_ok-head.ensures.heads g.B.Bodies.is_faithful) c.in_ok-head.ensures.falls
-    (m.after (Ok _) (s.on_here {f = link_tail _ c.in-Some.head (tree_of c.loop-head.p.nodes c.loop-head.obj)} g.met.I.Tokens.laws _
-    (λ x ts. link.tail_name _ c.in-Some.head c.in-Name.optional _ x ts c.in-Name.is)) (grows-same _) c.in_ok-obj-in-Name.ensures)
+    (m.after (Ok _) (s.on_here {f = link_tail _ c.in-Some.head (tree_of c.loop-head.p.nodes c.loop-head.obj)}
+    g.met.I.Tokens.laws _
+    (λ x ts. link.tail_name _ c.in-Some.head c.in-Name.optional _ x ts c.in-Name.is))
+    (grows-same _) c.in_ok-obj-in-Name.ensures)
 
 pub parse_subscripts-returns-in_err-expr-in-Computed : goal.parse_subscripts-returns-in_err-expr-in-Computed
 parse_subscripts-returns-in_err-expr-in-Computed g t c =
-    let inner = expr_within g.B.BodyForms.forms c.include_in-before.ensures.before c.include_in-before.ensures.moves c.include_in-before.ensures.context c.parse_expr-read.ensures c.in_err-expr-in-Computed.ensures.answer c.in_err-expr-in-Computed.ensures.moves c.in_err-expr-in-Computed.ensures.context in
+    let inner = expr_within g.B.BodyForms.forms c.include_in-before.ensures.before c.include_in-before.ensures.moves
+    c.include_in-before.ensures.context c.parse_expr-read.ensures c.in_err-expr-in-Computed.ensures.answer
+    c.in_err-expr-in-Computed.ensures.moves c.in_err-expr-in-Computed.ensures.context in
     let l = tree_of c.loop-head.p.nodes c.loop-head.obj in
     m.passed_more c.from_residual-in_err-expr-in-Computed.ensures.1
     (chain.not_linked g.B.BodyForms.forms c.args.p.now c.loop-head.p _ c.loop-head.invariant c.in-Some.is
     (c.in_ok-head.ensures.heads g.B.Bodies.is_faithful)
     (m.no (s.unheard_call (λ x p. computed_close c.in-Computed.optional c.in-Computed.start l p.0 x p.1)
-    (λ x ts. link.tail_computed _ c.in-Some.head c.in-Computed.start c.in-Computed.optional l x ts c.in-Computed.is) inner.reads) inner.grows))
+    (λ x ts. link.tail_computed _ c.in-Some.head c.in-Computed.start c.in-Computed.optional l x ts c.in-Computed.is)
+    inner.reads) inner.grows))
 
 pub parse_subscripts-computed_member-requires : goal.parse_subscripts-computed_member-requires
 parse_subscripts-computed_member-requires g t c =
-    let inner = expr_within g.B.BodyForms.forms {o = Ok c.in_ok-expr-in-Computed.expr} c.include_in-before.ensures.before c.include_in-before.ensures.moves c.include_in-before.ensures.context c.parse_expr-read.ensures c.in_ok-expr-in-Computed.ensures.answer c.in_ok-expr-in-Computed.ensures.moves c.in_ok-expr-in-Computed.ensures.context in
+    let inner = expr_within g.B.BodyForms.forms {o = Ok c.in_ok-expr-in-Computed.expr}
+    c.include_in-before.ensures.before c.include_in-before.ensures.moves c.include_in-before.ensures.context
+    c.parse_expr-read.ensures c.in_ok-expr-in-Computed.ensures.answer c.in_ok-expr-in-Computed.ensures.moves
+    c.in_ok-expr-in-Computed.ensures.context in
     apart-down (one_expr c.loop-head.obj ++ one_expr c.in_ok-expr-in-Computed.expr)
     (apart_behind inner.grows c.loop-head.invariant.3 (apart-from (expr_part c.in_ok-expr-in-Computed.expr) inner.from))
 
 pub parse_subscripts-returns-in_err-obj-in-Computed : goal.parse_subscripts-returns-in_err-obj-in-Computed
 parse_subscripts-returns-in_err-obj-in-Computed g t c =
-    let inner = expr_within g.B.BodyForms.forms {o = Ok c.in_ok-expr-in-Computed.expr} c.include_in-before.ensures.before c.include_in-before.ensures.moves c.include_in-before.ensures.context c.parse_expr-read.ensures c.in_ok-expr-in-Computed.ensures.answer c.in_ok-expr-in-Computed.ensures.moves c.in_ok-expr-in-Computed.ensures.context in
+    let inner = expr_within g.B.BodyForms.forms {o = Ok c.in_ok-expr-in-Computed.expr}
+    c.include_in-before.ensures.before c.include_in-before.ensures.moves c.include_in-before.ensures.context
+    c.parse_expr-read.ensures c.in_ok-expr-in-Computed.ensures.answer c.in_ok-expr-in-Computed.ensures.moves
+    c.in_ok-expr-in-Computed.ensures.context in
     m.passed_more c.from_residual-in_err-obj-in-Computed.ensures.1
     (chain.not_linked g.B.BodyForms.forms c.args.p.now c.loop-head.p _ c.loop-head.invariant c.in-Some.is
     (c.in_ok-head.ensures.heads g.B.Bodies.is_faithful)
@@ -1146,7 +1465,10 @@ parse_subscripts-returns-in_err-obj-in-Computed g t c =
 
 pub parse_subscripts-loop-head-preserved-in-Computed : goal.parse_subscripts-loop-head-preserved-in-Computed
 parse_subscripts-loop-head-preserved-in-Computed g t c =
-    let inner = expr_within g.B.BodyForms.forms {o = Ok c.in_ok-expr-in-Computed.expr} c.include_in-before.ensures.before c.include_in-before.ensures.moves c.include_in-before.ensures.context c.parse_expr-read.ensures c.in_ok-expr-in-Computed.ensures.answer c.in_ok-expr-in-Computed.ensures.moves c.in_ok-expr-in-Computed.ensures.context in
+    let inner = expr_within g.B.BodyForms.forms {o = Ok c.in_ok-expr-in-Computed.expr}
+    c.include_in-before.ensures.before c.include_in-before.ensures.moves c.include_in-before.ensures.context
+    c.parse_expr-read.ensures c.in_ok-expr-in-Computed.ensures.answer c.in_ok-expr-in-Computed.ensures.moves
+    c.in_ok-expr-in-Computed.ensures.context in
     chain.linked g.B.BodyForms.forms c.args.p.now c.loop-head.p _ c.loop-head.invariant c.in-Some.is
     (c.in_ok-head.ensures.heads g.B.Bodies.is_faithful) c.in_ok-head.ensures.falls
     (m.tail (Ok _) (λ v x p. computed_close c.in-Computed.optional c.in-Computed.start v p.0 x p.1)
@@ -1160,7 +1482,8 @@ parse_subscripts-returns-in_err-list-in-Call g t c =
     (chain.not_linked g.B.BodyForms.forms c.args.p.now c.loop-head.p _ c.loop-head.invariant c.in-Some.is
     (c.in_ok-head.ensures.heads g.B.Bodies.is_faithful)
     (m.no (s.unheard_call (λ x p. call_node c.in-Call.optional l p.0 x p.1)
-    (λ x ts. link.tail_call _ c.in-Some.head c.in-Call.optional l x ts c.in-Call.is) c.in_err-list-in-Call.ensures.reads) c.parse_args.ensures.grows))
+    (λ x ts. link.tail_call _ c.in-Some.head c.in-Call.optional l x ts c.in-Call.is)
+    c.in_err-list-in-Call.ensures.reads) c.parse_args.ensures.grows))
 
 pub parse_subscripts-call_expr-requires : goal.parse_subscripts-call_expr-requires
 parse_subscripts-call_expr-requires g t c =
@@ -1191,7 +1514,8 @@ parse_subscripts-returns-in_err-parts-in-Template g t c =
     (chain.not_linked g.B.BodyForms.forms c.args.p.now c.loop-head.p _ c.loop-head.invariant c.in-Some.is
     (c.in_ok-head.ensures.heads g.B.Bodies.is_faithful)
     (m.no (s.unheard_call (λ x p. tagged_node c.in-Template.start l p.0 x p.1)
-    (λ x ts. link.tail_template _ c.in-Some.head c.in-Template.start l x ts c.in-Template.is) (s.unheard_inner c.in_err-parts-in-Template.ensures.reads)) c.parse_tpl_elements.ensures.grows))
+    (λ x ts. link.tail_template _ c.in-Some.head c.in-Template.start l x ts c.in-Template.is)
+    (s.unheard_inner c.in_err-parts-in-Template.ensures.reads)) c.parse_tpl_elements.ensures.grows))
 
 pub parse_subscripts-tagged_tpl-requires : goal.parse_subscripts-tagged_tpl-requires
 parse_subscripts-tagged_tpl-requires g t c =
@@ -1205,7 +1529,8 @@ parse_subscripts-returns-in_err-obj-in-Template g t c =
     (c.in_ok-head.ensures.heads g.B.Bodies.is_faithful)
     (m.tail (Err _) (λ v x p. tagged_node c.in-Template.start v p.0 x p.1)
     (λ x ts. link.tail_template _ c.in-Some.head c.in-Template.start _ x ts c.in-Template.is)
-    (s.heard_inner c.in_ok-parts-in-Template.ensures.reads) c.parse_tpl_elements.ensures.grows c.loop-head.invariant.3 c.in_err-obj-in-Template.ensures))
+    (s.heard_inner c.in_ok-parts-in-Template.ensures.reads) c.parse_tpl_elements.ensures.grows c.loop-head.invariant.3
+    c.in_err-obj-in-Template.ensures))
 
 pub parse_subscripts-loop-head-preserved : goal.parse_subscripts-loop-head-preserved
 parse_subscripts-loop-head-preserved g t c =
@@ -1213,17 +1538,20 @@ parse_subscripts-loop-head-preserved g t c =
     (c.in_ok-head.ensures.heads g.B.Bodies.is_faithful) c.in_ok-head.ensures.falls
     (m.tail (Ok _) (λ v x p. tagged_node c.in-Template.start v p.0 x p.1)
     (λ x ts. link.tail_template _ c.in-Some.head c.in-Template.start _ x ts c.in-Template.is)
-    (s.heard_inner c.in_ok-parts-in-Template.ensures.reads) c.parse_tpl_elements.ensures.grows c.loop-head.invariant.3 c.in_ok-obj-in-Template.ensures)
+    (s.heard_inner c.in_ok-parts-in-Template.ensures.reads) c.parse_tpl_elements.ensures.grows c.loop-head.invariant.3
+    c.in_ok-obj-in-Template.ensures)
 
 pub parse_args-loop-value-init : goal.parse_args-loop-value-init
 parse_args-loop-value-init g t c =
     entered.list_entered c.enter_args-before.ensures.moves c.enter_args-before.ensures.context
-    (loop.started (args.args_list _ c.args.is_dynamic_import) _ item_parts _ _ g.met.I.Tokens.laws c.new-items.ensures.items)
+    (loop.started (args.args_list _ c.args.is_dynamic_import) _ item_parts _ _ g.met.I.Tokens.laws
+    c.new-items.ensures.items)
 
 pub parse_args-loop-value-preserved : goal.parse_args-loop-value-preserved
 parse_args-loop-value-preserved g t c =
     let inv = c.loop-value.invariant in
-    let more = loop.goes_on (args.args_list _ c.args.is_dynamic_import) inv.list c.in-None.is (c.in-Ok.ensures.eats _) in
+    let more = loop.goes_on (args.args_list _ c.args.is_dynamic_import) inv.list c.in-None.is
+    (c.in-Ok.ensures.eats _) in
     entered.list_further inv
     (loop.added item_parts (λ at x. item_tree (λ e. at e.0) x) _ _ item-same inv.list more
     (loop.separated c.in-Ok-parse_expr_or_spread.ensures.reads (c.in-Ok-separate_args.ensures.separates _))
@@ -1236,7 +1564,8 @@ parse_args-returns-in-Err g t c =
     let inv = c.loop-value.invariant in
     entered.args_left {q = record c.loop-value.p { input = c.eat.new.input }}
     _ _ c.enter_args-before.ensures.before (entered.around inv)
-    (m.no (loop.end_refused (args.args_list _ c.args.is_dynamic_import) inv.list (c.in-Err.ensures.eats _)) inv.list.grows)
+    (m.no (loop.end_refused (args.args_list _ c.args.is_dynamic_import) inv.list (c.in-Err.ensures.eats _))
+    inv.list.grows)
     c.set_ctx.ensures.moves c.set_ctx.ensures.context
 
 pub parse_args-returns-in-Some : goal.parse_args-returns-in-Some
@@ -1252,7 +1581,8 @@ parse_args-returns-in-Some g t c =
 pub parse_args-returns-in-Err-parse_expr_or_spread : goal.parse_args-returns-in-Err-parse_expr_or_spread
 parse_args-returns-in-Err-parse_expr_or_spread g t c =
     let inv = c.loop-value.invariant in
-    let more = loop.goes_on (args.args_list _ c.args.is_dynamic_import) inv.list c.in-None.is (c.in-Ok.ensures.eats _) in
+    let more = loop.goes_on (args.args_list _ c.args.is_dynamic_import) inv.list c.in-None.is
+    (c.in-Ok.ensures.eats _) in
     entered.args_left {q = c.parse_expr_or_spread.new.p}
     _ _ c.enter_args-before.ensures.before (entered.around inv)
     (m.no (loop.item_refused _ _ more c.in-Err-parse_expr_or_spread.ensures.reads)
@@ -1262,7 +1592,8 @@ parse_args-returns-in-Err-parse_expr_or_spread g t c =
 pub parse_args-returns-in-Err-add : goal.parse_args-returns-in-Err-add
 parse_args-returns-in-Err-add g t c =
     let inv = c.loop-value.invariant in
-    let more = loop.goes_on (args.args_list _ c.args.is_dynamic_import) inv.list c.in-None.is (c.in-Ok.ensures.eats _) in
+    let more = loop.goes_on (args.args_list _ c.args.is_dynamic_import) inv.list c.in-None.is
+    (c.in-Ok.ensures.eats _) in
     entered.args_left {q = c.parse_expr_or_spread.new.p}
     _ _ c.enter_args-before.ensures.before (entered.around inv)
     (m.no (loop.unkept _ more c.in-Ok-parse_expr_or_spread.ensures.reads c.in-Err-add.ensures.refused)
@@ -1272,7 +1603,8 @@ parse_args-returns-in-Err-add g t c =
 pub parse_args-returns-in-Err-separate_args : goal.parse_args-returns-in-Err-separate_args
 parse_args-returns-in-Err-separate_args g t c =
     let inv = c.loop-value.invariant in
-    let more = loop.goes_on (args.args_list _ c.args.is_dynamic_import) inv.list c.in-None.is (c.in-Ok.ensures.eats _) in
+    let more = loop.goes_on (args.args_list _ c.args.is_dynamic_import) inv.list c.in-None.is
+    (c.in-Ok.ensures.eats _) in
     entered.args_left {q = record c.parse_expr_or_spread.new.p { input = c.separate_args.new.input }}
     _ _ c.enter_args-before.ensures.before (entered.around inv)
     (m.no (loop.comma_behind_refused _ _ more c.in-Ok-parse_expr_or_spread.ensures.reads
@@ -1284,32 +1616,39 @@ pub parse_args-set_ctx-requires : goal.parse_args-set_ctx-requires
 parse_args-set_ctx-requires g t c =
     let inv = c.loop-value.invariant in
     entered.list_text c.eat.new.input (λ x. refl) c.enter_args-before.ensures.before inv
-    (loop.end_refused (args.args_list _ c.args.is_dynamic_import) inv.list (c.in-Err.ensures.eats g.B.Bodies.is_faithful)).refuses.spends.read.context
+    (loop.end_refused (args.args_list _ c.args.is_dynamic_import) inv.list
+    (c.in-Err.ensures.eats g.B.Bodies.is_faithful)).refuses.spends.read.context
 
 pub parse_args-set_ctx-requires-in-Some : goal.parse_args-set_ctx-requires-in-Some
 parse_args-set_ctx-requires-in-Some g t c =
     let inv = c.loop-value.invariant in
     entered.list_text c.eat.new.input (λ x. refl) c.enter_args-before.ensures.before inv
-    (loop.closed (args.args_list _ c.args.is_dynamic_import) inv.list c.in-Some.is (c.in-Ok.ensures.eats g.B.Bodies.is_faithful)).on.leads.read.context
+    (loop.closed (args.args_list _ c.args.is_dynamic_import) inv.list c.in-Some.is
+    (c.in-Ok.ensures.eats g.B.Bodies.is_faithful)).on.leads.read.context
 
-pub parse_args-set_ctx-requires-in-Err-parse_expr_or_spread : goal.parse_args-set_ctx-requires-in-Err-parse_expr_or_spread
+pub parse_args-set_ctx-requires-in-Err-parse_expr_or_spread :
+    goal.parse_args-set_ctx-requires-in-Err-parse_expr_or_spread
 parse_args-set_ctx-requires-in-Err-parse_expr_or_spread g t c =
     let inv = c.loop-value.invariant in
-    let more = loop.goes_on (args.args_list _ c.args.is_dynamic_import) inv.list c.in-None.is (c.in-Ok.ensures.eats g.B.Bodies.is_faithful) in
+    let more = loop.goes_on (args.args_list _ c.args.is_dynamic_import) inv.list c.in-None.is
+    (c.in-Ok.ensures.eats g.B.Bodies.is_faithful) in
     entered.list_text c.parse_expr_or_spread.new.p.input (λ x. refl) c.enter_args-before.ensures.before inv
     (loop.item_refused _ _ more c.in-Err-parse_expr_or_spread.ensures.reads).refuses.spends.read.context
 
 pub parse_args-set_ctx-requires-in-Err-add : goal.parse_args-set_ctx-requires-in-Err-add
 parse_args-set_ctx-requires-in-Err-add g t c =
     let inv = c.loop-value.invariant in
-    let more = loop.goes_on (args.args_list _ c.args.is_dynamic_import) inv.list c.in-None.is (c.in-Ok.ensures.eats g.B.Bodies.is_faithful) in
+    let more = loop.goes_on (args.args_list _ c.args.is_dynamic_import) inv.list c.in-None.is
+    (c.in-Ok.ensures.eats g.B.Bodies.is_faithful) in
     entered.list_text c.parse_expr_or_spread.new.p.input (λ x. refl) c.enter_args-before.ensures.before inv
-    (loop.unkept _ more c.in-Ok-parse_expr_or_spread.ensures.reads c.in-Err-add.ensures.refused).refuses.spends.read.context
+    (loop.unkept _ more c.in-Ok-parse_expr_or_spread.ensures.reads
+    c.in-Err-add.ensures.refused).refuses.spends.read.context
 
 pub parse_args-set_ctx-requires-in-Err-separate_args : goal.parse_args-set_ctx-requires-in-Err-separate_args
 parse_args-set_ctx-requires-in-Err-separate_args g t c =
     let inv = c.loop-value.invariant in
-    let more = loop.goes_on (args.args_list _ c.args.is_dynamic_import) inv.list c.in-None.is (c.in-Ok.ensures.eats g.B.Bodies.is_faithful) in
+    let more = loop.goes_on (args.args_list _ c.args.is_dynamic_import) inv.list c.in-None.is
+    (c.in-Ok.ensures.eats g.B.Bodies.is_faithful) in
     entered.list_text c.separate_args.new.input (λ x. refl) c.enter_args-before.ensures.before inv
     (loop.comma_behind_refused _ _ more c.in-Ok-parse_expr_or_spread.ensures.reads
     (c.in-Err-separate_args.ensures.separates g.B.Bodies.is_faithful)).refuses.spends.read.context
@@ -1322,10 +1661,12 @@ parse_operand-returns-in_err-look g t c =
 pub parse_operand-returns-in_err-name : goal.parse_operand-returns-in_err-name
 parse_operand-returns-in_err-name g t c =
     m.refused c.from_residual-in_err-name.ensures.1
-    (s.unheard_after (s.on_seen {g = λ x ts. private_operand g.B.BodyForms.forms x ts >>= operand.behind g.B.BodyForms.forms x}
+    (s.unheard_after (s.on_seen {g = λ x ts. private_operand g.B.BodyForms.forms x ts >>=
+    operand.behind g.B.BodyForms.forms x}
     c.in_ok-look.ensures.looks (λ x ts same e. operand.private_first _ c.args.is_free x ts (s.no_head same)
     (operand.told_here c.args.is_free true ts same e (sym c.begins_private.ensures.value ∙ c.if-begins_private.true))))
-    (s.unheard_call (operand.behind _) (λ x ts. refl) c.in_err-name.ensures.reads)) c.parse_private_operand.ensures.grows
+    (s.unheard_call (operand.behind _) (λ x ts. refl) c.in_err-name.ensures.reads))
+    c.parse_private_operand.ensures.grows
 
 pub parse_operand-parse_subscripts-requires : goal.parse_operand-parse_subscripts-requires
 parse_operand-parse_subscripts-requires g t c =
@@ -1336,7 +1677,8 @@ parse_operand-parse_subscripts-requires g t c =
 pub parse_operand-returns-in_err-callee : goal.parse_operand-returns-in_err-callee
 parse_operand-returns-in_err-callee g t c =
     m.refused c.from_residual-in_err-callee.ensures.1
-    (s.unheard_after (s.on_seen {g = λ x ts. private_operand g.B.BodyForms.forms x ts >>= operand.behind g.B.BodyForms.forms x}
+    (s.unheard_after (s.on_seen {g = λ x ts. private_operand g.B.BodyForms.forms x ts >>=
+    operand.behind g.B.BodyForms.forms x}
     c.in_ok-look.ensures.looks (λ x ts same e. operand.private_first _ c.args.is_free x ts (s.no_head same)
     (operand.told_here c.args.is_free true ts same e (sym c.begins_private.ensures.value ∙ c.if-begins_private.true))))
     (s.unheard_after (s.on_call (operand.behind _) (λ x ts. refl) c.in_ok-name.ensures.reads.on)
@@ -1344,7 +1686,10 @@ parse_operand-returns-in_err-callee g t c =
     (grows-then c.parse_private_operand.ensures.grows c.parse_subscripts.ensures.grows)
 
 pub parse_operand-parse_update_postfix-requires : goal.parse_operand-parse_update_postfix-requires
-parse_operand-parse_update_postfix-requires g t c = record { from = from-down (omega arith) c.in_ok-callee.ensures.from }
+parse_operand-parse_update_postfix-requires g t c = record {
+  from =
+      from-down (omega arith) c.in_ok-callee.ensures.from;
+}
 
 pub parse_operand-returns-then-begins_private : goal.parse_operand-returns-then-begins_private
 parse_operand-returns-then-begins_private g t c =
@@ -1354,7 +1699,8 @@ parse_operand-returns-then-begins_private g t c =
     m.after {m = record c.args.p.now { input = c.look.new.input }} r
     (s.on_seen {g = λ x ts. private_operand g.B.BodyForms.forms x ts >>= operand.behind g.B.BodyForms.forms x}
     c.in_ok-look.ensures.looks (λ x ts same e. operand.private_first _ c.args.is_free x ts (s.no_head same)
-    (operand.told_here c.args.is_free true ts same e (sym c.begins_private.ensures.value ∙ c.if-begins_private.true)))) (grows-same _)
+    (operand.told_here c.args.is_free true ts same e (sym c.begins_private.ensures.value ∙ c.if-begins_private.true))))
+    (grows-same _)
     (m.call {m = c.parse_private_operand.new.p} r (operand.behind _) (λ x ts. refl) c.in_ok-name.ensures.reads
     c.parse_private_operand.ensures.grows (λ x. from-down (omega arith))
     (m.on_after r (s.on_call (operand.updated _) (λ x ts. refl) c.in_ok-callee.ensures.reads)
@@ -1365,7 +1711,8 @@ parse_operand-returns g t c =
     m.after {m = record c.args.p.now { input = c.look.new.input }} c.parse_unary_expr.result
     (s.on_seen {g = run g.B.BodyForms.forms (at Unary)} c.in_ok-look.ensures.looks
     (λ x ts same e. operand.unary_operand _ c.args.is_free x ts
-    (operand.told_here c.args.is_free false ts same e (sym c.begins_private.ensures.value ∙ c.if-begins_private.false)))) (grows-same _)
+    (operand.told_here c.args.is_free false ts same e (sym c.begins_private.ensures.value
+    ∙ c.if-begins_private.false)))) (grows-same _)
     c.parse_unary_expr.ensures
 
 pub parse_unary_expr-returns-in_err-look : goal.parse_unary_expr-returns-in_err-look
@@ -1377,7 +1724,16 @@ pub parse_unary_expr-parse_plain_operand-requires : goal.parse_unary_expr-parse_
 parse_unary_expr-parse_plain_operand-requires g t c =
     let looked = opening.looked c.in_ok-look.ensures.looks in
     let plain = sym c.begins_plain.ensures ∙ c.if-begins_plain.true in
-    λ κs outlives. (search rules, (search rules, (search rules, (search rules, (search rules, (search rules, (looked, plain)))))))
+    λ κs outlives. (
+      search rules,
+      (
+        search rules,
+        (
+          search rules,
+          (search rules, (search rules, (search rules, (looked, plain)))),
+        ),
+      ),
+    )
 
 pub parse_unary_expr-returns-then-begins_plain : goal.parse_unary_expr-returns-then-begins_plain
 parse_unary_expr-returns-then-begins_plain g t c =
@@ -1388,7 +1744,8 @@ parse_unary_expr-returns-then-begins_plain g t c =
 pub parse_unary_expr-returns-in_err-less-in-Some : goal.parse_unary_expr-returns-in_err-less-in-Some
 parse_unary_expr-returns-in_err-less-in-Some g t c =
     m.refused c.from_residual-in_err-less-in-Some.ensures.1
-    (s.unheard_memory (s.forgoes_later (s.here_leads c.in_ok-look.ensures.looks) (s.forgoes_here g.met.I.Tokens.laws _ _ _ c.in_err-less-in-Some.ensures.refused))) (grows-same _)
+    (s.unheard_memory (s.forgoes_later (s.here_leads c.in_ok-look.ensures.looks)
+    (s.forgoes_here g.met.I.Tokens.laws _ _ _ c.in_err-less-in-Some.ensures.refused))) (grows-same _)
 
 pub parse_unary_expr-returns-in_err-arg-in-Some : goal.parse_unary_expr-returns-in_err-arg-in-Some
 parse_unary_expr-returns-in_err-arg-in-Some g t c =
@@ -1396,9 +1753,13 @@ parse_unary_expr-returns-in_err-arg-in-Some g t c =
     let first = c.skip.ensures.took.1 in
     let q = (plain first.was).span in
     m.refused c.from_residual-in_err-arg-in-Some.ensures.1
-    (s.unheard_after (s.on_seen {g = update_prefix _ op} c.in_ok-look.ensures.looks (λ x ts same e. update.update_picked _ op x ts (ap update_at e ∙ sym c.cur_update_op.ensures.value ∙ c.in-Some.is)))
-    (s.unheard_after (s.on_took {g = update_tail _ q op} g.met.I.Tokens.laws first (update.update_opens _ op (plain first.was)))
-    (s.unheard_call _ (update.update_splits _ q op) (s.unheard_inner c.in_err-arg-in-Some.ensures.reads)))) c.parse_unary_expr.ensures.grows
+    (s.unheard_after (s.on_seen {g = update_prefix _ op} c.in_ok-look.ensures.looks
+    (λ x ts same e. update.update_picked _ op x ts
+    (ap update_at e ∙ sym c.cur_update_op.ensures.value ∙ c.in-Some.is)))
+    (s.unheard_after (s.on_took {g = update_tail _ q op} g.met.I.Tokens.laws first
+    (update.update_opens _ op (plain first.was)))
+    (s.unheard_call _ (update.update_splits _ q op) (s.unheard_inner c.in_err-arg-in-Some.ensures.reads))))
+    c.parse_unary_expr.ensures.grows
 
 pub parse_unary_expr-returns-in-Some : goal.parse_unary_expr-returns-in-Some
 parse_unary_expr-returns-in-Some g t c =
@@ -1408,22 +1769,32 @@ parse_unary_expr-returns-in-Some g t c =
     let place = s.place_was first c.cur_span-start.result c.cur_span-start.ensures in
     let arg = tree_of c.parse_unary_expr.new.p.nodes c.in_ok-arg-in-Some.arg in
     m.after {m = record c.args.p.now { input = c.look.new.input }} c.update_prefix.result
-    (s.on_seen {g = update_prefix _ op} c.in_ok-look.ensures.looks (λ x ts same e. update.update_picked _ op x ts (ap update_at e ∙ sym c.cur_update_op.ensures.value ∙ c.in-Some.is))) (grows-same _)
+    (s.on_seen {g = update_prefix _ op} c.in_ok-look.ensures.looks
+    (λ x ts same e. update.update_picked _ op x ts
+    (ap update_at e ∙ sym c.cur_update_op.ensures.value ∙ c.in-Some.is))) (grows-same _)
     (m.after {m = record c.args.p.now { input = c.skip.new.input }} c.update_prefix.result
-    (s.on_took {g = update_tail _ q op} g.met.I.Tokens.laws first (update.update_opens _ op (plain first.was))) (grows-same _)
+    (s.on_took {g = update_tail _ q op} g.met.I.Tokens.laws first (update.update_opens _ op (plain first.was)))
+    (grows-same _)
     (m.call {m = c.parse_unary_expr.new.p} c.update_prefix.result _ (update.update_splits _ q op)
-    (s.heard_inner c.in_ok-arg-in-Some.ensures.reads) c.parse_unary_expr.ensures.grows (λ x. from-down c.in_ok-arg-in-Some.ensures.from.above)
-    (m.on_after c.update_prefix.result (s.on_here g.met.I.Tokens.laws _ (λ x ts. ap (λ v. update_node v op x arg ts) (sym place))) (grows-same _) c.update_prefix.ensures)))
+    (s.heard_inner c.in_ok-arg-in-Some.ensures.reads) c.parse_unary_expr.ensures.grows
+    (λ x. from-down c.in_ok-arg-in-Some.ensures.from.above)
+    (m.on_after c.update_prefix.result (s.on_here g.met.I.Tokens.laws _
+    (λ x ts. ap (λ v. update_node v op x arg ts) (sym place))) (grows-same _) c.update_prefix.ensures)))
 
-pub parse_unary_expr-returns-in_err-less-in-Some-cur_prefix_op : goal.parse_unary_expr-returns-in_err-less-in-Some-cur_prefix_op
+pub parse_unary_expr-returns-in_err-less-in-Some-cur_prefix_op :
+    goal.parse_unary_expr-returns-in_err-less-in-Some-cur_prefix_op
 parse_unary_expr-returns-in_err-less-in-Some-cur_prefix_op g t c =
     m.refused c.from_residual-in_err-less-in-Some-cur_prefix_op.ensures.1
-    (s.unheard_memory (s.forgoes_later (s.here_leads c.in_ok-look.ensures.looks) (s.forgoes_here g.met.I.Tokens.laws _ _ _ c.in_err-less-in-Some-cur_prefix_op.ensures.refused))) (grows-same _)
+    (s.unheard_memory (s.forgoes_later (s.here_leads c.in_ok-look.ensures.looks)
+    (s.forgoes_here g.met.I.Tokens.laws _ _ _ c.in_err-less-in-Some-cur_prefix_op.ensures.refused))) (grows-same _)
 
-pub parse_unary_expr-returns-in_err-at-in-Some-cur_prefix_op : goal.parse_unary_expr-returns-in_err-at-in-Some-cur_prefix_op
+pub parse_unary_expr-returns-in_err-at-in-Some-cur_prefix_op :
+    goal.parse_unary_expr-returns-in_err-at-in-Some-cur_prefix_op
 parse_unary_expr-returns-in_err-at-in-Some-cur_prefix_op g t c =
     m.refused c.from_residual-in_err-at-in-Some-cur_prefix_op.ensures.1
-    (s.unheard_memory (s.forgoes_later (s.leads_then (s.here_leads c.in_ok-look.ensures.looks) (s.took_leads g.met.I.Tokens.laws c.skip-in-Some-cur_prefix_op.ensures.took.1)) c.in_err-at-in-Some-cur_prefix_op.ensures.looks)) (grows-same _)
+    (s.unheard_memory (s.forgoes_later (s.leads_then (s.here_leads c.in_ok-look.ensures.looks)
+    (s.took_leads g.met.I.Tokens.laws c.skip-in-Some-cur_prefix_op.ensures.took.1))
+    c.in_err-at-in-Some-cur_prefix_op.ensures.looks)) (grows-same _)
 
 pub parse_unary_expr-returns-in-Ok : goal.parse_unary_expr-returns-in-Ok
 parse_unary_expr-returns-in-Ok g t c =
@@ -1431,15 +1802,23 @@ parse_unary_expr-returns-in-Ok g t c =
     let first = c.skip-in-Some-cur_prefix_op.ensures.took.1 in
     let q = (plain first.was).span in
     let arg = tree_of c.parse_unary_expr-in-Some-cur_prefix_op.new.p.nodes c.in-Ok.arg in
-    let place = s.place_was first c.cur_span-start-in-Some-cur_prefix_op.result c.cur_span-start-in-Some-cur_prefix_op.ensures in
+    let place = s.place_was first c.cur_span-start-in-Some-cur_prefix_op.result
+    c.cur_span-start-in-Some-cur_prefix_op.ensures in
     m.after {m = record c.args.p.now { input = c.look.new.input }} c.unary_expr.result
-    (s.on_seen {g = unary_op _ op} c.in_ok-look.ensures.looks (λ x ts same e. rule.unary_op_picked _ op x ts (ap prefix_at e ∙ sym c.cur_prefix_op.ensures.value ∙ c.in-Some-cur_prefix_op.is))) (grows-same _)
+    (s.on_seen {g = unary_op _ op} c.in_ok-look.ensures.looks
+    (λ x ts same e. rule.unary_op_picked _ op x ts
+    (ap prefix_at e ∙ sym c.cur_prefix_op.ensures.value ∙ c.in-Some-cur_prefix_op.is))) (grows-same _)
     (m.after {m = record c.args.p.now { input = c.cur_pos.new.input }} c.unary_expr.result
-    (s.on_then (s.on_took {g = unary_op_tail _ q op} g.met.I.Tokens.laws first (rule.unary_op_opens _ op (plain first.was)))
-    (s.on_seen {g = unary_op_tail _ q op} c.in_ok-at-in-Some-cur_prefix_op.ensures.looks (λ x ts same e. refl))) (grows-same _)
+    (s.on_then (s.on_took {g = unary_op_tail _ q op} g.met.I.Tokens.laws first
+    (rule.unary_op_opens _ op (plain first.was)))
+    (s.on_seen {g = unary_op_tail _ q op} c.in_ok-at-in-Some-cur_prefix_op.ensures.looks (λ x ts same e. refl)))
+    (grows-same _)
     (m.call {m = c.parse_unary_expr-in-Some-cur_prefix_op.new.p} c.unary_expr.result _ (rule.unary_op_splits _ q op)
-    (s.heard_inner c.in-Ok.ensures.reads) c.parse_unary_expr-in-Some-cur_prefix_op.ensures.grows (λ x. from-down c.in-Ok.ensures.from.above)
-    (m.on_after c.unary_expr.result (s.on_here g.met.I.Tokens.laws _ (λ x ts. ap (λ v. unary_op_node g.B.BodyForms.forms v op x arg ts) (sym place))) (grows-same _) c.unary_expr.ensures.reads)))
+    (s.heard_inner c.in-Ok.ensures.reads) c.parse_unary_expr-in-Some-cur_prefix_op.ensures.grows
+    (λ x. from-down c.in-Ok.ensures.from.above)
+    (m.on_after c.unary_expr.result (s.on_here g.met.I.Tokens.laws _
+    (λ x ts. ap (λ v. unary_op_node g.B.BodyForms.forms v op x arg ts) (sym place)))
+    (grows-same _) c.unary_expr.ensures.reads)))
 
 pub parse_unary_expr-returns-in-Err : goal.parse_unary_expr-returns-in-Err
 parse_unary_expr-returns-in-Err g t c =
@@ -1450,22 +1829,30 @@ parse_unary_expr-returns-in-Err g t c =
     let h = c.unary_expr_without_operand.ensures in
     let view = tree_of c.unary_expr_without_operand.new.p.nodes in
     m.after {m = record c.args.p.now { input = c.look.new.input }} r
-    (s.on_seen {g = unary_op _ op} c.in_ok-look.ensures.looks (λ x ts same e. rule.unary_op_picked _ op x ts (ap prefix_at e ∙ sym c.cur_prefix_op.ensures.value ∙ c.in-Some-cur_prefix_op.is))) (grows-same _)
+    (s.on_seen {g = unary_op _ op} c.in_ok-look.ensures.looks
+    (λ x ts same e. rule.unary_op_picked _ op x ts
+    (ap prefix_at e ∙ sym c.cur_prefix_op.ensures.value ∙ c.in-Some-cur_prefix_op.is))) (grows-same _)
     (m.yes r
-    (s.parses_first g.I.Tokens.model g.B.Bodies.is_faithful view _ {g = unary_op_tail _ q op} g.met.I.Tokens.laws first (rule.unary_op_opens _ op (plain first.was)) _ r
-    (s.continues_after g.I.Tokens.model g.B.Bodies.is_faithful view _ _ r (s.on_seen {g = unary_op_tail _ q op} c.in_ok-at-in-Some-cur_prefix_op.ensures.looks (λ x ts same e. refl))
+    (s.parses_first g.I.Tokens.model g.B.Bodies.is_faithful view _ {g = unary_op_tail _ q op} g.met.I.Tokens.laws first
+    (rule.unary_op_opens _ op (plain first.was)) _ r
+    (s.continues_after g.I.Tokens.model g.B.Bodies.is_faithful view _ _ r
+    (s.on_seen {g = unary_op_tail _ q op} c.in_ok-at-in-Some-cur_prefix_op.ensures.looks (λ x ts same e. refl))
     (s.continues_recovered g.I.Tokens.model g.B.Bodies.is_faithful view _ _ r
     (s.unheard_call _ (rule.unary_op_splits _ q op) (s.unheard_inner c.in-Err.ensures.reads)) h.effect h.notes h.some)))
-    (grows-then c.parse_unary_expr-in-Some-cur_prefix_op.ensures.grows h.grows) (if_from _ _ _ (λ x. x) r (grows-count c.parse_unary_expr-in-Some-cur_prefix_op.ensures.grows) h.from))
+    (grows-then c.parse_unary_expr-in-Some-cur_prefix_op.ensures.grows h.grows)
+    (if_from _ _ _ (λ x. x) r (grows-count c.parse_unary_expr-in-Some-cur_prefix_op.ensures.grows) h.from))
 
 pub parse_unary_expr-returns-in_err-is_await_name : goal.parse_unary_expr-returns-in_err-is_await_name
 parse_unary_expr-returns-in_err-is_await_name g t c =
     let first = c.skip-then-is_await.ensures.took.1 in
     let q = (plain first.was).span in
     m.refused c.from_residual-in_err-is_await_name.ensures.1
-    (s.unheard_after (s.on_seen {g = await_expr _} c.in_ok-look.ensures.looks (λ x ts same e. update.await_picked _ x ts (ap (at_token is_await) e ∙ sym c.is_await.ensures.value ∙ c.if-is_await.true)))
+    (s.unheard_after (s.on_seen {g = await_expr _} c.in_ok-look.ensures.looks
+    (λ x ts same e. update.await_picked _ x ts (ap
+    (at_token is_await) e ∙ sym c.is_await.ensures.value ∙ c.if-is_await.true)))
     (s.unheard_after (s.on_took {g = await_tail _ q} g.met.I.Tokens.laws first (update.await_opens _ (plain first.was)))
-    (s.unheard_call _ (prefix.await_splits _ q) (c.in_err-is_await_name.ensures.names g.B.Bodies.is_faithful)))) (grows-same _)
+    (s.unheard_call _ (prefix.await_splits _ q) (c.in_err-is_await_name.ensures.names g.B.Bodies.is_faithful))))
+    (grows-same _)
 
 pub parse_unary_expr-returns-then-branch : goal.parse_unary_expr-returns-then-branch
 parse_unary_expr-returns-then-branch g t c =
@@ -1475,12 +1862,16 @@ parse_unary_expr-returns-then-branch g t c =
     let r = c.parse_await_ident.result in
     let view = tree_of c.parse_await_ident.new.p.nodes in
     m.after {m = record c.args.p.now { input = c.look.new.input }} r
-    (s.on_seen {g = await_expr _} c.in_ok-look.ensures.looks (λ x ts same e. update.await_picked _ x ts (ap (at_token is_await) e ∙ sym c.is_await.ensures.value ∙ c.if-is_await.true))) (grows-same _)
+    (s.on_seen {g = await_expr _} c.in_ok-look.ensures.looks
+    (λ x ts same e. update.await_picked _ x ts (ap
+    (at_token is_await) e ∙ sym c.is_await.ensures.value ∙ c.if-is_await.true))) (grows-same _)
     (m.yes r
-    (update.parses_first g.I.Tokens.model g.B.Bodies.is_faithful view _ (await_tail g.B.BodyForms.forms start) _ r g.met.I.Tokens.laws first
+    (update.parses_first g.I.Tokens.model g.B.Bodies.is_faithful view _
+    (await_tail g.B.BodyForms.forms start) _ r g.met.I.Tokens.laws first
     (λ x ts. update.await_opens _ (plain first.was) x ts ∙ ap (λ v. await_tail g.B.BodyForms.forms v x ts) (sym place))
     (s.continues_after g.I.Tokens.model g.B.Bodies.is_faithful view (await_tail g.B.BodyForms.forms start) _ r
-    (s.on_to {h = await_ident start} (s.on_call _ (prefix.await_splits g.B.BodyForms.forms start) (c.in_ok-is_await_name.ensures.names g.B.Bodies.is_faithful))
+    (s.on_to {h = await_ident start} (s.on_call _ (prefix.await_splits g.B.BodyForms.forms start)
+    (c.in_ok-is_await_name.ensures.names g.B.Bodies.is_faithful))
     (λ x ts. ap (λ b. await_by_name g.B.BodyForms.forms start b x ts) c.if-branch.true))
     c.parse_await_ident.ensures.reads))
     c.parse_await_ident.ensures.grows c.parse_await_ident.ensures.from)
@@ -1489,13 +1880,16 @@ pub parse_unary_expr-returns-in_err-check_await : goal.parse_unary_expr-returns-
 parse_unary_expr-returns-in_err-check_await g t c =
     m.refused c.from_residual-in_err-check_await.ensures.1
     (s.unheard_memory (s.forgoes_later (s.leads_then (s.here_leads c.in_ok-look.ensures.looks)
-    (s.leads_then (s.took_leads g.met.I.Tokens.laws c.skip-then-is_await.ensures.took.1) (c.in_ok-is_await_name.ensures.names g.B.Bodies.is_faithful).leads)) c.in_err-check_await.ensures.checks)) (grows-same _)
+    (s.leads_then (s.took_leads g.met.I.Tokens.laws c.skip-then-is_await.ensures.took.1)
+    (c.in_ok-is_await_name.ensures.names g.B.Bodies.is_faithful).leads)) c.in_err-check_await.ensures.checks))
+    (grows-same _)
 
 pub parse_unary_expr-returns-in_err-less : goal.parse_unary_expr-returns-in_err-less
 parse_unary_expr-returns-in_err-less g t c =
     m.refused c.from_residual-in_err-less.ensures.1
     (s.unheard_memory (s.forgoes_later (s.leads_then (s.leads_then (s.here_leads c.in_ok-look.ensures.looks)
-    (s.leads_then (s.took_leads g.met.I.Tokens.laws c.skip-then-is_await.ensures.took.1) (c.in_ok-is_await_name.ensures.names g.B.Bodies.is_faithful).leads)) c.in_ok-check_await.ensures.checks.leads)
+    (s.leads_then (s.took_leads g.met.I.Tokens.laws c.skip-then-is_await.ensures.took.1)
+    (c.in_ok-is_await_name.ensures.names g.B.Bodies.is_faithful).leads)) c.in_ok-check_await.ensures.checks.leads)
     (s.forgoes_here g.met.I.Tokens.laws _ _ _ c.in_err-less.ensures.refused))) (grows-same _)
 
 pub parse_unary_expr-returns-in_err-arg : goal.parse_unary_expr-returns-in_err-arg
@@ -1505,14 +1899,22 @@ parse_unary_expr-returns-in_err-arg g t c =
     let place = s.place_was first c.cur_span-start-then-is_await.result c.cur_span-start-then-is_await.ensures in
     let now = c.is_await_name.new.input in
     m.refused c.from_residual-in_err-arg.ensures.1
-    (s.unheard_after (s.on_seen {g = await_expr _} c.in_ok-look.ensures.looks (λ x ts same e. update.await_picked _ x ts (ap (at_token is_await) e ∙ sym c.is_await.ensures.value ∙ c.if-is_await.true)))
-    (s.unheard_after (s.on_took {g = await_tail _ start} g.met.I.Tokens.laws first (λ x ts. update.await_opens _ (plain first.was) x ts ∙ ap (λ v. await_tail g.B.BodyForms.forms v x ts) (sym place)))
-    (s.unheard_after (s.on_to {h = await_operand _ start} (s.on_call _ (prefix.await_splits g.B.BodyForms.forms start) (c.in_ok-is_await_name.ensures.names g.B.Bodies.is_faithful))
+    (s.unheard_after (s.on_seen {g = await_expr _} c.in_ok-look.ensures.looks
+    (λ x ts same e. update.await_picked _ x ts (ap
+    (at_token is_await) e ∙ sym c.is_await.ensures.value ∙ c.if-is_await.true)))
+    (s.unheard_after (s.on_took {g = await_tail _ start} g.met.I.Tokens.laws first
+    (λ x ts. update.await_opens _ (plain first.was) x ts ∙ ap (λ v. await_tail g.B.BodyForms.forms v x ts)
+    (sym place)))
+    (s.unheard_after (s.on_to {h = await_operand _ start}
+    (s.on_call _ (prefix.await_splits g.B.BodyForms.forms start)
+    (c.in_ok-is_await_name.ensures.names g.B.Bodies.is_faithful))
     (λ x ts. ap (λ b. await_by_name g.B.BodyForms.forms start b x ts) c.if-branch.false))
-    (s.unheard_after (s.on_checked_in {g = await_reads _ start} (await_ok (context g.I.Tokens.model now)) c.in_ok-check_await.ensures.checks
+    (s.unheard_after (s.on_checked_in {g = await_reads _ start}
+    (await_ok (context g.I.Tokens.model now)) c.in_ok-check_await.ensures.checks
     (λ ts h. update.await_well _ start (scope g.I.Tokens.model now) ts h)
     (λ ts h. update.await_ill _ start (scope g.I.Tokens.model now) ts h))
-    (s.unheard_call (λ x p. Some (await_e (to start (span_of p.0)) p.0, p.1)) (λ x ts. refl) (s.unheard_inner c.in_err-arg.ensures.reads)))))) c.parse_unary_expr-then-is_await.ensures.grows
+    (s.unheard_call (λ x p. Some (await_e (to start (span_of p.0)) p.0, p.1)) (λ x ts. refl)
+    (s.unheard_inner c.in_err-arg.ensures.reads)))))) c.parse_unary_expr-then-is_await.ensures.grows
 
 pub parse_unary_expr-returns-then-is_await : goal.parse_unary_expr-returns-then-is_await
 parse_unary_expr-returns-then-is_await g t c =
@@ -1521,148 +1923,217 @@ parse_unary_expr-returns-then-is_await g t c =
     let place = s.place_was first c.cur_span-start-then-is_await.result c.cur_span-start-then-is_await.ensures in
     let now = c.is_await_name.new.input in
     m.after {m = record c.args.p.now { input = c.look.new.input }} c.made.result
-    (s.on_seen {g = await_expr _} c.in_ok-look.ensures.looks (λ x ts same e. update.await_picked _ x ts (ap (at_token is_await) e ∙ sym c.is_await.ensures.value ∙ c.if-is_await.true))) (grows-same _)
+    (s.on_seen {g = await_expr _} c.in_ok-look.ensures.looks
+    (λ x ts same e. update.await_picked _ x ts (ap
+    (at_token is_await) e ∙ sym c.is_await.ensures.value ∙ c.if-is_await.true))) (grows-same _)
     (m.after {m = record c.args.p.now { input = now }} c.made.result
-    (s.on_then (s.on_took {g = await_tail _ start} g.met.I.Tokens.laws first (λ x ts. update.await_opens _ (plain first.was) x ts ∙ ap (λ v. await_tail g.B.BodyForms.forms v x ts) (sym place)))
-    (s.on_to {h = await_operand _ start} (s.on_call _ (prefix.await_splits g.B.BodyForms.forms start) (c.in_ok-is_await_name.ensures.names g.B.Bodies.is_faithful))
+    (s.on_then (s.on_took {g = await_tail _ start} g.met.I.Tokens.laws first
+    (λ x ts. update.await_opens _ (plain first.was) x ts ∙ ap (λ v. await_tail g.B.BodyForms.forms v x ts)
+    (sym place)))
+    (s.on_to {h = await_operand _ start} (s.on_call _ (prefix.await_splits g.B.BodyForms.forms start)
+    (c.in_ok-is_await_name.ensures.names g.B.Bodies.is_faithful))
     (λ x ts. ap (λ b. await_by_name g.B.BodyForms.forms start b x ts) c.if-branch.false))) (grows-same _)
-    (m.node _ c.await_expr-node.result c.made.result c.in_ok-arg.ensures.from.above c.await_expr-node.ensures.made c.made.ensures.ok c.made.ensures.refused c.parse_unary_expr-then-is_await.ensures.grows c.await_expr-node.ensures.grows
-    (s.heard_after (s.on_checked_in {g = await_reads _ start} (await_ok (context g.I.Tokens.model now)) c.in_ok-check_await.ensures.checks
+    (m.node _ c.await_expr-node.result c.made.result c.in_ok-arg.ensures.from.above c.await_expr-node.ensures.made
+    c.made.ensures.ok c.made.ensures.refused c.parse_unary_expr-then-is_await.ensures.grows
+    c.await_expr-node.ensures.grows
+    (s.heard_after (s.on_checked_in {g = await_reads _ start}
+    (await_ok (context g.I.Tokens.model now)) c.in_ok-check_await.ensures.checks
     (λ ts h. update.await_well _ start (scope g.I.Tokens.model now) ts h)
     (λ ts h. update.await_ill _ start (scope g.I.Tokens.model now) ts h))
     (s.heard_call_read (λ x p. Some (await_e (to start (span_of p.0)) p.0, p.1)) (λ x ts. refl)
-    (λ x ts us h y ys. ap (λ v. Some (await_e (from_to start.lo v) (tree_of c.parse_unary_expr-then-is_await.new.p.nodes c.in_ok-arg.arg), ys))
-    (sym (ending.ended _ g.met.B.Bodies.lawful c.in_ok-arg.arg Unary (inner x) ts us c.in_ok-arg.ensures.from h))) (s.heard_inner c.in_ok-arg.ensures.reads)))))
+    (λ x ts us h y ys. ap (λ v. Some (
+      await_e (from_to start.lo v)
+          (tree_of c.parse_unary_expr-then-is_await.new.p.nodes c.in_ok-arg.arg),
+      ys,
+    ))
+    (sym (ending.ended _ g.met.B.Bodies.lawful c.in_ok-arg.arg Unary (inner x) ts us c.in_ok-arg.ensures.from h)))
+    (s.heard_inner c.in_ok-arg.ensures.reads)))))
 
 pub parse_unary_expr-returns-in_err-expr : goal.parse_unary_expr-returns-in_err-expr
 parse_unary_expr-returns-in_err-expr g t c =
     m.refused c.from_residual-in_err-expr.ensures.1
-    (s.unheard_after (s.on_seen {g = λ x ts. run _ (at (Lhs true)) x ts >>= (λ p. run _ (updates p.0) x p.1)} c.in_ok-look.ensures.looks (λ x ts same e. update.operand_splits _ x ts (s.no_head same)
-    (update.no_update_first g.B.BodyForms.forms (first ts) (ap update_at e ∙ sym c.cur_update_op.ensures.value ∙ c.in-None.is))
+    (s.unheard_after (s.on_seen {g = λ x ts. run _ (at (Lhs true)) x ts >>=
+    (λ p. run _ (updates p.0) x p.1)} c.in_ok-look.ensures.looks
+    (λ x ts same e. update.operand_splits _ x ts (s.no_head same)
+    (update.no_update_first g.B.BodyForms.forms (first ts)
+    (ap update_at e ∙ sym c.cur_update_op.ensures.value ∙ c.in-None.is))
     (ap (at_token is_await) e ∙ sym c.is_await.ensures.value ∙ c.if-is_await.false)
     (ap prefix_at e ∙ sym c.cur_prefix_op.ensures.value ∙ c.in-None-cur_prefix_op.is)))
-    (s.unheard_call (λ x p. run _ (updates p.0) x p.1) (λ x ts. refl) c.in_err-expr.ensures.reads)) c.parse_lhs_expr.ensures.grows
+    (s.unheard_call (λ x p. run _ (updates p.0) x p.1) (λ x ts. refl) c.in_err-expr.ensures.reads))
+    c.parse_lhs_expr.ensures.grows
 
 pub parse_unary_expr-returns : goal.parse_unary_expr-returns
 parse_unary_expr-returns g t c =
-    m.after {m = record c.args.p.now { input = c.look.new.input }} c.parse_update_postfix.result (s.on_seen {g = λ x ts. run _ (at (Lhs true)) x ts >>= (λ p. run _ (updates p.0) x p.1)} c.in_ok-look.ensures.looks (λ x ts same e. update.operand_splits _ x ts (s.no_head same)
-    (update.no_update_first g.B.BodyForms.forms (first ts) (ap update_at e ∙ sym c.cur_update_op.ensures.value ∙ c.in-None.is))
+    m.after {m = record c.args.p.now { input = c.look.new.input }} c.parse_update_postfix.result
+    (s.on_seen {g = λ x ts. run _ (at (Lhs true)) x ts >>=
+    (λ p. run _ (updates p.0) x p.1)} c.in_ok-look.ensures.looks
+    (λ x ts same e. update.operand_splits _ x ts (s.no_head same)
+    (update.no_update_first g.B.BodyForms.forms (first ts)
+    (ap update_at e ∙ sym c.cur_update_op.ensures.value ∙ c.in-None.is))
     (ap (at_token is_await) e ∙ sym c.is_await.ensures.value ∙ c.if-is_await.false)
     (ap prefix_at e ∙ sym c.cur_prefix_op.ensures.value ∙ c.in-None-cur_prefix_op.is))) (grows-same _)
     (m.call c.parse_update_postfix.result (λ x p. run _ (updates p.0) x p.1) (λ x ts. refl)
-    c.in_ok-expr.ensures.reads c.parse_lhs_expr.ensures.grows (λ x. from-down c.in_ok-expr.ensures.from.above) c.parse_update_postfix.ensures)
+    c.in_ok-expr.ensures.reads c.parse_lhs_expr.ensures.grows
+    (λ x. from-down c.in_ok-expr.ensures.from.above) c.parse_update_postfix.ensures)
 
 pub parse_plain_operand-parse_plain_member-member-requires : goal.parse_plain_operand-parse_plain_member-member-requires
 parse_plain_operand-parse_plain_member-member-requires g t c =
     let plain = ap (λ o. at_token is_plain (seen_of o)) c.set_ctx.ensures.current ∙ c.requires.plain in
     let looked = s.here_now g.met.I.Tokens.laws c.set_ctx.new.input (s.seen_some is_plain c.set_ctx.new.input plain) in
-    λ κs outlives. (search rules, (search rules, (search rules, (search rules, (search rules, (search rules, (looked, plain)))))))
+    λ κs outlives. (
+      search rules,
+      (
+        search rules,
+        (
+          search rules,
+          (search rules, (search rules, (search rules, (looked, plain)))),
+        ),
+      ),
+    )
 
 pub parse_plain_operand-returns-in_err-callee : goal.parse_plain_operand-returns-in_err-callee
 parse_plain_operand-returns-in_err-callee g t c =
     let tree = tree_of c.parse_plain_member-member.new.p.nodes in
-    let member = s.parses_aside g.I.Tokens.model g.B.Bodies.is_faithful tree (run _ (at (Lhs false))) c.parse_plain_member-member.result
-    c.set_ctx.ensures.moves (ap deciding c.set_ctx.ensures.context ∙ ap deciding c.get_ctx-ctx.ensures) c.parse_plain_member-member.ensures.reads c.set_ctx-2.ensures.moves
+    let member = s.parses_aside g.I.Tokens.model g.B.Bodies.is_faithful tree
+    (run _ (at (Lhs false))) c.parse_plain_member-member.result
+    c.set_ctx.ensures.moves (ap deciding c.set_ctx.ensures.context ∙ ap deciding c.get_ctx-ctx.ensures)
+    c.parse_plain_member-member.ensures.reads c.set_ctx-2.ensures.moves
     (c.set_ctx-2.ensures.context ∙ c.get_ctx-ctx.ensures) in
-    let begun = s.on_seen {g = λ x ts. run g.B.BodyForms.forms (at (Lhs false)) x ts >>= operand.behind g.B.BodyForms.forms x} c.requires.looked
+    let begun = s.on_seen {g = λ x ts. run g.B.BodyForms.forms (at (Lhs false)) x ts >>=
+    operand.behind g.B.BodyForms.forms x} c.requires.looked
     (λ x ts same e. plain_operand.plain_unary _ x ts (s.no_head same) (ap (at_token is_plain) e ∙ c.requires.plain)) in
     m.refused c.from_residual.ensures.1
     (s.unheard_after begun
     (s.unheard_call (operand.behind _) (λ x ts. refl)
-    (s.parses_err g.I.Tokens.model g.B.Bodies.is_faithful tree (run _ (at (Lhs false))) _ _ c.parse_plain_member-member.result _ c.in_err-callee.was member)))
+    (s.parses_err g.I.Tokens.model g.B.Bodies.is_faithful tree
+    (run _ (at (Lhs false))) _ _ c.parse_plain_member-member.result _ c.in_err-callee.was member)))
     c.parse_plain_member-member.ensures.grows
 
 pub parse_plain_operand-returns-in_err-look : goal.parse_plain_operand-returns-in_err-look
 parse_plain_operand-returns-in_err-look g t c =
     let tree = tree_of c.parse_plain_member-member.new.p.nodes in
-    let member = s.parses_aside g.I.Tokens.model g.B.Bodies.is_faithful tree (run _ (at (Lhs false))) c.parse_plain_member-member.result
-    c.set_ctx.ensures.moves (ap deciding c.set_ctx.ensures.context ∙ ap deciding c.get_ctx-ctx.ensures) c.parse_plain_member-member.ensures.reads c.set_ctx-2.ensures.moves
+    let member = s.parses_aside g.I.Tokens.model g.B.Bodies.is_faithful tree
+    (run _ (at (Lhs false))) c.parse_plain_member-member.result
+    c.set_ctx.ensures.moves (ap deciding c.set_ctx.ensures.context ∙ ap deciding c.get_ctx-ctx.ensures)
+    c.parse_plain_member-member.ensures.reads c.set_ctx-2.ensures.moves
     (c.set_ctx-2.ensures.context ∙ c.get_ctx-ctx.ensures) in
-    let read = s.parses_ok g.I.Tokens.model g.B.Bodies.is_faithful tree (run _ (at (Lhs false))) _ _ c.parse_plain_member-member.result c.in_ok-callee.callee c.in_ok-callee.was member in
+    let read = s.parses_ok g.I.Tokens.model g.B.Bodies.is_faithful tree
+    (run _ (at (Lhs false))) _ _ c.parse_plain_member-member.result c.in_ok-callee.callee c.in_ok-callee.was
+    member in
     m.refused c.from_residual-in_err-look.ensures.1
-    (s.unheard_memory (s.forgoes_later read.on.leads c.in_err-look.ensures.looks)) c.parse_plain_member-member.ensures.grows
+    (s.unheard_memory (s.forgoes_later read.on.leads c.in_err-look.ensures.looks))
+    c.parse_plain_member-member.ensures.grows
 
 pub parse_plain_operand-returns-then-not-may_go_on : goal.parse_plain_operand-returns-then-not-may_go_on
 parse_plain_operand-returns-then-not-may_go_on g t c =
     let tree = tree_of c.parse_plain_member-member.new.p.nodes in
-    let member = s.parses_aside g.I.Tokens.model g.B.Bodies.is_faithful tree (run _ (at (Lhs false))) c.parse_plain_member-member.result
-    c.set_ctx.ensures.moves (ap deciding c.set_ctx.ensures.context ∙ ap deciding c.get_ctx-ctx.ensures) c.parse_plain_member-member.ensures.reads c.set_ctx-2.ensures.moves
+    let member = s.parses_aside g.I.Tokens.model g.B.Bodies.is_faithful tree
+    (run _ (at (Lhs false))) c.parse_plain_member-member.result
+    c.set_ctx.ensures.moves (ap deciding c.set_ctx.ensures.context ∙ ap deciding c.get_ctx-ctx.ensures)
+    c.parse_plain_member-member.ensures.reads c.set_ctx-2.ensures.moves
     (c.set_ctx-2.ensures.context ∙ c.get_ctx-ctx.ensures) in
-    let read = s.parses_ok g.I.Tokens.model g.B.Bodies.is_faithful tree (run _ (at (Lhs false))) _ _ c.parse_plain_member-member.result c.in_ok-callee.callee c.in_ok-callee.was member in
-    let held = m.held_is _ c.parse_plain_member-member.result c.in_ok-callee.callee c.in_ok-callee.was c.parse_plain_member-member.ensures.from in
-    let begun = s.on_seen {g = λ x ts. run g.B.BodyForms.forms (at (Lhs false)) x ts >>= operand.behind g.B.BodyForms.forms x} c.requires.looked
+    let read = s.parses_ok g.I.Tokens.model g.B.Bodies.is_faithful tree
+    (run _ (at (Lhs false))) _ _ c.parse_plain_member-member.result c.in_ok-callee.callee c.in_ok-callee.was
+    member in
+    let held = m.held_is _ c.parse_plain_member-member.result c.in_ok-callee.callee c.in_ok-callee.was
+    c.parse_plain_member-member.ensures.from in
+    let begun = s.on_seen {g = λ x ts. run g.B.BodyForms.forms (at (Lhs false)) x ts >>=
+    operand.behind g.B.BodyForms.forms x} c.requires.looked
     (λ x ts same e. plain_operand.plain_unary _ x ts (s.no_head same) (ap (at_token is_plain) e ∙ c.requires.plain)) in
     let l = tree c.in_ok-callee.callee in
     m.yes (Ok c.in_ok-callee.callee)
     (s.heard_after begun
     (s.heard_more (operand.behind _) (λ x ts. refl) read
     (s.on_seen {g = s.give l} c.in_ok-look.ensures.looks
-    (λ x ts same e. plain_operand.ends_here _ l x ts (ap (at_token goes_on) e ∙ sym c.may_go_on.ensures ∙ c.if-not-may_go_on.true)))))
+    (λ x ts same e. plain_operand.ends_here _ l x ts (ap
+    (at_token goes_on) e ∙ sym c.may_go_on.ensures ∙ c.if-not-may_go_on.true)))))
     c.parse_plain_member-member.ensures.grows held
 
 pub parse_plain_operand-parse_subscripts-requires : goal.parse_plain_operand-parse_subscripts-requires
 parse_plain_operand-parse_subscripts-requires g t c =
     let falls = c.parse_plain_member-member.ensures.falls in
     let read = c.in_ok-callee.was in
-    let from = from-down (omega arith) (m.held_is _ c.parse_plain_member-member.result c.in_ok-callee.callee read c.parse_plain_member-member.ensures.from) in
+    let from = from-down (omega arith) (m.held_is _ c.parse_plain_member-member.result c.in_ok-callee.callee read
+    c.parse_plain_member-member.ensures.from) in
     λ κs outlives. (search rules, (search rules, (search rules, (search rules, (search rules, (search rules, from))))))
 
 pub parse_plain_operand-returns-in_err-expr : goal.parse_plain_operand-returns-in_err-expr
 parse_plain_operand-returns-in_err-expr g t c =
     let tree = tree_of c.parse_plain_member-member.new.p.nodes in
-    let member = s.parses_aside g.I.Tokens.model g.B.Bodies.is_faithful tree (run _ (at (Lhs false))) c.parse_plain_member-member.result
-    c.set_ctx.ensures.moves (ap deciding c.set_ctx.ensures.context ∙ ap deciding c.get_ctx-ctx.ensures) c.parse_plain_member-member.ensures.reads c.set_ctx-2.ensures.moves
+    let member = s.parses_aside g.I.Tokens.model g.B.Bodies.is_faithful tree
+    (run _ (at (Lhs false))) c.parse_plain_member-member.result
+    c.set_ctx.ensures.moves (ap deciding c.set_ctx.ensures.context ∙ ap deciding c.get_ctx-ctx.ensures)
+    c.parse_plain_member-member.ensures.reads c.set_ctx-2.ensures.moves
     (c.set_ctx-2.ensures.context ∙ c.get_ctx-ctx.ensures) in
-    let read = s.parses_ok g.I.Tokens.model g.B.Bodies.is_faithful tree (run _ (at (Lhs false))) _ _ c.parse_plain_member-member.result c.in_ok-callee.callee c.in_ok-callee.was member in
-    let begun = s.on_seen {g = λ x ts. run g.B.BodyForms.forms (at (Lhs false)) x ts >>= operand.behind g.B.BodyForms.forms x} c.requires.looked
+    let read = s.parses_ok g.I.Tokens.model g.B.Bodies.is_faithful tree
+    (run _ (at (Lhs false))) _ _ c.parse_plain_member-member.result c.in_ok-callee.callee c.in_ok-callee.was
+    member in
+    let begun = s.on_seen {g = λ x ts. run g.B.BodyForms.forms (at (Lhs false)) x ts >>=
+    operand.behind g.B.BodyForms.forms x} c.requires.looked
     (λ x ts same e. plain_operand.plain_unary _ x ts (s.no_head same) (ap (at_token is_plain) e ∙ c.requires.plain)) in
     let l = tree c.in_ok-callee.callee in
-    let again = s.heard_then read.on read.onward (s.on_seen {f = s.give l} {g = s.give l} c.in_ok-look.ensures.looks (λ x ts same e. refl)) in
+    let again = s.heard_then read.on read.onward (s.on_seen {f = s.give l} {g = s.give l} c.in_ok-look.ensures.looks
+    (λ x ts same e. refl)) in
     m.refused c.from_residual-in_err-expr.ensures.1
     (s.unheard_after (s.on_then begun (s.on_call (operand.behind _) (λ x ts. refl) again.on))
     (s.unheard_call (operand.updated _) (λ x ts. refl) c.in_err-expr.ensures.reads))
     (grows-then c.parse_plain_member-member.ensures.grows c.parse_subscripts.ensures.grows)
 
 pub parse_plain_operand-parse_update_postfix-requires : goal.parse_plain_operand-parse_update_postfix-requires
-parse_plain_operand-parse_update_postfix-requires g t c = record { from = from-down (omega arith) c.in_ok-expr.ensures.from }
+parse_plain_operand-parse_update_postfix-requires g t c =
+    record { from = from-down (omega arith) c.in_ok-expr.ensures.from }
 
 pub parse_plain_operand-returns : goal.parse_plain_operand-returns
 parse_plain_operand-returns g t c =
     let tree = tree_of c.parse_plain_member-member.new.p.nodes in
-    let member = s.parses_aside g.I.Tokens.model g.B.Bodies.is_faithful tree (run _ (at (Lhs false))) c.parse_plain_member-member.result
-    c.set_ctx.ensures.moves (ap deciding c.set_ctx.ensures.context ∙ ap deciding c.get_ctx-ctx.ensures) c.parse_plain_member-member.ensures.reads c.set_ctx-2.ensures.moves
+    let member = s.parses_aside g.I.Tokens.model g.B.Bodies.is_faithful tree
+    (run _ (at (Lhs false))) c.parse_plain_member-member.result
+    c.set_ctx.ensures.moves (ap deciding c.set_ctx.ensures.context ∙ ap deciding c.get_ctx-ctx.ensures)
+    c.parse_plain_member-member.ensures.reads c.set_ctx-2.ensures.moves
     (c.set_ctx-2.ensures.context ∙ c.get_ctx-ctx.ensures) in
-    let read = s.parses_ok g.I.Tokens.model g.B.Bodies.is_faithful tree (run _ (at (Lhs false))) _ _ c.parse_plain_member-member.result c.in_ok-callee.callee c.in_ok-callee.was member in
-    let held = m.held_is _ c.parse_plain_member-member.result c.in_ok-callee.callee c.in_ok-callee.was c.parse_plain_member-member.ensures.from in
-    let begun = s.on_seen {g = λ x ts. run g.B.BodyForms.forms (at (Lhs false)) x ts >>= operand.behind g.B.BodyForms.forms x} c.requires.looked
+    let read = s.parses_ok g.I.Tokens.model g.B.Bodies.is_faithful tree
+    (run _ (at (Lhs false))) _ _ c.parse_plain_member-member.result c.in_ok-callee.callee c.in_ok-callee.was
+    member in
+    let held = m.held_is _ c.parse_plain_member-member.result c.in_ok-callee.callee c.in_ok-callee.was
+    c.parse_plain_member-member.ensures.from in
+    let begun = s.on_seen {g = λ x ts. run g.B.BodyForms.forms (at (Lhs false)) x ts >>=
+    operand.behind g.B.BodyForms.forms x} c.requires.looked
     (λ x ts same e. plain_operand.plain_unary _ x ts (s.no_head same) (ap (at_token is_plain) e ∙ c.requires.plain)) in
     let l = tree c.in_ok-callee.callee in
-    let again = s.heard_then read.on read.onward (s.on_seen {f = s.give l} {g = s.give l} c.in_ok-look.ensures.looks (λ x ts same e. refl)) in
+    let again = s.heard_then read.on read.onward (s.on_seen {f = s.give l} {g = s.give l} c.in_ok-look.ensures.looks
+    (λ x ts same e. refl)) in
     let r = c.parse_update_postfix.result in
     let a = held.above in
     let b = c.in_ok-expr.ensures.from.above in
     m.after {m = c.args.p.now} r begun (grows-same _)
-    (m.call {m = record c.parse_plain_member-member.new.p { input = c.look.new.input }} r (operand.behind _) (λ x ts. refl) again
+    (m.call {m = record c.parse_plain_member-member.new.p { input = c.look.new.input }} r (operand.behind _)
+    (λ x ts. refl) again
     c.parse_plain_member-member.ensures.grows (λ x. from-down (omega arith))
     (m.on_after r (s.on_call (operand.updated _) (λ x ts. refl) c.in_ok-expr.ensures.reads)
     c.parse_subscripts.ensures.grows c.parse_update_postfix.ensures))
 
 pub parse_plain_member-parse_plain_primary-requires : goal.parse_plain_member-parse_plain_primary-requires
-parse_plain_member-parse_plain_primary-requires g t c = record { looked = c.requires.looked; plain = plain_kind _ c.requires.plain }
+parse_plain_member-parse_plain_primary-requires g t c =
+    record { looked = c.requires.looked; plain = plain_kind _ c.requires.plain }
 
 pub parse_plain_member-returns-in_err-base : goal.parse_plain_member-returns-in_err-base
 parse_plain_member-returns-in_err-base g t c =
     m.refused c.from_residual.ensures.1
-    (s.unheard_after (s.on_seen {g = λ x ts. run _ (at Primary) x ts >>= (λ p. run _ (links false p.0) x p.1)} c.requires.looked
+    (s.unheard_after (s.on_seen {g = λ x ts. run _ (at Primary) x ts >>=
+    (λ p. run _ (links false p.0) x p.1)} c.requires.looked
     (λ x ts same e. plain_operand.plain_member _ x ts (s.no_head same) (ap (at_token is_plain) e ∙ c.requires.plain)))
-    (s.unheard_call (λ x p. run _ (links false p.0) x p.1) (λ x ts. refl) c.in_err-base.ensures.reads)) c.parse_plain_primary.ensures.grows
+    (s.unheard_call (λ x p. run _ (links false p.0) x p.1) (λ x ts. refl) c.in_err-base.ensures.reads))
+    c.parse_plain_primary.ensures.grows
 
 pub parse_plain_member-returns : goal.parse_plain_member-returns
 parse_plain_member-returns g t c =
-    m.after {m = c.args.p.now} c.parse_subscripts.result (s.on_seen {g = λ x ts. run _ (at Primary) x ts >>= (λ p. run _ (links false p.0) x p.1)} c.requires.looked
-    (λ x ts same e. plain_operand.plain_member _ x ts (s.no_head same) (ap (at_token is_plain) e ∙ c.requires.plain))) (grows-same _)
+    m.after {m = c.args.p.now} c.parse_subscripts.result
+    (s.on_seen {g = λ x ts. run _ (at Primary) x ts >>= (λ p. run _ (links false p.0) x p.1)} c.requires.looked
+    (λ x ts same e. plain_operand.plain_member _ x ts (s.no_head same) (ap (at_token is_plain) e ∙ c.requires.plain)))
+    (grows-same _)
     (m.call c.parse_subscripts.result (λ x p. run _ (links false p.0) x p.1) (λ x ts. refl)
-    c.in_ok-base.ensures.reads c.parse_plain_primary.ensures.grows (λ x. from-down c.in_ok-base.ensures.from.above) c.parse_subscripts.ensures)
+    c.in_ok-base.ensures.reads c.parse_plain_primary.ensures.grows
+    (λ x. from-down c.in_ok-base.ensures.from.above) c.parse_subscripts.ensures)
 
 pub parse_bin_expr-returns-in_err-first : goal.parse_bin_expr-returns-in_err-first
 parse_bin_expr-returns-in_err-first g t c =
@@ -1720,7 +2191,8 @@ recover_operators-returns-in_err-left g t c =
 pub recover_operators-take_operator-requires-clause-from : goal.recover_operators-take_operator-requires-clause-from
 recover_operators-take_operator-requires-clause-from g t c = from-down (omega arith) c.in_ok-left.ensures.recovers.from
 
-pub recover_operators-take_operator-requires-clause-tighter : goal.recover_operators-take_operator-requires-clause-tighter
+pub recover_operators-take_operator-requires-clause-tighter :
+    goal.recover_operators-take_operator-requires-clause-tighter
 recover_operators-take_operator-requires-clause-tighter g t c = pending.binds_any _ c.new-pending.ensures
 
 pub recover_operators-returns-in_err-take_operator : goal.recover_operators-returns-in_err-take_operator
@@ -1770,7 +2242,8 @@ recover_operators-returns g t c =
     record {
       effect = s.consumes_then g.I.Tokens.model g.B.Bodies.is_faithful view f h.effect more
           (s.longer took.on.leads c.in_ok-right.ensures.reads.on.leads took.onward) _ r reads;
-      notes = λ l. s.notes_then g.I.Tokens.model g.B.Bodies.is_faithful view f c.args.p.now.input (h.notes l) more _ r reads;
+      notes = λ l. s.notes_then g.I.Tokens.model g.B.Bodies.is_faithful view f c.args.p.now.input
+          (h.notes l) more _ r reads;
       some = s.on_ok r h.some;
       memory = s.if_err (λ e. e.kind ≢ OutOfMemory) r h.some;
       falls = s.falls_after g.I.Tokens.model c.parse_operators.new.p.input r (s.leads_then h.effect more)
@@ -1814,7 +2287,8 @@ parse_operators-returns-in_err-left-in-Some g t c =
     let tree = tree_of c.loop-pending.p.nodes in
     let ws = all_pending c.loop-pending.pending in
     m.refused_more c.from_residual-in_err-left-in-Some.ensures.1
-    (pending.unheard_read g.B.BodyForms.forms tree ws (all_pending c.take_operator.new.pending) c.loop-pending.left c.in-Some.op
+    (pending.unheard_read g.B.BodyForms.forms tree ws (all_pending c.take_operator.new.pending) c.loop-pending.left
+    c.in-Some.op
     c.private_may_follow-is_free.ensures c.in_ok-take_operator-in-Some.ensures.pushed
     (pending.on_taken g.B.BodyForms.forms tree ws c.loop-pending.left c.in-Some.op c.loop-pending.invariant.0
     c.in_ok-op.ensures.looks
@@ -1842,7 +2316,8 @@ parse_operators-loop-pending-preserved-in-Some g t c =
           (c.in_ok-take_operator-in-Some.ensures.reads g.B.Bodies.is_faithful))
           c.in_ok-left-in-Some.ensures.reads grown c.loop-pending.invariant.3,
       let a = c.loop-pending.invariant.1 in let b = c.in_ok-op.ensures.falls in
-          let d = c.in_ok-take_operator-in-Some.ensures.falls in let f = c.in_ok-left-in-Some.ensures.falls in omega arith,
+          let d = c.in_ok-take_operator-in-Some.ensures.falls in let f = c.in_ok-left-in-Some.ensures.falls in
+          omega arith,
       grows-then c.loop-pending.invariant.2 grown,
       pending.operands-as r (sym c.in_ok-take_operator-in-Some.ensures.pushed)
           (operands-more ws (waiting e c.in-Some.op) r c.parse_operand.ensures.grows
@@ -1902,7 +2377,8 @@ parse_operators-loop-pending-preserved g t c =
           omega arith,
       grows-then c.loop-pending.invariant.2 c.join_operands.ensures.grows,
       operands-joined vs c.in-Some-pop.operator e n c.join_operands.ensures.grows
-          (pending.operands-as e c.in-Some-pop.ensures c.loop-pending.invariant.3) c.in_ok-left-in-Some-pop.ensures.from,
+          (pending.operands-as e c.in-Some-pop.ensures c.loop-pending.invariant.3)
+          c.in_ok-left-in-Some-pop.ensures.from,
     )
 
 pub parse_operators-returns-in-None-pop : goal.parse_operators-returns-in-None-pop
@@ -1928,12 +2404,14 @@ parse_expr-returns-in_err-eat g t c =
     let e = tree_of c.parse_assignment_expr.new.p.nodes c.in_ok-first.first in
     m.refused c.from_residual-in_err-eat.ensures.1
     (s.unheard_after (s.on_call _ (assign.expr_splits _) c.in_ok-first.ensures.reads.on)
-    (s.unheard_call _ (assign.seqs_splits _ (cons e nil)) (c.in_err-eat.ensures.eats g.B.Bodies.is_faithful))) c.parse_assignment_expr.ensures.grows
+    (s.unheard_call _ (assign.seqs_splits _ (cons e nil)) (c.in_err-eat.ensures.eats g.B.Bodies.is_faithful)))
+    c.parse_assignment_expr.ensures.grows
 
 pub parse_expr-returns-in-None : goal.parse_expr-returns-in-None
 parse_expr-returns-in-None g t c =
     let e = tree_of c.parse_assignment_expr.new.p.nodes c.in_ok-first.first in
-    let none = s.eats_none g.B.Bodies.is_faithful is_comma _ _ _ c.in-None.is (c.in_ok-eat.ensures.eats g.B.Bodies.is_faithful) in
+    let none = s.eats_none g.B.Bodies.is_faithful is_comma _ _ _ c.in-None.is
+    (c.in_ok-eat.ensures.eats g.B.Bodies.is_faithful) in
     m.yes (Ok _)
     (s.heard_more _ (assign.expr_splits _) c.in_ok-first.ensures.reads
     (s.on_call _ (assign.seqs_splits _ (cons e nil)) none))
@@ -1941,9 +2419,11 @@ parse_expr-returns-in-None g t c =
 
 pub parse_expr-returns-in_err-add : goal.parse_expr-returns-in_err-add
 parse_expr-returns-in_err-add g t c =
-    let some = s.eats_some g.B.Bodies.is_faithful is_comma _ c.in-Some.field-0 _ _ c.in-Some.is (c.in_ok-eat.ensures.eats g.B.Bodies.is_faithful) in
+    let some = s.eats_some g.B.Bodies.is_faithful is_comma _ c.in-Some.field-0 _ _ c.in-Some.is
+    (c.in_ok-eat.ensures.eats g.B.Bodies.is_faithful) in
     m.refused c.from_residual-in_err-add.ensures.1
-    (s.unheard_memory (s.forgoes_later (s.leads_then c.in_ok-first.ensures.reads.on.leads some.on.leads) (s.forgoes_here g.met.I.Tokens.laws _ _ _ c.in_err-add.ensures.refused))) c.parse_assignment_expr.ensures.grows
+    (s.unheard_memory (s.forgoes_later (s.leads_then c.in_ok-first.ensures.reads.on.leads some.on.leads)
+    (s.forgoes_here g.met.I.Tokens.laws _ _ _ c.in_err-add.ensures.refused))) c.parse_assignment_expr.ensures.grows
 
 pub parse_expr-loop-exprs-init : goal.parse_expr-loop-exprs-init
 parse_expr-loop-exprs-init g t c =
@@ -1953,7 +2433,10 @@ parse_expr-loop-exprs-init g t c =
       s.on_here g.met.I.Tokens.laws _ (λ x ts. refl),
       let a = c.in_ok-first.ensures.falls in let b = c.in_ok-eat.ensures.falls in omega arith,
       grows-same _,
-      record { chained = ap (λ v. chain (seat_at now) (count c.args.p.now.nodes) (flat one_expr v) (count now)) one ∙ (apart-from (expr_part first) c.in_ok-first.ensures.from).chained },
+      record {
+        chained = ap (λ v. chain (seat_at now) (count c.args.p.now.nodes) (flat one_expr v) (count now)) one
+            ∙ (apart-from (expr_part first) c.in_ok-first.ensures.from).chained;
+      },
       subst (λ v. 1 ≤ length v) (sym one) (omega arith),
       λ d. refl,
     )
@@ -1962,32 +2445,51 @@ pub parse_expr-returns-in_err-expr : goal.parse_expr-returns-in_err-expr
 parse_expr-returns-in_err-expr g t c =
     let old = c.parse_assignment_expr.new.p.nodes in let first = c.in_ok-first.first in
     let one = c.in_ok-add.ensures.added ∙ ap (λ v. v ++ first ∷ []) c.new-exprs.ensures.items in
-    let on = s.on_by (λ x ts. ap (λ v. seqs_more g.B.BodyForms.forms (trees (map (λ e. tree_at old e.0) v)) x ts) (sym one)) c.loop-exprs.invariant.0 in
-    let comma = s.eats_some g.B.Bodies.is_faithful is_comma _ c.in-Some.field-0 _ _ c.in-Some.is (c.in_ok-eat.ensures.eats g.B.Bodies.is_faithful) in
+    let on = s.on_by (λ x ts. ap (λ v. seqs_more g.B.BodyForms.forms (trees (map (λ e. tree_at old e.0) v)) x ts)
+    (sym one)) c.loop-exprs.invariant.0 in
+    let comma = s.eats_some g.B.Bodies.is_faithful is_comma _ c.in-Some.field-0 _ _ c.in-Some.is
+    (c.in_ok-eat.ensures.eats g.B.Bodies.is_faithful) in
     let es = expr_trees (tree_at c.loop-exprs.p.nodes) c.loop-exprs.exprs in
     m.passed c.from_residual-in_err-expr.ensures.1
-    (behind_comma g.B.BodyForms.forms g.met.B.Bodies.lawful {a = c.parse_assignment_expr.new.p} first (Err _) c.in_ok-first.ensures.reads c.parse_assignment_expr.ensures.grows comma
-    (m.no (s.unheard_call (λ x p. Some (begun_if (begins_in_invalid (tree_of old first)) (start_at old first.0) p.0, p.1)) (λ x ts. refl) (s.unheard_after on (s.unheard_call _ (assign.seqs_more_splits _ es) c.in_err-expr.ensures.reads)))
+    (behind_comma g.B.BodyForms.forms g.met.B.Bodies.lawful {a = c.parse_assignment_expr.new.p} first
+    (Err _) c.in_ok-first.ensures.reads c.parse_assignment_expr.ensures.grows comma
+    (m.no (s.unheard_call (λ x p. Some (
+      begun_if (begins_in_invalid (tree_of old first)) (start_at old first.0) p.0,
+      p.1,
+    )) (λ x ts. refl) (s.unheard_after on (s.unheard_call _
+    (assign.seqs_more_splits _ es) c.in_err-expr.ensures.reads)))
     (grows-then c.loop-exprs.invariant.2 c.parse_assignment_expr-in-loop-exprs.ensures.grows)))
 
 pub parse_expr-returns-in_err-add-2 : goal.parse_expr-returns-in_err-add-2
 parse_expr-returns-in_err-add-2 g t c =
-    let comma = s.eats_some g.B.Bodies.is_faithful is_comma _ c.in-Some.field-0 _ _ c.in-Some.is (c.in_ok-eat.ensures.eats g.B.Bodies.is_faithful) in
+    let comma = s.eats_some g.B.Bodies.is_faithful is_comma _ c.in-Some.field-0 _ _ c.in-Some.is
+    (c.in_ok-eat.ensures.eats g.B.Bodies.is_faithful) in
     m.refused c.from_residual-in_err-add-2.ensures.1
-    (s.unheard_memory (s.forgoes_later (s.leads_then (s.leads_then c.in_ok-first.ensures.reads.on.leads comma.on.leads) (s.leads_then c.loop-exprs.invariant.0.leads c.in_ok-expr.ensures.reads.on.leads)) (s.forgoes_here g.met.I.Tokens.laws _ _ _ c.in_err-add-2.ensures.refused)))
-    (grows-then c.parse_assignment_expr.ensures.grows (grows-then c.loop-exprs.invariant.2 c.parse_assignment_expr-in-loop-exprs.ensures.grows))
+    (s.unheard_memory (s.forgoes_later (s.leads_then (s.leads_then c.in_ok-first.ensures.reads.on.leads comma.on.leads)
+    (s.leads_then c.loop-exprs.invariant.0.leads c.in_ok-expr.ensures.reads.on.leads))
+    (s.forgoes_here g.met.I.Tokens.laws _ _ _ c.in_err-add-2.ensures.refused)))
+    (grows-then c.parse_assignment_expr.ensures.grows (grows-then c.loop-exprs.invariant.2
+    c.parse_assignment_expr-in-loop-exprs.ensures.grows))
 
 pub parse_expr-returns-in_err-eat-2 : goal.parse_expr-returns-in_err-eat-2
 parse_expr-returns-in_err-eat-2 g t c =
     let old = c.parse_assignment_expr.new.p.nodes in let first = c.in_ok-first.first in
     let one = c.in_ok-add.ensures.added ∙ ap (λ v. v ++ first ∷ []) c.new-exprs.ensures.items in
-    let on = s.on_by (λ x ts. ap (λ v. seqs_more g.B.BodyForms.forms (trees (map (λ e. tree_at old e.0) v)) x ts) (sym one)) c.loop-exprs.invariant.0 in
-    let comma = s.eats_some g.B.Bodies.is_faithful is_comma _ c.in-Some.field-0 _ _ c.in-Some.is (c.in_ok-eat.ensures.eats g.B.Bodies.is_faithful) in
+    let on = s.on_by (λ x ts. ap (λ v. seqs_more g.B.BodyForms.forms (trees (map (λ e. tree_at old e.0) v)) x ts)
+    (sym one)) c.loop-exprs.invariant.0 in
+    let comma = s.eats_some g.B.Bodies.is_faithful is_comma _ c.in-Some.field-0 _ _ c.in-Some.is
+    (c.in_ok-eat.ensures.eats g.B.Bodies.is_faithful) in
     let es = expr_trees (tree_at c.loop-exprs.p.nodes) c.loop-exprs.exprs in
-    let more = trees_append es (cons (tree_of c.parse_assignment_expr-in-loop-exprs.new.p.nodes c.in_ok-expr.expr) nil) in
+    let more = trees_append es (cons (tree_of c.parse_assignment_expr-in-loop-exprs.new.p.nodes c.in_ok-expr.expr)
+    nil) in
     m.passed c.from_residual-in_err-eat-2.ensures.1
-    (behind_comma g.B.BodyForms.forms g.met.B.Bodies.lawful {a = c.parse_assignment_expr.new.p} first (Err _) c.in_ok-first.ensures.reads c.parse_assignment_expr.ensures.grows comma
-    (m.no (s.unheard_call (λ x p. Some (begun_if (begins_in_invalid (tree_of old first)) (start_at old first.0) p.0, p.1)) (λ x ts. refl) (s.unheard_after on (s.unheard_after (s.on_call _ (assign.seqs_more_splits _ es) c.in_ok-expr.ensures.reads.on)
+    (behind_comma g.B.BodyForms.forms g.met.B.Bodies.lawful {a = c.parse_assignment_expr.new.p} first
+    (Err _) c.in_ok-first.ensures.reads c.parse_assignment_expr.ensures.grows comma
+    (m.no (s.unheard_call (λ x p. Some (
+      begun_if (begins_in_invalid (tree_of old first)) (start_at old first.0) p.0,
+      p.1,
+    )) (λ x ts. refl) (s.unheard_after on (s.unheard_after
+    (s.on_call _ (assign.seqs_more_splits _ es) c.in_ok-expr.ensures.reads.on)
     (s.unheard_call _ (assign.seqs_splits _ more) (c.in_err-eat-2.ensures.eats g.B.Bodies.is_faithful)))))
     (grows-then c.loop-exprs.invariant.2 c.parse_assignment_expr-in-loop-exprs.ensures.grows)))
 
@@ -1997,17 +2499,27 @@ parse_expr-loop-exprs-preserved g t c =
     let nodes = c.parse_assignment_expr-in-loop-exprs.new.p.nodes in
     let more = trees_append es (cons (tree_of nodes c.in_ok-expr.expr) nil) in
     let grows = c.parse_assignment_expr-in-loop-exprs.ensures.grows in
-    let some = s.eats_some g.B.Bodies.is_faithful is_comma _ c.in-Some-2.field-0 _ _ c.in-Some-2.is (c.in_ok-eat-2.ensures.eats g.B.Bodies.is_faithful) in
-    let added = ap (λ v. trees (map (λ e. tree_at nodes e.0) v)) c.in_ok-add-2.ensures.added ∙ exprs-more c.loop-exprs.exprs.items c.in_ok-expr.expr grows c.loop-exprs.invariant.3 in
-    let parts = exprs-apart-more c.loop-exprs.exprs.items c.in_ok-expr.expr grows c.loop-exprs.invariant.3 c.in_ok-expr.ensures.from in (
-      s.on_then c.loop-exprs.invariant.0 (s.on_then (s.on_call _ (assign.seqs_more_splits _ es) c.in_ok-expr.ensures.reads.on)
+    let some = s.eats_some g.B.Bodies.is_faithful is_comma _ c.in-Some-2.field-0 _ _ c.in-Some-2.is
+    (c.in_ok-eat-2.ensures.eats g.B.Bodies.is_faithful) in
+    let added = ap (λ v. trees (map (λ e. tree_at nodes e.0) v)) c.in_ok-add-2.ensures.added
+    ∙ exprs-more c.loop-exprs.exprs.items c.in_ok-expr.expr grows c.loop-exprs.invariant.3 in
+    let parts = exprs-apart-more c.loop-exprs.exprs.items c.in_ok-expr.expr grows c.loop-exprs.invariant.3
+    c.in_ok-expr.ensures.from in (
+      s.on_then c.loop-exprs.invariant.0
+          (s.on_then (s.on_call _ (assign.seqs_more_splits _ es) c.in_ok-expr.ensures.reads.on)
           (s.on_to (s.on_call _ (assign.seqs_splits _ more) some.on)
           (λ x ts. ap (λ v. seqs_more g.B.BodyForms.forms v x ts) (sym added)))),
-      let a = c.loop-exprs.invariant.1 in let b = c.in_ok-expr.ensures.falls in let d = c.in_ok-eat-2.ensures.falls in omega arith,
+      let a = c.loop-exprs.invariant.1 in let b = c.in_ok-expr.ensures.falls in let d = c.in_ok-eat-2.ensures.falls in
+          omega arith,
       grows-then c.loop-exprs.invariant.2 grows,
-      record { chained = ap (λ v. chain (seat_at nodes) (count c.args.p.now.nodes) (flat one_expr v) (count nodes)) c.in_ok-add-2.ensures.added ∙ parts.chained },
-      subst (λ v. 1 ≤ length v) (sym c.in_ok-add-2.ensures.added) (let h = length-append c.loop-exprs.exprs.items (c.in_ok-expr.expr ∷ []) in omega arith),
-      λ d. ap (λ v. slice_index_or v 0 d) c.in_ok-add-2.ensures.added ∙ ending.head-more c.loop-exprs.exprs.items c.in_ok-expr.expr d c.loop-exprs.invariant.4
+      record {
+        chained = ap (λ v. chain (seat_at nodes) (count c.args.p.now.nodes) (flat one_expr v) (count nodes))
+            c.in_ok-add-2.ensures.added ∙ parts.chained;
+      },
+      subst (λ v. 1 ≤ length v) (sym c.in_ok-add-2.ensures.added)
+          (let h = length-append c.loop-exprs.exprs.items (c.in_ok-expr.expr ∷ []) in omega arith),
+      λ d. ap (λ v. slice_index_or v 0 d) c.in_ok-add-2.ensures.added
+          ∙ ending.head-more c.loop-exprs.exprs.items c.in_ok-expr.expr d c.loop-exprs.invariant.4
           ∙ c.loop-exprs.invariant.5 d,
     )
 
@@ -2015,8 +2527,10 @@ pub parse_expr-returns-in-None-2 : goal.parse_expr-returns-in-None-2
 parse_expr-returns-in-None-2 g t c =
     let old = c.parse_assignment_expr.new.p.nodes in let first = c.in_ok-first.first in
     let one = c.in_ok-add.ensures.added ∙ ap (λ v. v ++ first ∷ []) c.new-exprs.ensures.items in
-    let on = s.on_by (λ x ts. ap (λ v. seqs_more g.B.BodyForms.forms (trees (map (λ e. tree_at old e.0) v)) x ts) (sym one)) c.loop-exprs.invariant.0 in
-    let comma = s.eats_some g.B.Bodies.is_faithful is_comma _ c.in-Some.field-0 _ _ c.in-Some.is (c.in_ok-eat.ensures.eats g.B.Bodies.is_faithful) in
+    let on = s.on_by (λ x ts. ap (λ v. seqs_more g.B.BodyForms.forms (trees (map (λ e. tree_at old e.0) v)) x ts)
+    (sym one)) c.loop-exprs.invariant.0 in
+    let comma = s.eats_some g.B.Bodies.is_faithful is_comma _ c.in-Some.field-0 _ _ c.in-Some.is
+    (c.in_ok-eat.ensures.eats g.B.Bodies.is_faithful) in
     let head = c.loop-exprs.invariant.5 first ∙ ap (λ v. slice_index_or v 0 first) one in
     let before = c.loop-exprs.exprs.items in let xs = c.add-in-loop-exprs.new.list.items in
     let es = expr_trees (tree_at c.loop-exprs.p.nodes) c.loop-exprs.exprs in
@@ -2025,39 +2539,58 @@ parse_expr-returns-in-None-2 g t c =
     let held = from-down {k = 0} (omega arith) c.in_ok-first.ensures.from in
     let more = trees_append es (cons (tree_of nodes c.in_ok-expr.expr) nil) in
     let grows = c.parse_assignment_expr-in-loop-exprs.ensures.grows in
-    let none = s.eats_none g.B.Bodies.is_faithful is_comma _ _ _ c.in-None-2.is (c.in_ok-eat-2.ensures.eats g.B.Bodies.is_faithful) in
-    let added = ap (λ v. trees (map (λ e. tree_at nodes e.0) v)) c.in_ok-add-2.ensures.added ∙ exprs-more c.loop-exprs.exprs.items c.in_ok-expr.expr grows c.loop-exprs.invariant.3 in
-    let parts = exprs-apart-more c.loop-exprs.exprs.items c.in_ok-expr.expr grows c.loop-exprs.invariant.3 c.in_ok-expr.ensures.from in
-    let apart : Apart k nodes (exprs_parts c.add-in-loop-exprs.new.list) = record { chained = ap (λ v. chain (seat_at nodes) k (flat one_expr v) (count nodes)) c.in_ok-add-2.ensures.added ∙ parts.chained } in
+    let none = s.eats_none g.B.Bodies.is_faithful is_comma _ _ _ c.in-None-2.is
+    (c.in_ok-eat-2.ensures.eats g.B.Bodies.is_faithful) in
+    let added = ap (λ v. trees (map (λ e. tree_at nodes e.0) v)) c.in_ok-add-2.ensures.added
+    ∙ exprs-more c.loop-exprs.exprs.items c.in_ok-expr.expr grows c.loop-exprs.invariant.3 in
+    let parts = exprs-apart-more c.loop-exprs.exprs.items c.in_ok-expr.expr grows c.loop-exprs.invariant.3
+    c.in_ok-expr.ensures.from in
+    let apart : Apart k nodes (exprs_parts c.add-in-loop-exprs.new.list) =
+    record {
+      chained = ap (λ v. chain (seat_at nodes) k (flat one_expr v) (count nodes)) c.in_ok-add-2.ensures.added
+          ∙ parts.chained;
+    } in
     let same : k ≤ k = omega arith in
-    behind_comma g.B.BodyForms.forms g.met.B.Bodies.lawful {a = c.parse_assignment_expr.new.p} first c.made.result c.in_ok-first.ensures.reads c.parse_assignment_expr.ensures.grows comma
+    behind_comma g.B.BodyForms.forms g.met.B.Bodies.lawful
+    {a = c.parse_assignment_expr.new.p} first c.made.result c.in_ok-first.ensures.reads
+    c.parse_assignment_expr.ensures.grows comma
     (m.node {j = k} _ c.seq_expr-node.result c.made.result same
-    (made_over _ _ k (exprs_parts c.add-in-loop-exprs.new.list) _ c.seq_expr-node.result c.seq_expr-node.ensures.made apart)
+    (made_over _ _ k (exprs_parts c.add-in-loop-exprs.new.list) _ c.seq_expr-node.result
+    c.seq_expr-node.ensures.made apart)
     c.made.ensures.ok c.made.ensures.refused (grows-then c.loop-exprs.invariant.2 grows) c.seq_expr-node.ensures.grows
-    (s.heard_answer (ending.seq-begun old nodes first c.in_ok-expr.expr before xs (grows-then c.loop-exprs.invariant.2 grows) held c.loop-exprs.invariant.4 head c.in_ok-add-2.ensures.added)
+    (s.heard_answer (ending.seq-begun old nodes first c.in_ok-expr.expr before xs
+    (grows-then c.loop-exprs.invariant.2 grows) held c.loop-exprs.invariant.4 head c.in_ok-add-2.ensures.added)
     (s.heard_as (begun_if (begins_in_invalid (tree_of old first)) (start_at old first.0)) (λ x ts. refl)
     (s.heard_after on (s.heard_more_read _ (assign.seqs_more_splits _ es) c.in_ok-expr.ensures.reads
     (s.on_call _ (assign.seqs_splits _ more) none)
-    (λ x ts us h. ap seq_of (sym added) ∙ ending.seq-read old nodes first c.in_ok-expr.expr before xs (grows-then c.loop-exprs.invariant.2 grows) held c.loop-exprs.invariant.4 head c.in_ok-add-2.ensures.added
+    (λ x ts us h. ap seq_of (sym added) ∙ ending.seq-read old nodes first c.in_ok-expr.expr before xs
+    (grows-then c.loop-exprs.invariant.2 grows) held c.loop-exprs.invariant.4 head c.in_ok-add-2.ensures.added
     (ending.ended _ g.met.B.Bodies.lawful c.in_ok-expr.expr Assign x ts us c.in_ok-expr.ensures.from h)))))))
 
 pub parse_expr-seq_expr-node-requires-clause-apart : goal.parse_expr-seq_expr-node-requires-clause-apart
 parse_expr-seq_expr-node-requires-clause-apart g t c =
     let nodes = c.parse_assignment_expr-in-loop-exprs.new.p.nodes in
     let k = count c.args.p.now.nodes in
-    let parts = exprs-apart-more c.loop-exprs.exprs.items c.in_ok-expr.expr c.parse_assignment_expr-in-loop-exprs.ensures.grows c.loop-exprs.invariant.3 c.in_ok-expr.ensures.from in
-    let apart : Apart k nodes (exprs_parts c.add-in-loop-exprs.new.list) = record { chained = ap (λ v. chain (seat_at nodes) k (flat one_expr v) (count nodes)) c.in_ok-add-2.ensures.added ∙ parts.chained } in
+    let parts = exprs-apart-more c.loop-exprs.exprs.items c.in_ok-expr.expr
+    c.parse_assignment_expr-in-loop-exprs.ensures.grows c.loop-exprs.invariant.3 c.in_ok-expr.ensures.from in
+    let apart : Apart k nodes (exprs_parts c.add-in-loop-exprs.new.list) =
+    record {
+      chained = ap (λ v. chain (seat_at nodes) k (flat one_expr v) (count nodes)) c.in_ok-add-2.ensures.added
+          ∙ parts.chained;
+    } in
     apart-down (exprs_parts c.add-in-loop-exprs.new.list) apart
 
 pub parse_assignment_expr-returns-in_err-require_cur : goal.parse_assignment_expr-returns-in_err-require_cur
 parse_assignment_expr-returns-in_err-require_cur g t c =
     m.refused c.from_residual.ensures.1
-    (s.unheard_unfit g.met.I.Tokens.laws (λ x ts h. rule.assign_bad _ x ts h) c.in_err-require_cur.ensures.fits) (grows-same _)
+    (s.unheard_unfit g.met.I.Tokens.laws (λ x ts h. rule.assign_bad _ x ts h) c.in_err-require_cur.ensures.fits)
+    (grows-same _)
 
 pub parse_assignment_expr-returns-in_err-less : goal.parse_assignment_expr-returns-in_err-less
 parse_assignment_expr-returns-in_err-less g t c =
     m.refused c.from_residual-in_err-less.ensures.1
-    (s.unheard_memory (s.forgoes_later (s.here_leads c.in_ok-require_cur.ensures.fits) (s.forgoes_here g.met.I.Tokens.laws _ _ _ c.in_err-less.ensures.refused))) (grows-same _)
+    (s.unheard_memory (s.forgoes_later (s.here_leads c.in_ok-require_cur.ensures.fits)
+    (s.forgoes_here g.met.I.Tokens.laws _ _ _ c.in_err-less.ensures.refused))) (grows-same _)
 
 pub parse_assignment_expr-parse_yield_expr-requires : goal.parse_assignment_expr-parse_yield_expr-requires
 parse_assignment_expr-parse_yield_expr-requires g t c =
@@ -2067,9 +2600,13 @@ parse_assignment_expr-parse_yield_expr-requires g t c =
 
 pub parse_assignment_expr-returns-then-is_yield_operator : goal.parse_assignment_expr-returns-then-is_yield_operator
 parse_assignment_expr-returns-then-is_yield_operator g t c =
-    m.after {m = record c.args.p.now { input = c.require_cur.new.input; too_deep = c.deeper.new.too_deep }} c.parse_yield_expr.result
-    (s.on_seen {g = yield_expr g.B.BodyForms.forms} c.in_ok-require_cur.ensures.fits (λ x ts same e. assign.yield_picked _ x ts
-    (ap (λ v. at_token is_yield v && x.context.in_generator) e ∙ ap (λ v. at_token is_yield (seen c.require_cur.new.input) && v.context.in_generator) same ∙ sym c.is_yield_operator.ensures.value ∙ c.if-is_yield_operator.true)))
+    m.after {m = record c.args.p.now { input = c.require_cur.new.input; too_deep = c.deeper.new.too_deep }}
+    c.parse_yield_expr.result
+    (s.on_seen {g = yield_expr g.B.BodyForms.forms} c.in_ok-require_cur.ensures.fits
+    (λ x ts same e. assign.yield_picked _ x ts
+    (ap (λ v. at_token is_yield v && x.context.in_generator) e ∙ ap
+    (λ v. at_token is_yield (seen c.require_cur.new.input) && v.context.in_generator) same
+    ∙ sym c.is_yield_operator.ensures.value ∙ c.if-is_yield_operator.true)))
     (grows-same _) c.parse_yield_expr.ensures
 
 pub parse_assignment_expr-parse_arrow_or_assign-requires : goal.parse_assignment_expr-parse_arrow_or_assign-requires
@@ -2103,96 +2640,133 @@ parse_assignment_expr-parse_arrow_or_assign-requires g t c =
 
 pub parse_assignment_expr-returns : goal.parse_assignment_expr-returns
 parse_assignment_expr-returns g t c =
-    m.after {m = record c.args.p.now { input = c.require_cur.new.input; too_deep = c.deeper.new.too_deep }} c.parse_arrow_or_assign.result
-    (s.on_seen {g = run _ (at Assign)} c.in_ok-require_cur.ensures.fits (λ x ts same e. refl)) (grows-same _) c.parse_arrow_or_assign.ensures
+    m.after {m = record c.args.p.now { input = c.require_cur.new.input; too_deep = c.deeper.new.too_deep }}
+    c.parse_arrow_or_assign.result
+    (s.on_seen {g = run _ (at Assign)} c.in_ok-require_cur.ensures.fits (λ x ts same e. refl))
+    (grows-same _) c.parse_arrow_or_assign.ensures
 
 pub parse_yield_expr-returns-in_err-refuse_yield_param : goal.parse_yield_expr-returns-in_err-refuse_yield_param
 parse_yield_expr-returns-in_err-refuse_yield_param g t c =
     let first = c.skip.ensures.took.1 in
     let h = c.in_err-refuse_yield_param.ensures.refuses in
     m.refused c.from_residual.ensures.1
-    (s.unheard_after (s.on_took {g = yield_tail _ (plain first.was).span} g.met.I.Tokens.laws first (assign.yield_opens _ (plain first.was)))
-    (record { refuses = h.0; none = λ n sure loud ts k. assign.yield_ill _ (plain first.was).span (scope g.I.Tokens.model c.skip.new.input) ts h.1 })) (grows-same _)
+    (s.unheard_after (s.on_took {g = yield_tail _ (plain first.was).span} g.met.I.Tokens.laws first
+    (assign.yield_opens _ (plain first.was)))
+    (record {
+      refuses = h.0;
+      none = λ n sure loud ts k.
+          assign.yield_ill _ (plain first.was).span (scope g.I.Tokens.model c.skip.new.input) ts h.1;
+    })) (grows-same _)
 
 pub parse_yield_expr-returns-in_err-goes_on_yield : goal.parse_yield_expr-returns-in_err-goes_on_yield
 parse_yield_expr-returns-in_err-goes_on_yield g t c =
     m.refused c.from_residual-in_err-goes_on_yield.ensures.1
-    (s.unheard_memory (s.forgoes_later (s.leads_then (s.took_leads g.met.I.Tokens.laws c.skip.ensures.took.1) (s.same_leads g.met.I.Tokens.laws c.in_ok-refuse_yield_param.ensures.passes.0)) c.in_err-goes_on_yield.ensures.looks)) (grows-same _)
+    (s.unheard_memory (s.forgoes_later (s.leads_then (s.took_leads g.met.I.Tokens.laws c.skip.ensures.took.1)
+    (s.same_leads g.met.I.Tokens.laws c.in_ok-refuse_yield_param.ensures.passes.0))
+    c.in_err-goes_on_yield.ensures.looks)) (grows-same _)
 
 pub parse_yield_expr-returns-then-not-branch : goal.parse_yield_expr-returns-then-not-branch
 parse_yield_expr-returns-then-not-branch g t c =
     let first = c.skip.ensures.took.1 in
     let start = c.cur_span-start.result in
     let place = s.place_was first c.cur_span-start.result c.cur_span-start.ensures in
-    let same_at = s.leads_then (s.same_leads g.met.I.Tokens.laws c.in_ok-refuse_yield_param.ensures.passes.0) (s.here_leads c.in_ok-goes_on_yield.ensures.looks) in
-    m.node _ c.yield_alone-node.result c.made.result (omega arith) c.yield_alone-node.ensures.made c.made.ensures.ok c.made.ensures.refused (grows-same _) c.yield_alone-node.ensures.grows
-    (s.heard_first g.met.I.Tokens.laws first (λ x ts. assign.yield_opens _ (plain first.was) x ts ∙ ap (λ v. yield_tail g.B.BodyForms.forms v x ts) (sym place))
+    let same_at = s.leads_then (s.same_leads g.met.I.Tokens.laws c.in_ok-refuse_yield_param.ensures.passes.0)
+    (s.here_leads c.in_ok-goes_on_yield.ensures.looks) in
+    m.node _ c.yield_alone-node.result c.made.result (omega arith) c.yield_alone-node.ensures.made c.made.ensures.ok
+    c.made.ensures.refused (grows-same _) c.yield_alone-node.ensures.grows
+    (s.heard_first g.met.I.Tokens.laws first (λ x ts. assign.yield_opens _ (plain first.was) x ts ∙ ap
+    (λ v. yield_tail g.B.BodyForms.forms v x ts) (sym place))
     (s.on_then (s.on_same {f = yield_tail _ start} g.met.I.Tokens.laws c.in_ok-refuse_yield_param.ensures.passes.0)
     (s.on_seen {g = s.give (yield_e start false hole_e)} c.in_ok-goes_on_yield.ensures.looks (λ x ts same e.
-    assign.yield_well _ start x ts (ap (λ v. yield_ok v.context) (same ∙ s.read_scope g.met.I.Tokens.laws same_at.read) ∙ c.in_ok-refuse_yield_param.ensures.passes.1)
-    ∙ assign.yield_stays _ start x ts (ap goes_on_yield_at e ∙ sym c.in_ok-goes_on_yield.ensures.value ∙ c.if-not-branch.true)))))
+    assign.yield_well _ start x ts (ap (λ v. yield_ok v.context)
+    (same ∙ s.read_scope g.met.I.Tokens.laws same_at.read) ∙ c.in_ok-refuse_yield_param.ensures.passes.1)
+    ∙ assign.yield_stays _ start x ts (ap goes_on_yield_at e ∙ sym c.in_ok-goes_on_yield.ensures.value
+    ∙ c.if-not-branch.true)))))
 
 pub parse_yield_expr-returns-in_err-star : goal.parse_yield_expr-returns-in_err-star
 parse_yield_expr-returns-in_err-star g t c =
     let first = c.skip.ensures.took.1 in
     let start = c.cur_span-start.result in
     let place = s.place_was first c.cur_span-start.result c.cur_span-start.ensures in
-    let same_at = s.leads_then (s.same_leads g.met.I.Tokens.laws c.in_ok-refuse_yield_param.ensures.passes.0) (s.here_leads c.in_ok-goes_on_yield.ensures.looks) in
+    let same_at = s.leads_then (s.same_leads g.met.I.Tokens.laws c.in_ok-refuse_yield_param.ensures.passes.0)
+    (s.here_leads c.in_ok-goes_on_yield.ensures.looks) in
     m.refused c.from_residual-in_err-star.ensures.1
     (s.unheard_after
-    (s.on_then (s.on_took {g = yield_tail _ start} g.met.I.Tokens.laws first (λ x ts. assign.yield_opens _ (plain first.was) x ts ∙ ap (λ v. yield_tail g.B.BodyForms.forms v x ts) (sym place)))
+    (s.on_then (s.on_took {g = yield_tail _ start} g.met.I.Tokens.laws first
+    (λ x ts. assign.yield_opens _ (plain first.was) x ts ∙ ap (λ v. yield_tail g.B.BodyForms.forms v x ts)
+    (sym place)))
     (s.on_then (s.on_same {f = yield_tail _ start} g.met.I.Tokens.laws c.in_ok-refuse_yield_param.ensures.passes.0)
     (s.on_seen {g = yield_operand _ start} c.in_ok-goes_on_yield.ensures.looks (λ x ts same e.
-    assign.yield_well _ start x ts (ap (λ v. yield_ok v.context) (same ∙ s.read_scope g.met.I.Tokens.laws same_at.read) ∙ c.in_ok-refuse_yield_param.ensures.passes.1)
-    ∙ assign.yield_goes _ start x ts (ap goes_on_yield_at e ∙ sym c.in_ok-goes_on_yield.ensures.value ∙ c.if-not-branch.false)))))
-    (s.unheard_call _ (assign.yield_operand_splits _ start) (c.in_err-star.ensures.eats g.B.Bodies.is_faithful))) (grows-same _)
+    assign.yield_well _ start x ts (ap (λ v. yield_ok v.context)
+    (same ∙ s.read_scope g.met.I.Tokens.laws same_at.read) ∙ c.in_ok-refuse_yield_param.ensures.passes.1)
+    ∙ assign.yield_goes _ start x ts (ap goes_on_yield_at e ∙ sym c.in_ok-goes_on_yield.ensures.value
+    ∙ c.if-not-branch.false)))))
+    (s.unheard_call _ (assign.yield_operand_splits _ start) (c.in_err-star.ensures.eats g.B.Bodies.is_faithful)))
+    (grows-same _)
 
 pub parse_yield_expr-returns-in-Ok : goal.parse_yield_expr-returns-in-Ok
 parse_yield_expr-returns-in-Ok g t c =
     let first = c.skip.ensures.took.1 in
     let start = c.cur_span-start.result in
     let place = s.place_was first c.cur_span-start.result c.cur_span-start.ensures in
-    let same_at = s.leads_then (s.same_leads g.met.I.Tokens.laws c.in_ok-refuse_yield_param.ensures.passes.0) (s.here_leads c.in_ok-goes_on_yield.ensures.looks) in
+    let same_at = s.leads_then (s.same_leads g.met.I.Tokens.laws c.in_ok-refuse_yield_param.ensures.passes.0)
+    (s.here_leads c.in_ok-goes_on_yield.ensures.looks) in
     let star = c.in_ok-star.star in
     let e = tree_of c.parse_assignment_expr.new.p.nodes c.in-Ok.arg in
     let end = end_at c.parse_assignment_expr.new.p.nodes c.in-Ok.arg.0 in
     let given = ap (λ b. yield_e (from_to start.lo end) b e) (sym (assign.given_some star) ∙ sym c.is_some.ensures) in
     m.after {m = record c.args.p.now { input = c.goes_on_yield.new.input }} c.made-in-Ok.result
-    (s.on_then (s.on_took {g = yield_tail _ start} g.met.I.Tokens.laws first (λ x ts. assign.yield_opens _ (plain first.was) x ts ∙ ap (λ v. yield_tail g.B.BodyForms.forms v x ts) (sym place)))
+    (s.on_then (s.on_took {g = yield_tail _ start} g.met.I.Tokens.laws first
+    (λ x ts. assign.yield_opens _ (plain first.was) x ts ∙ ap (λ v. yield_tail g.B.BodyForms.forms v x ts)
+    (sym place)))
     (s.on_then (s.on_same {f = yield_tail _ start} g.met.I.Tokens.laws c.in_ok-refuse_yield_param.ensures.passes.0)
     (s.on_seen {g = yield_operand _ start} c.in_ok-goes_on_yield.ensures.looks (λ x ts same e.
-    assign.yield_well _ start x ts (ap (λ v. yield_ok v.context) (same ∙ s.read_scope g.met.I.Tokens.laws same_at.read) ∙ c.in_ok-refuse_yield_param.ensures.passes.1)
-    ∙ assign.yield_goes _ start x ts (ap goes_on_yield_at e ∙ sym c.in_ok-goes_on_yield.ensures.value ∙ c.if-not-branch.false)))))
+    assign.yield_well _ start x ts (ap (λ v. yield_ok v.context)
+    (same ∙ s.read_scope g.met.I.Tokens.laws same_at.read) ∙ c.in_ok-refuse_yield_param.ensures.passes.1)
+    ∙ assign.yield_goes _ start x ts (ap goes_on_yield_at e ∙ sym c.in_ok-goes_on_yield.ensures.value
+    ∙ c.if-not-branch.false)))))
     (grows-same _)
-    (m.node _ c.yield_expr-node.result c.made-in-Ok.result c.in-Ok.ensures.from.above c.yield_expr-node.ensures.made c.made-in-Ok.ensures.ok c.made-in-Ok.ensures.refused c.parse_assignment_expr.ensures.grows c.yield_expr-node.ensures.grows
-    (s.heard_answer given (s.heard_after (s.on_call _ (assign.yield_operand_splits _ start) (s.eats_on g.B.Bodies.is_faithful is_star star _ _ (c.in_ok-star.ensures.eats g.B.Bodies.is_faithful)))
+    (m.node _ c.yield_expr-node.result c.made-in-Ok.result c.in-Ok.ensures.from.above c.yield_expr-node.ensures.made
+    c.made-in-Ok.ensures.ok c.made-in-Ok.ensures.refused c.parse_assignment_expr.ensures.grows
+    c.yield_expr-node.ensures.grows
+    (s.heard_answer given (s.heard_after (s.on_call _ (assign.yield_operand_splits _ start)
+    (s.eats_on g.B.Bodies.is_faithful is_star star _ _ (c.in_ok-star.ensures.eats g.B.Bodies.is_faithful)))
     (s.heard_call_read (λ x q. Some (yield_e (to start (span_of q.0)) (is_some star) q.0, q.1)) (λ x ts. refl)
     (λ x ts us h y ys. ap (λ v. Some (yield_e (from_to start.lo v) (is_some star) e, ys))
-    (sym (ending.ended _ g.met.B.Bodies.lawful c.in-Ok.arg Assign x ts us c.in-Ok.ensures.from h))) c.in-Ok.ensures.reads))))
+    (sym (ending.ended _ g.met.B.Bodies.lawful c.in-Ok.arg Assign x ts us c.in-Ok.ensures.from h)))
+    c.in-Ok.ensures.reads))))
 
 pub parse_yield_expr-returns-in-Err : goal.parse_yield_expr-returns-in-Err
 parse_yield_expr-returns-in-Err g t c =
     let first = c.skip.ensures.took.1 in
     let start = c.cur_span-start.result in
     let place = s.place_was first c.cur_span-start.result c.cur_span-start.ensures in
-    let same_at = s.leads_then (s.same_leads g.met.I.Tokens.laws c.in_ok-refuse_yield_param.ensures.passes.0) (s.here_leads c.in_ok-goes_on_yield.ensures.looks) in
+    let same_at = s.leads_then (s.same_leads g.met.I.Tokens.laws c.in_ok-refuse_yield_param.ensures.passes.0)
+    (s.here_leads c.in_ok-goes_on_yield.ensures.looks) in
     let star = c.in_ok-star.star in
     m.after {m = record c.args.p.now { input = c.goes_on_yield.new.input }} (Err _)
-    (s.on_then (s.on_took {g = yield_tail _ start} g.met.I.Tokens.laws first (λ x ts. assign.yield_opens _ (plain first.was) x ts ∙ ap (λ v. yield_tail g.B.BodyForms.forms v x ts) (sym place)))
+    (s.on_then (s.on_took {g = yield_tail _ start} g.met.I.Tokens.laws first
+    (λ x ts. assign.yield_opens _ (plain first.was) x ts ∙ ap (λ v. yield_tail g.B.BodyForms.forms v x ts)
+    (sym place)))
     (s.on_then (s.on_same {f = yield_tail _ start} g.met.I.Tokens.laws c.in_ok-refuse_yield_param.ensures.passes.0)
     (s.on_seen {g = yield_operand _ start} c.in_ok-goes_on_yield.ensures.looks (λ x ts same e.
-    assign.yield_well _ start x ts (ap (λ v. yield_ok v.context) (same ∙ s.read_scope g.met.I.Tokens.laws same_at.read) ∙ c.in_ok-refuse_yield_param.ensures.passes.1)
-    ∙ assign.yield_goes _ start x ts (ap goes_on_yield_at e ∙ sym c.in_ok-goes_on_yield.ensures.value ∙ c.if-not-branch.false)))))
+    assign.yield_well _ start x ts (ap (λ v. yield_ok v.context)
+    (same ∙ s.read_scope g.met.I.Tokens.laws same_at.read) ∙ c.in_ok-refuse_yield_param.ensures.passes.1)
+    ∙ assign.yield_goes _ start x ts (ap goes_on_yield_at e ∙ sym c.in_ok-goes_on_yield.ensures.value
+    ∙ c.if-not-branch.false)))))
     (grows-same _)
     (m.no (s.unheard_as c.label_yield.result c.label_yield.ensures.kind c.label_yield.ensures.memory
-    (s.unheard_after (s.on_call _ (assign.yield_operand_splits _ start) (s.eats_on g.B.Bodies.is_faithful is_star star _ _ (c.in_ok-star.ensures.eats g.B.Bodies.is_faithful)))
-    (s.unheard_call (λ x q. Some (yield_e (to start (span_of q.0)) (is_some star) q.0, q.1)) (λ x ts. refl) c.in-Err.ensures.reads)))
+    (s.unheard_after (s.on_call _ (assign.yield_operand_splits _ start)
+    (s.eats_on g.B.Bodies.is_faithful is_star star _ _ (c.in_ok-star.ensures.eats g.B.Bodies.is_faithful)))
+    (s.unheard_call (λ x q. Some (yield_e (to start (span_of q.0)) (is_some star) q.0, q.1))
+    (λ x ts. refl) c.in-Err.ensures.reads)))
     c.parse_assignment_expr.ensures.grows)
 
 pub parse_arrow_or_assign-parse_operators-requires : goal.parse_arrow_or_assign-parse_operators-requires
 parse_arrow_or_assign-parse_operators-requires g t c =
     let falls = (way.operated g.B.BodyForms.forms c.in-Base.is c.in-Ok.ensures).falls in
-    let one = apart-from (expr_part c.in-Base.operand) (from-down (omega arith) (way.operated g.B.BodyForms.forms c.in-Base.is c.in-Ok.ensures).from) in
+    let one = apart-from (expr_part c.in-Base.operand)
+    (from-down (omega arith) (way.operated g.B.BodyForms.forms c.in-Base.is c.in-Ok.ensures).from) in
     let apart = pending.operands-as {k = 0} c.in-Base.operand (sym c.new-pending.ensures) one in
     λ κs outlives. (search rules, (search rules, (search rules, (search rules, (search rules, (search rules, apart))))))
 
@@ -2201,7 +2775,8 @@ parse_arrow_or_assign-returns-in_err-left-in-Base g t c =
     let forms = g.B.BodyForms.forms in
     let ns = c.parse_arrow_or_operand.new.p.nodes in
     let o = s.on_here g.met.I.Tokens.laws _ (λ x ts.
-    pending.reads_none forms (tree_of ns) (all_pending c.new-pending.result) c.in-Base.operand x ts c.new-pending.ensures) in
+    pending.reads_none forms (tree_of ns) (all_pending c.new-pending.result) c.in-Base.operand x ts
+    c.new-pending.ensures) in
     m.refused c.from_residual-in_err-left-in-Base.ensures.1
     (s.unheard_after (way.operated g.B.BodyForms.forms c.in-Base.is c.in-Ok.ensures).reads.opens.on
     (s.unheard_call (way.climbed forms) (way.operand_climbs forms (tree_of ns c.in-Base.operand))
@@ -2215,34 +2790,42 @@ parse_arrow_or_assign-returns-in_ok-left-in-Base g t c =
     let ms = c.parse_operators.new.p.nodes in
     let left = c.in_ok-left-in-Base.left in
     let o = s.on_here g.met.I.Tokens.laws _ (λ x ts.
-    pending.reads_none forms (tree_of ns) (all_pending c.new-pending.result) c.in-Base.operand x ts c.new-pending.ensures) in
+    pending.reads_none forms (tree_of ns) (all_pending c.new-pending.result) c.in-Base.operand x ts
+    c.new-pending.ensures) in
     let from = c.in_ok-left-in-Base.ensures.from in
     let first = ap (λ e. first_at ns e.0) (pending.first_none c.in-Base.operand c.new-pending.ensures) in
     let low : count c.args.p.now.nodes ≤ first_at ms left.0 =
-    let a = (way.operated g.B.BodyForms.forms c.in-Base.is c.in-Ok.ensures).from.above in let b = from.above in omega arith in
+    let a = (way.operated g.B.BodyForms.forms c.in-Base.is c.in-Ok.ensures).from.above in let b = from.above in
+    omega arith in
     way.finished {j = first_at ms left.0} {m = c.parse_operators.new.p} c.finish_assignment_expr-in-Base.result
-    (way.operators_left forms (way.operated g.B.BodyForms.forms c.in-Base.is c.in-Ok.ensures).reads (s.on_then o c.in_ok-left-in-Base.ensures.reads)
+    (way.operators_left forms (way.operated g.B.BodyForms.forms c.in-Base.is c.in-Ok.ensures).reads
+    (s.on_then o c.in_ok-left-in-Base.ensures.reads)
     (λ v y ys. way.left_from forms left from v y ys))
     (grows-then c.in-Ok.ensures.grows c.in_ok-left-in-Base.ensures.grows)
     low (λ x. from-down low)
     c.finish_assignment_expr-in-Base.ensures
 
-pub parse_arrow_or_assign-parse_operators-requires-in-Operand : goal.parse_arrow_or_assign-parse_operators-requires-in-Operand
+pub parse_arrow_or_assign-parse_operators-requires-in-Operand :
+    goal.parse_arrow_or_assign-parse_operators-requires-in-Operand
 parse_arrow_or_assign-parse_operators-requires-in-Operand g t c =
     let falls = (way.operated g.B.BodyForms.forms c.in-Operand.is c.in-Ok.ensures).falls in
-    let one = apart-from (expr_part c.in-Operand.arrow) (from-down (omega arith) (way.operated g.B.BodyForms.forms c.in-Operand.is c.in-Ok.ensures).from) in
+    let one = apart-from (expr_part c.in-Operand.arrow)
+    (from-down (omega arith) (way.operated g.B.BodyForms.forms c.in-Operand.is c.in-Ok.ensures).from) in
     let apart = pending.operands-as {k = 0} c.in-Operand.arrow (sym c.new-pending.ensures) one in
     λ κs outlives. (search rules, (search rules, (search rules, (search rules, (search rules, (search rules, apart))))))
 
-pub parse_arrow_or_assign-recover_operators-requires-in-Err-parse_operators : goal.parse_arrow_or_assign-recover_operators-requires-in-Err-parse_operators
+pub parse_arrow_or_assign-recover_operators-requires-in-Err-parse_operators :
+    goal.parse_arrow_or_assign-recover_operators-requires-in-Err-parse_operators
 parse_arrow_or_assign-recover_operators-requires-in-Err-parse_operators g t c =
     let kind = c.in-Err-parse_operators.ensures.reads.refuses.kind in
     λ κs outlives. (search rules, (search rules, (search rules, (search rules, (search rules, (search rules, kind))))))
 
-pub parse_arrow_or_assign-returns-in_err-left-in-Err-parse_operators : goal.parse_arrow_or_assign-returns-in_err-left-in-Err-parse_operators
+pub parse_arrow_or_assign-returns-in_err-left-in-Err-parse_operators :
+    goal.parse_arrow_or_assign-returns-in_err-left-in-Err-parse_operators
 parse_arrow_or_assign-returns-in_err-left-in-Err-parse_operators g t c =
     let h = c.in_err-left-in-Err-parse_operators.ensures in
-    let u = doomed_unheard (way.operated g.B.BodyForms.forms c.in-Operand.is c.in-Ok.ensures).reads.doomed c.in-Err-parse_operators.ensures.reads.refuses in
+    let u = doomed_unheard (way.operated g.B.BodyForms.forms c.in-Operand.is c.in-Ok.ensures).reads.doomed
+    c.in-Err-parse_operators.ensures.reads.refuses in
     m.refused c.from_residual-in_err-left-in-Err-parse_operators.ensures.1
     (s.unheard_doomed u h.memory h.effect)
     (grows-then c.in-Ok.ensures.grows (grows-then c.in-Err-parse_operators.ensures.grows h.grows))
@@ -2250,41 +2833,52 @@ parse_arrow_or_assign-returns-in_err-left-in-Err-parse_operators g t c =
 pub parse_arrow_or_assign-returns-in-Err-parse_operators : goal.parse_arrow_or_assign-returns-in-Err-parse_operators
 parse_arrow_or_assign-returns-in-Err-parse_operators g t c =
     let h = c.in_ok-left-in-Err-parse_operators.ensures in
-    let u = doomed_unheard (way.operated g.B.BodyForms.forms c.in-Operand.is c.in-Ok.ensures).reads.doomed c.in-Err-parse_operators.ensures.reads.refuses in
+    let u = doomed_unheard (way.operated g.B.BodyForms.forms c.in-Operand.is c.in-Ok.ensures).reads.doomed
+    c.in-Err-parse_operators.ensures.reads.refuses in
     let grows = grows-then c.in-Ok.ensures.grows c.in-Err-parse_operators.ensures.grows in
     let a = grows-count grows in
     let b = h.from.above in
-    way.failed {m = c.recover_operators-in-Err-parse_operators.new.p} c.finish_assignment_expr-in-Err-parse_operators.result
+    way.failed {m = c.recover_operators-in-Err-parse_operators.new.p}
+    c.finish_assignment_expr-in-Err-parse_operators.result
     (again.fails_recovered u h.some h.effect h.notes)
     (grows-then grows h.grows)
     (omega arith) (λ x. from-down (omega arith))
     c.finish_assignment_expr-in-Err-parse_operators.ensures
 
-pub parse_arrow_or_assign-returns-in_err-check_operators_end-in-Operand : goal.parse_arrow_or_assign-returns-in_err-check_operators_end-in-Operand
+pub parse_arrow_or_assign-returns-in_err-check_operators_end-in-Operand :
+    goal.parse_arrow_or_assign-returns-in_err-check_operators_end-in-Operand
 parse_arrow_or_assign-returns-in_err-check_operators_end-in-Operand g t c =
     m.refused c.from_residual-in_err-check_operators_end-in-Operand.ensures.1
-    (doomed_unheard (doomed_later (way.operated g.B.BodyForms.forms c.in-Operand.is c.in-Ok.ensures).reads.doomed c.in-Ok-parse_operators.ensures.reads.leads)
+    (doomed_unheard (doomed_later (way.operated g.B.BodyForms.forms c.in-Operand.is c.in-Ok.ensures).reads.doomed
+    c.in-Ok-parse_operators.ensures.reads.leads)
     (s.forgoes_refuses c.in_err-check_operators_end-in-Operand.ensures.tries))
     (grows-then c.in-Ok.ensures.grows c.in-Ok-parse_operators.ensures.grows)
 
-pub parse_arrow_or_assign-returns-in_err-check_nullish_left-in-Operand : goal.parse_arrow_or_assign-returns-in_err-check_nullish_left-in-Operand
+pub parse_arrow_or_assign-returns-in_err-check_nullish_left-in-Operand :
+    goal.parse_arrow_or_assign-returns-in_err-check_nullish_left-in-Operand
 parse_arrow_or_assign-returns-in_err-check_nullish_left-in-Operand g t c =
     m.refused c.from_residual-in_err-check_nullish_left-in-Operand.ensures.1
-    (doomed_unheard (doomed_later (doomed_later (way.operated g.B.BodyForms.forms c.in-Operand.is c.in-Ok.ensures).reads.doomed c.in-Ok-parse_operators.ensures.reads.leads)
+    (doomed_unheard (doomed_later (doomed_later (way.operated g.B.BodyForms.forms c.in-Operand.is
+    c.in-Ok.ensures).reads.doomed c.in-Ok-parse_operators.ensures.reads.leads)
     c.in_ok-check_operators_end-in-Operand.ensures.tries)
     (s.forgoes_refuses c.in_err-check_nullish_left-in-Operand.ensures.checks))
     (grows-then c.in-Ok.ensures.grows c.in-Ok-parse_operators.ensures.grows)
 
-pub parse_arrow_or_assign-returns-in_ok-check_nullish_left-in-Operand : goal.parse_arrow_or_assign-returns-in_ok-check_nullish_left-in-Operand
+pub parse_arrow_or_assign-returns-in_ok-check_nullish_left-in-Operand :
+    goal.parse_arrow_or_assign-returns-in_ok-check_nullish_left-in-Operand
 parse_arrow_or_assign-returns-in_ok-check_nullish_left-in-Operand g t c =
     let from = c.in-Ok-parse_operators.ensures.from in
     let first = ap (λ e. first_at c.parse_arrow_or_operand.new.p.nodes e.0)
     (pending.first_none c.in-Operand.arrow c.new-pending.ensures) in
-    let low : count c.args.p.now.nodes ≤ first_at c.parse_operators-in-Operand.new.p.nodes c.in-Ok-parse_operators.left.0 =
-    let a = (way.operated g.B.BodyForms.forms c.in-Operand.is c.in-Ok.ensures).from.above in let b = from.above in omega arith in
-    way.failed {j = first_at c.parse_operators-in-Operand.new.p.nodes c.in-Ok-parse_operators.left.0} {m = record c.parse_operators-in-Operand.new.p { input = c.check_nullish_left.new.input }}
+    let low : count c.args.p.now.nodes ≤ first_at c.parse_operators-in-Operand.new.p.nodes
+    c.in-Ok-parse_operators.left.0 =
+    let a = (way.operated g.B.BodyForms.forms c.in-Operand.is c.in-Ok.ensures).from.above in let b = from.above in
+    omega arith in
+    way.failed {j = first_at c.parse_operators-in-Operand.new.p.nodes c.in-Ok-parse_operators.left.0}
+    {m = record c.parse_operators-in-Operand.new.p { input = c.check_nullish_left.new.input }}
     c.finish_assignment_expr-in-Operand.result
-    (fails_later (fails_later (fails_later (way.operated g.B.BodyForms.forms c.in-Operand.is c.in-Ok.ensures).reads c.in-Ok-parse_operators.ensures.reads.leads)
+    (fails_later (fails_later (fails_later (way.operated g.B.BodyForms.forms c.in-Operand.is c.in-Ok.ensures).reads
+    c.in-Ok-parse_operators.ensures.reads.leads)
     c.in_ok-check_operators_end-in-Operand.ensures.tries) c.in_ok-check_nullish_left-in-Operand.ensures.checks.leads)
     (grows-then c.in-Ok.ensures.grows c.in-Ok-parse_operators.ensures.grows)
     low (λ x. from-down low)
@@ -2295,7 +2889,8 @@ parse_arrow_or_assign-returns-in_err-left-in-Other g t c =
     let forms = g.B.BodyForms.forms in
     m.refused c.from_residual-in_err-left-in-Other.ensures.1
     (s.unheard_after (way.operated g.B.BodyForms.forms c.in-Other.is c.in-Ok.ensures).reads
-    (s.unheard_call (λ x p. run forms (assigns p.0) x p.1) (begun.others_splits forms) c.in_err-left-in-Other.ensures.reads))
+    (s.unheard_call (λ x p. run forms (assigns p.0) x p.1)
+    (begun.others_splits forms) c.in_err-left-in-Other.ensures.reads))
     (grows-then c.in-Ok.ensures.grows c.in_err-left-in-Other.ensures.grows)
 
 pub parse_arrow_or_assign-returns-in_ok-left-in-Other : goal.parse_arrow_or_assign-returns-in_ok-left-in-Other
@@ -2307,9 +2902,11 @@ parse_arrow_or_assign-returns-in_ok-left-in-Other g t c =
     let low : count c.args.p.now.nodes ≤ first_at ns left.0 =
     let a = grows-count c.in-Ok.ensures.grows in let b = from.above in omega arith in
     way.finished {j = first_at ns left.0} {m = c.parse_bin_expr.new.p} c.finish_assignment_expr-in-Other.result
-    (opens_after (way.operated g.B.BodyForms.forms c.in-Other.is c.in-Ok.ensures).reads (opens_call_read (λ x p. run forms (assigns p.0) x p.1) (begun.others_splits forms)
+    (opens_after (way.operated g.B.BodyForms.forms c.in-Other.is c.in-Ok.ensures).reads
+    (opens_call_read (λ x p. run forms (assigns p.0) x p.1) (begun.others_splits forms)
     c.in_ok-left-in-Other.ensures.reads (λ x ts us h y ys.
-    way.left_from forms left from (ending.read-valid forms g.met.B.Bodies.lawful (Level 1) x ts us (tree_of ns left) h) y ys)))
+    way.left_from forms left from (ending.read-valid forms g.met.B.Bodies.lawful (Level 1) x ts us (tree_of ns left) h)
+    y ys)))
     (grows-then c.in-Ok.ensures.grows c.in_ok-left-in-Other.ensures.grows)
     low (λ x. from-down low)
     c.finish_assignment_expr-in-Other.ensures
@@ -2324,7 +2921,8 @@ pub parse_arrow_or_assign-returns-in_err-left-in-Err : goal.parse_arrow_or_assig
 parse_arrow_or_assign-returns-in_err-left-in-Err g t c =
     let h = c.in_err-left-in-Err.ensures in
     m.refused c.from_residual.ensures.1
-    (s.unheard_doomed c.in-Err.ensures.reads h.memory h.effect) (grows-then c.parse_arrow_or_operand.ensures.grows h.grows)
+    (s.unheard_doomed c.in-Err.ensures.reads h.memory h.effect)
+    (grows-then c.parse_arrow_or_operand.ensures.grows h.grows)
 
 pub parse_arrow_or_assign-returns-in-Err : goal.parse_arrow_or_assign-returns-in-Err
 parse_arrow_or_assign-returns-in-Err g t c =
@@ -2340,7 +2938,8 @@ parse_arrow_or_assign-returns-in-Err g t c =
 pub parse_arrow_or_operand-parse_subscripts-requires : goal.parse_arrow_or_operand-parse_subscripts-requires
 parse_arrow_or_operand-parse_subscripts-requires g t c =
     let falls = (way.answered g.B.BodyForms.forms c.in-Base.is c.in_ok-other.ensures).falls in
-    let from = from-down {k = 0} (omega arith) (way.answered g.B.BodyForms.forms c.in-Base.is c.in_ok-other.ensures).from in
+    let from = from-down {k = 0} (omega arith) (way.answered g.B.BodyForms.forms c.in-Base.is
+    c.in_ok-other.ensures).from in
     λ κs outlives. (search rules, (search rules, (search rules, (search rules, (search rules, (search rules, from))))))
 
 pub parse_arrow_or_operand-returns-in_err-callee-in-Base : goal.parse_arrow_or_operand-returns-in_err-callee-in-Base
@@ -2350,10 +2949,12 @@ parse_arrow_or_operand-returns-in_err-callee-in-Base g t c =
     way.operand_refused forms _ c.from_residual-in_err-callee-in-Base.ensures.1
     (s.unheard_after (way.answered g.B.BodyForms.forms c.in-Base.is c.in_ok-other.ensures).reads.opens.on
     (s.unheard_call (way.linked forms) (way.base_links forms e) c.in_err-callee-in-Base.ensures.reads))
-    (grows-then (way.answered g.B.BodyForms.forms c.in-Base.is c.in_ok-other.ensures).grows c.in_err-callee-in-Base.ensures.grows)
+    (grows-then (way.answered g.B.BodyForms.forms c.in-Base.is c.in_ok-other.ensures).grows
+    c.in_err-callee-in-Base.ensures.grows)
 
 pub parse_arrow_or_operand-parse_update_postfix-requires : goal.parse_arrow_or_operand-parse_update_postfix-requires
-parse_arrow_or_operand-parse_update_postfix-requires g t c = record { from = from-down (omega arith) c.in_ok-callee-in-Base.ensures.from }
+parse_arrow_or_operand-parse_update_postfix-requires g t c =
+    record { from = from-down (omega arith) c.in_ok-callee-in-Base.ensures.from }
 
 pub parse_arrow_or_operand-returns-in_err-operand-in-Base : goal.parse_arrow_or_operand-returns-in_err-operand-in-Base
 parse_arrow_or_operand-returns-in_err-operand-in-Base g t c =
@@ -2372,7 +2973,8 @@ parse_arrow_or_operand-returns-in_ok-operand-in-Base g t c =
     let a = (way.answered g.B.BodyForms.forms c.in-Base.is c.in_ok-other.ensures).from.above in
     let b = c.in_ok-callee-in-Base.ensures.from.above in
     way.operand_read forms c.in_ok-operand-in-Base.operand
-    (way.operanded forms g.met.B.Bodies.lawful (way.answered g.B.BodyForms.forms c.in-Base.is c.in_ok-other.ensures).reads
+    (way.operanded forms g.met.B.Bodies.lawful (way.answered g.B.BodyForms.forms c.in-Base.is
+    c.in_ok-other.ensures).reads
     c.in_ok-callee-in-Base.ensures.reads c.in_ok-operand-in-Base.ensures.reads)
     (grows-then (way.answered g.B.BodyForms.forms c.in-Base.is c.in_ok-other.ensures).grows
     (grows-then c.in_ok-callee-in-Base.ensures.grows c.in_ok-operand-in-Base.ensures.grows))
@@ -2386,14 +2988,16 @@ parse_arrow_or_base-returns-in_err-head_kind g t c =
 pub parse_arrow_or_base-returns-in-Other : goal.parse_arrow_or_base-returns-in-Other
 parse_arrow_or_base-returns-in-Other g t c =
     let forms = g.B.BodyForms.forms in
-    begun.may_other forms (told.head_told forms (others forms) c.requires.looked (told.told_by c.in-Other.is c.in_ok-head_kind.ensures.tells)
+    begun.may_other forms (told.head_told forms (others forms) c.requires.looked
+    (told.told_by c.in-Other.is c.in_ok-head_kind.ensures.tells)
     c.requires.fit c.requires.no_yield (λ x ts begins is. head_law.assign_others forms x ts begins is)) (grows-same _)
 
 pub parse_arrow_or_base-returns-in_err-head-in-Name : goal.parse_arrow_or_base-returns-in_err-head-in-Name
 parse_arrow_or_base-returns-in_err-head-in-Name g t c =
     let forms = g.B.BodyForms.forms in
     begun.may_refused forms _ c.from_residual-in_err-head-in-Name.ensures.1
-    (s.unheard_after (told.head_told forms (name_arrow forms) c.requires.looked (told.told_by c.in-Name.is c.in_ok-head_kind.ensures.tells)
+    (s.unheard_after (told.head_told forms (name_arrow forms) c.requires.looked
+    (told.told_by c.in-Name.is c.in_ok-head_kind.ensures.tells)
     c.requires.fit c.requires.no_yield (λ x ts begins is. head_law.assign_name forms x ts begins is))
     c.in_err-head-in-Name.ensures.leaves.reads) c.in_err-head-in-Name.ensures.leaves.grows
 
@@ -2401,7 +3005,8 @@ pub parse_arrow_or_base-parse_arrow_rest-requires : goal.parse_arrow_or_base-par
 parse_arrow_or_base-parse_arrow_rest-requires g t c =
     let falls = c.in_ok-head_kind.ensures.falls in
     let less = c.in_ok-head-in-Name.ensures.less in
-    let apart = told.head_apart c.parse_arrow_name.new.p.nodes c.in_ok-head-in-Name.field-0 (count c.args.p.now.nodes) 0 (omega arith) c.in-Arrow.is c.in_ok-head-in-Name.ensures.leaves.from in
+    let apart = told.head_apart c.parse_arrow_name.new.p.nodes c.in_ok-head-in-Name.field-0 (count c.args.p.now.nodes) 0
+    (omega arith) c.in-Arrow.is c.in_ok-head-in-Name.ensures.leaves.from in
     λ κs outlives. (search rules, (search rules, (search rules, (search rules, (search rules, (search rules, apart))))))
 
 pub parse_arrow_or_base-returns-in-Arrow : goal.parse_arrow_or_base-returns-in-Arrow
@@ -2409,25 +3014,30 @@ parse_arrow_or_base-returns-in-Arrow g t c =
     let forms = g.B.BodyForms.forms in
     let leaves = c.in_ok-head-in-Name.ensures.leaves in
     begun.may_arrow forms {m = c.parse_arrow_name.new.p} c.parse_arrow_rest.result
-    (s.on_then (told.head_told forms (name_arrow forms) c.requires.looked (told.told_by c.in-Name.is c.in_ok-head_kind.ensures.tells)
+    (s.on_then (told.head_told forms (name_arrow forms) c.requires.looked
+    (told.told_by c.in-Name.is c.in_ok-head_kind.ensures.tells)
     c.requires.fit c.requires.no_yield (λ x ts begins is. head_law.assign_name forms x ts begins is))
     (told.head_behind c.parse_arrow_name.new.p.nodes c.in_ok-head-in-Name.field-0 forms c.in-Arrow.is leaves.reads))
     leaves.grows (omega arith) (c.parse_arrow_rest.ensures (count c.args.p.now.nodes)
-    (told.head_apart c.parse_arrow_name.new.p.nodes c.in_ok-head-in-Name.field-0 (count c.args.p.now.nodes) (count c.args.p.now.nodes) (omega arith) c.in-Arrow.is leaves.from))
+    (told.head_apart c.parse_arrow_name.new.p.nodes c.in_ok-head-in-Name.field-0 (count c.args.p.now.nodes)
+    (count c.args.p.now.nodes) (omega arith) c.in-Arrow.is leaves.from))
 
 pub parse_arrow_or_base-returns-in_err-head-in-AsyncName : goal.parse_arrow_or_base-returns-in_err-head-in-AsyncName
 parse_arrow_or_base-returns-in_err-head-in-AsyncName g t c =
     let forms = g.B.BodyForms.forms in
     begun.may_refused forms _ c.from_residual-in_err-head-in-AsyncName.ensures.1
-    (s.unheard_after (told.head_told forms (async_arrow forms) c.requires.looked (told.told_by c.in-AsyncName.is c.in_ok-head_kind.ensures.tells)
+    (s.unheard_after (told.head_told forms (async_arrow forms) c.requires.looked
+    (told.told_by c.in-AsyncName.is c.in_ok-head_kind.ensures.tells)
     c.requires.fit c.requires.no_yield (λ x ts begins is. head_law.assign_async_name forms x ts begins is))
     c.in_err-head-in-AsyncName.ensures.leaves.reads) c.in_err-head-in-AsyncName.ensures.leaves.grows
 
-pub parse_arrow_or_base-parse_arrow_rest-requires-in-Arrow-2 : goal.parse_arrow_or_base-parse_arrow_rest-requires-in-Arrow-2
+pub parse_arrow_or_base-parse_arrow_rest-requires-in-Arrow-2 :
+    goal.parse_arrow_or_base-parse_arrow_rest-requires-in-Arrow-2
 parse_arrow_or_base-parse_arrow_rest-requires-in-Arrow-2 g t c =
     let falls = c.in_ok-head_kind.ensures.falls in
     let less = c.in_ok-head-in-AsyncName.ensures.less in
-    let apart = told.head_apart c.parse_async_name.new.p.nodes c.in_ok-head-in-AsyncName.field-0 (count c.args.p.now.nodes) 0 (omega arith) c.in-Arrow-2.is c.in_ok-head-in-AsyncName.ensures.leaves.from in
+    let apart = told.head_apart c.parse_async_name.new.p.nodes c.in_ok-head-in-AsyncName.field-0
+    (count c.args.p.now.nodes) 0 (omega arith) c.in-Arrow-2.is c.in_ok-head-in-AsyncName.ensures.leaves.from in
     λ κs outlives. (search rules, (search rules, (search rules, (search rules, (search rules, (search rules, apart))))))
 
 pub parse_arrow_or_base-returns-in-Arrow-2 : goal.parse_arrow_or_base-returns-in-Arrow-2
@@ -2435,11 +3045,14 @@ parse_arrow_or_base-returns-in-Arrow-2 g t c =
     let forms = g.B.BodyForms.forms in
     let leaves = c.in_ok-head-in-AsyncName.ensures.leaves in
     begun.may_arrow forms {m = c.parse_async_name.new.p} c.parse_arrow_rest-in-Arrow-2.result
-    (s.on_then (told.head_told forms (async_arrow forms) c.requires.looked (told.told_by c.in-AsyncName.is c.in_ok-head_kind.ensures.tells)
+    (s.on_then (told.head_told forms (async_arrow forms) c.requires.looked
+    (told.told_by c.in-AsyncName.is c.in_ok-head_kind.ensures.tells)
     c.requires.fit c.requires.no_yield (λ x ts begins is. head_law.assign_async_name forms x ts begins is))
-    (told.head_behind c.parse_async_name.new.p.nodes c.in_ok-head-in-AsyncName.field-0 forms c.in-Arrow-2.is leaves.reads))
+    (told.head_behind c.parse_async_name.new.p.nodes c.in_ok-head-in-AsyncName.field-0 forms c.in-Arrow-2.is
+    leaves.reads))
     leaves.grows (omega arith) (c.parse_arrow_rest-in-Arrow-2.ensures (count c.args.p.now.nodes)
-    (told.head_apart c.parse_async_name.new.p.nodes c.in_ok-head-in-AsyncName.field-0 (count c.args.p.now.nodes) (count c.args.p.now.nodes) (omega arith) c.in-Arrow-2.is leaves.from))
+    (told.head_apart c.parse_async_name.new.p.nodes c.in_ok-head-in-AsyncName.field-0 (count c.args.p.now.nodes)
+    (count c.args.p.now.nodes) (omega arith) c.in-Arrow-2.is leaves.from))
 
 pub parse_arrow_or_base-returns-in-Base-2 : goal.parse_arrow_or_base-returns-in-Base-2
 parse_arrow_or_base-returns-in-Base-2 g t c =
@@ -2449,16 +3062,22 @@ parse_arrow_or_base-returns-in-Base-2 g t c =
     begun.may_base forms c.in-Base-2.base (record {
       opens = opens_after (told.head_told forms (async_arrow forms) c.requires.looked tells
           c.requires.fit c.requires.no_yield (λ x ts begins is. head_law.assign_async_name forms x ts begins is))
-          (told.base_opens c.parse_async_name.new.p.nodes c.in_ok-head-in-AsyncName.field-0 forms c.in-Base-2.is async.opens);
-      heard = base_law.operand_told forms c.requires.looked tells (base_law.async_heard forms g.met.B.Bodies.lawful (told.base_hears c.parse_async_name.new.p.nodes c.in_ok-head-in-AsyncName.field-0 c.in-Base-2.is async.base));
-    }) async.leaves.grows (told.base_from c.parse_async_name.new.p.nodes c.in_ok-head-in-AsyncName.field-0 (count c.args.p.now.nodes) c.in-Base-2.is async.leaves.from)
+          (told.base_opens c.parse_async_name.new.p.nodes c.in_ok-head-in-AsyncName.field-0 forms c.in-Base-2.is
+          async.opens);
+      heard = base_law.operand_told forms c.requires.looked tells
+          (base_law.async_heard forms g.met.B.Bodies.lawful
+          (told.base_hears c.parse_async_name.new.p.nodes c.in_ok-head-in-AsyncName.field-0 c.in-Base-2.is async.base));
+    }) async.leaves.grows (told.base_from c.parse_async_name.new.p.nodes c.in_ok-head-in-AsyncName.field-0
+    (count c.args.p.now.nodes) c.in-Base-2.is async.leaves.from)
 
 pub parse_arrow_or_base-returns-in_err-start-in-List : goal.parse_arrow_or_base-returns-in_err-start-in-List
 parse_arrow_or_base-returns-in_err-start-in-List g t c =
     let forms = g.B.BodyForms.forms in
     begun.may_refused forms _ c.from_residual-in_err-start-in-List.ensures.1
-    (s.unheard_after (told.head_told forms (list_head forms c.in-List.is_async) c.requires.looked (told.told_by c.in-List.is c.in_ok-head_kind.ensures.tells)
-    c.requires.fit c.requires.no_yield (λ x ts begins is. head_law.assign_listed forms x c.in-List.is_async ts begins is))
+    (s.unheard_after (told.head_told forms (list_head forms c.in-List.is_async) c.requires.looked
+    (told.told_by c.in-List.is c.in_ok-head_kind.ensures.tells)
+    c.requires.fit c.requires.no_yield (λ x ts begins is.
+    head_law.assign_listed forms x c.in-List.is_async ts begins is))
     c.in_err-start-in-List.ensures.leaves.reads) c.in_err-start-in-List.ensures.leaves.grows
 
 pub parse_arrow_or_base-returns-in_err-list-in-List : goal.parse_arrow_or_base-returns-in_err-list-in-List
@@ -2468,8 +3087,10 @@ parse_arrow_or_base-returns-in_err-list-in-List g t c =
     let start = c.in_ok-start-in-List.start in
     let callee = callee_at c.open_list.new.p.nodes start.callee in
     begun.may_refused forms _ c.from_residual-in_err-list-in-List.ensures.1
-    (s.unheard_after (s.on_then (told.head_told forms (list_head forms c.in-List.is_async) c.requires.looked (told.told_by c.in-List.is c.in_ok-head_kind.ensures.tells)
-    c.requires.fit c.requires.no_yield (λ x ts begins is. head_law.assign_listed forms x c.in-List.is_async ts begins is)) leaves.reads)
+    (s.unheard_after (s.on_then (told.head_told forms (list_head forms c.in-List.is_async) c.requires.looked
+    (told.told_by c.in-List.is c.in_ok-head_kind.ensures.tells)
+    c.requires.fit c.requires.no_yield (λ x ts begins is.
+    head_law.assign_listed forms x c.in-List.is_async ts begins is)) leaves.reads)
     (s.unheard_call (λ x q. list_behind forms callee start.at q.0 x q.1) (begun.list_splits forms callee start.at)
     c.in_err-list-in-List.ensures.reads)) (grows-then leaves.grows c.in_err-list-in-List.ensures.grows)
 
@@ -2494,10 +3115,12 @@ parse_arrow_or_base-returns-in_err-head-in-List g t c =
     (apart-more list.grows opened.leaves.from list.from) in
     begun.may_refused forms _ c.from_residual-in_err-head-in-List.ensures.1
     (s.unheard_after (told.list_opened forms g.met.B.Bodies.lawful start c.in_ok-list-in-List.list
-    (s.on_then told_list opened.leaves.reads) opened.callee opened.leaves.from list.grows list.from list.reads).on w.reads)
+    (s.on_then told_list opened.leaves.reads) opened.callee opened.leaves.from list.grows list.from list.reads).on
+    w.reads)
     (cover_kept.grows-kept (grows-then opened.leaves.grows list.grows) (omega arith) w.kept)
 
-pub parse_arrow_or_base-parse_arrow_rest-requires-in-Arrow-3 : goal.parse_arrow_or_base-parse_arrow_rest-requires-in-Arrow-3
+pub parse_arrow_or_base-parse_arrow_rest-requires-in-Arrow-3 :
+    goal.parse_arrow_or_base-parse_arrow_rest-requires-in-Arrow-3
 parse_arrow_or_base-parse_arrow_rest-requires-in-Arrow-3 g t c =
     let opened = c.in_ok-start-in-List.ensures in
     let list = c.in_ok-list-in-List.ensures in
@@ -2509,7 +3132,8 @@ parse_arrow_or_base-parse_arrow_rest-requires-in-Arrow-3 g t c =
     let less = opened.less in
     let read = list.falls in
     let closed = w.falls in
-    let apart = told.head_apart c.close_list.new.p.nodes c.in_ok-head-in-List.field-0 (count c.args.p.now.nodes) 0 (omega arith) c.in-Arrow-3.is w.from in
+    let apart = told.head_apart c.close_list.new.p.nodes c.in_ok-head-in-List.field-0 (count c.args.p.now.nodes) 0
+    (omega arith) c.in-Arrow-3.is w.from in
     λ κs outlives. (search rules, (search rules, (search rules, (search rules, (search rules, (search rules, apart))))))
 
 pub parse_arrow_or_base-returns-in-Arrow-3 : goal.parse_arrow_or_base-returns-in-Arrow-3
@@ -2531,7 +3155,8 @@ parse_arrow_or_base-returns-in-Arrow-3 g t c =
     (told.head_behind c.close_list.new.p.nodes c.in_ok-head-in-List.field-0 forms c.in-Arrow-3.is w.reads))
     (cover_kept.grows-kept (grows-then opened.leaves.grows list.grows) (omega arith) w.kept) (omega arith)
     (c.parse_arrow_rest-in-Arrow-3.ensures (count c.args.p.now.nodes)
-    (told.head_apart c.close_list.new.p.nodes c.in_ok-head-in-List.field-0 (count c.args.p.now.nodes) (count c.args.p.now.nodes) (omega arith) c.in-Arrow-3.is w.from))
+    (told.head_apart c.close_list.new.p.nodes c.in_ok-head-in-List.field-0 (count c.args.p.now.nodes)
+    (count c.args.p.now.nodes) (omega arith) c.in-Arrow-3.is w.from))
 
 pub parse_arrow_or_base-returns-in-Base-3 : goal.parse_arrow_or_base-returns-in-Base-3
 parse_arrow_or_base-returns-in-Base-3 g t c =
@@ -2553,9 +3178,11 @@ parse_arrow_or_base-returns-in-Base-3 g t c =
       heard = base_law.operand_told forms c.requires.looked tells
           (told.list_operand forms g.met.B.Bodies.lawful c.in-List.is_async start c.in_ok-list-in-List.list
           opened.leaves.from list.grows list.from opened.opens list.reads
-          (told.base_is c.close_list.new.p.nodes c.in_ok-head-in-List.field-0 c.in-Base-3.is c.in_ok-head-in-List.ensures.base));
+          (told.base_is c.close_list.new.p.nodes c.in_ok-head-in-List.field-0 c.in-Base-3.is
+          c.in_ok-head-in-List.ensures.base));
     }) (cover_kept.grows-kept (grows-then opened.leaves.grows list.grows) (omega arith) w.kept)
-    (told.base_from c.close_list.new.p.nodes c.in_ok-head-in-List.field-0 (count c.args.p.now.nodes) c.in-Base-3.is w.from)
+    (told.base_from c.close_list.new.p.nodes c.in_ok-head-in-List.field-0
+    (count c.args.p.now.nodes) c.in-Base-3.is w.from)
 
 pub parse_arrow_rest-returns-in-Err : goal.parse_arrow_rest-returns-in-Err
 parse_arrow_rest-returns-in-Err g t c = λ k apart. begun.rest_refused
@@ -2576,7 +3203,8 @@ parse_arrow_rest-returns-in-Ok g t c =
     let read = c.in-Ok.ensures.reads in
     let b = c.in-Ok.body in
     λ k apart. begun.arrow_read {m = c.parse_arrow_body.new.p} c.arrow_function.result
-    (opens_call_read {g = λ x ts. arrow_end h.start (body_end ns b) h.is_async h.in_parens (pat_trees (tree_at ns) h.params)
+    (opens_call_read {g = λ x ts. arrow_end h.start (body_end ns b) h.is_async h.in_parens
+    (pat_trees (tree_at ns) h.params)
     (body_at ns b) ts} (λ x p. arrow_end h.start (span_of p.0).hi h.is_async h.in_parens ps p.0 p.1)
     (begun.arrow_splits forms h.start h.is_async h.in_parens ps) read.reads (λ x ts us f y ys.
     begun.end_same forms g.met.B.Bodies.lawful h.start h.is_async h.in_parens ps b read.from x ts us f ys
@@ -2597,22 +3225,26 @@ pub parse_arrow_body-returns-clause-reads : goal.parse_arrow_body-returns-clause
 parse_arrow_body-returns-clause-reads g t c =
     let forms = g.B.BodyForms.forms in
     let start = record c.args.p.now { input = c.enter_arrow_body-before.new.input } in
-    let read : Produces g.I.Tokens.model g.B.Bodies.is_faithful body_of body_at (bodies.body_by forms g.B.Block.Spanned.place)
+    let read : Produces g.I.Tokens.model g.B.Bodies.is_faithful body_of body_at
+    (bodies.body_by forms g.B.Block.Spanned.place)
     (count c.args.p.now.nodes) start c.if-value.body c.if-value.p =
     elim c.if-value.branch [
       | parse_arrow_body-then-value w ↦ rw (w.p-is, w.body-is)
           (m.after {m = record start { input = c.begins_block.new.input }} w.parse_block_body-body.result
           (s.on_seen {g = block_inside forms g.B.Block.Spanned.place} c.in-Ok.ensures.looks (λ x ts same e.
-          bodies.block_read forms g.B.Block.Spanned.place x ts (ap (at_token is_brace) e ∙ sym c.in-Ok.ensures.value ∙ w.if-value.true)))
+          bodies.block_read forms g.B.Block.Spanned.place x ts
+          (ap (at_token is_brace) e ∙ sym c.in-Ok.ensures.value ∙ w.if-value.true)))
           (grows-same _) w.parse_block_body-body.ensures)
       | parse_arrow_body-else-value+in-Ok-parse_assignment_expr w ↦ rw (w.p-is, w.body-is)
           (m.yes (Ok _) (s.heard_after (s.on_seen {g = run forms (at Assign)} c.in-Ok.ensures.looks (λ x ts same e.
-          bodies.expr_read forms g.B.Block.Spanned.place x ts (ap (at_token is_brace) e ∙ sym c.in-Ok.ensures.value ∙ w.if-value.false)))
+          bodies.expr_read forms g.B.Block.Spanned.place x ts
+          (ap (at_token is_brace) e ∙ sym c.in-Ok.ensures.value ∙ w.if-value.false)))
           w.in-Ok-parse_assignment_expr.ensures.reads) w.in-Ok-parse_assignment_expr.ensures.grows
           (apart-from (expr_part w.in-Ok-parse_assignment_expr.expr) w.in-Ok-parse_assignment_expr.ensures.from))
       | parse_arrow_body-else-value+in-Err-parse_assignment_expr w ↦ rw (w.p-is, w.body-is)
           (m.no (s.unheard_after (s.on_seen {g = run forms (at Assign)} c.in-Ok.ensures.looks (λ x ts same e.
-          bodies.expr_read forms g.B.Block.Spanned.place x ts (ap (at_token is_brace) e ∙ sym c.in-Ok.ensures.value ∙ w.if-value.false)))
+          bodies.expr_read forms g.B.Block.Spanned.place x ts
+          (ap (at_token is_brace) e ∙ sym c.in-Ok.ensures.value ∙ w.if-value.false)))
           w.in-Err-parse_assignment_expr.ensures.reads) w.in-Err-parse_assignment_expr.ensures.grows)
     ] in
     bodies.within_body forms g.met.B.Bodies.lawful c.args.is_async c.args.p.now.found_module_item
@@ -2622,74 +3254,110 @@ parse_arrow_body-returns-clause-reads g t c =
 pub finish_assignment_expr-returns-in_err-look : goal.finish_assignment_expr-returns-in_err-look
 finish_assignment_expr-returns-in_err-look g t c =
     rewriting.refused c.from_residual.ensures.1
-    (s.unheard_memory c.in_err-look.ensures.looks) (let w = c.requires.from.within in let f = c.requires.from.first in omega arith) (grows-same _)
+    (s.unheard_memory c.in_err-look.ensures.looks) (let w = c.requires.from.within in let f = c.requires.from.first in
+    omega arith) (grows-same _)
 
 pub finish_assignment_expr-returns-in_err-cons : goal.finish_assignment_expr-returns-in_err-cons
 finish_assignment_expr-returns-in_err-cons g t c =
     let l = tree_of c.args.p.now.nodes c.args.left in
     let lo = start_at c.args.p.now.nodes c.args.left.0 in
-    let middle = assign.in_middle g.I.Tokens.model g.B.Bodies.is_faithful _ _ c.get_ctx-ctx.result c.parse_assignment_expr-middle.result c.get_ctx-ctx.ensures c.set_ctx.ensures.moves
-    (c.set_ctx.ensures.context ∙ c.cond_middle.ensures) c.parse_assignment_expr-middle.ensures.reads c.set_ctx-then-is_sign.ensures.moves c.set_ctx-then-is_sign.ensures.context in
+    let middle = assign.in_middle g.I.Tokens.model g.B.Bodies.is_faithful _ _ c.get_ctx-ctx.result
+    c.parse_assignment_expr-middle.result c.get_ctx-ctx.ensures c.set_ctx.ensures.moves
+    (c.set_ctx.ensures.context ∙ c.cond_middle.ensures) c.parse_assignment_expr-middle.ensures.reads
+    c.set_ctx-then-is_sign.ensures.moves c.set_ctx-then-is_sign.ensures.context in
     rewriting.refused c.from_residual-in_err-cons.ensures.1
-    (s.unheard_after (s.on_seen {g = behind (cond_tail _ lo l)} c.in_ok-look.ensures.looks (λ x ts same e. assign.from_question _ lo l x ts (ap (at_token is_question) e ∙ sym c.is_sign.ensures.value ∙ c.if-is_sign.true)))
+    (s.unheard_after (s.on_seen {g = behind (cond_tail _ lo l)} c.in_ok-look.ensures.looks
+    (λ x ts same e. assign.from_question _ lo l x ts
+    (ap (at_token is_question) e ∙ sym c.is_sign.ensures.value ∙ c.if-is_sign.true)))
     (s.unheard_after (s.on_took {g = cond_tail _ lo l} g.met.I.Tokens.laws c.skip.ensures.took.1 (λ x ts. refl))
     (s.unheard_call _ (assign.cond_tail_splits _ lo l)
-    (s.parses_err g.I.Tokens.model g.B.Bodies.is_faithful (tree_of c.parse_assignment_expr-middle.new.p.nodes) (inside _) _ _ c.parse_assignment_expr-middle.result _ c.in_err-cons.was middle))))
-    (let w = c.requires.from.within in let f = c.requires.from.first in omega arith) c.parse_assignment_expr-middle.ensures.grows
+    (s.parses_err g.I.Tokens.model g.B.Bodies.is_faithful (tree_of c.parse_assignment_expr-middle.new.p.nodes)
+    (inside _) _ _ c.parse_assignment_expr-middle.result _ c.in_err-cons.was middle))))
+    (let w = c.requires.from.within in let f = c.requires.from.first in
+    omega arith) c.parse_assignment_expr-middle.ensures.grows
 
 pub finish_assignment_expr-returns-in_err-expect : goal.finish_assignment_expr-returns-in_err-expect
 finish_assignment_expr-returns-in_err-expect g t c =
     let l = tree_of c.args.p.now.nodes c.args.left in
     let lo = start_at c.args.p.now.nodes c.args.left.0 in
     let e = tree_of c.parse_assignment_expr-middle.new.p.nodes c.in_ok-cons.cons in
-    let middle = assign.in_middle g.I.Tokens.model g.B.Bodies.is_faithful _ _ c.get_ctx-ctx.result c.parse_assignment_expr-middle.result c.get_ctx-ctx.ensures c.set_ctx.ensures.moves
-    (c.set_ctx.ensures.context ∙ c.cond_middle.ensures) c.parse_assignment_expr-middle.ensures.reads c.set_ctx-then-is_sign.ensures.moves c.set_ctx-then-is_sign.ensures.context in
-    let read = s.parses_ok g.I.Tokens.model g.B.Bodies.is_faithful (tree_of c.parse_assignment_expr-middle.new.p.nodes) (inside _) _ _ c.parse_assignment_expr-middle.result c.in_ok-cons.cons c.in_ok-cons.was middle in
+    let middle = assign.in_middle g.I.Tokens.model g.B.Bodies.is_faithful _ _ c.get_ctx-ctx.result
+    c.parse_assignment_expr-middle.result c.get_ctx-ctx.ensures c.set_ctx.ensures.moves
+    (c.set_ctx.ensures.context ∙ c.cond_middle.ensures) c.parse_assignment_expr-middle.ensures.reads
+    c.set_ctx-then-is_sign.ensures.moves c.set_ctx-then-is_sign.ensures.context in
+    let read = s.parses_ok g.I.Tokens.model g.B.Bodies.is_faithful (tree_of c.parse_assignment_expr-middle.new.p.nodes)
+    (inside _) _ _ c.parse_assignment_expr-middle.result c.in_ok-cons.cons c.in_ok-cons.was middle in
     rewriting.refused c.from_residual-in_err-expect.ensures.1
-    (s.unheard_after (s.on_seen {g = behind (cond_tail _ lo l)} c.in_ok-look.ensures.looks (λ x ts same e. assign.from_question _ lo l x ts (ap (at_token is_question) e ∙ sym c.is_sign.ensures.value ∙ c.if-is_sign.true)))
-    (s.unheard_after (s.on_then (s.on_took {g = cond_tail _ lo l} g.met.I.Tokens.laws c.skip.ensures.took.1 (λ x ts. refl))
+    (s.unheard_after (s.on_seen {g = behind (cond_tail _ lo l)} c.in_ok-look.ensures.looks
+    (λ x ts same e. assign.from_question _ lo l x ts
+    (ap (at_token is_question) e ∙ sym c.is_sign.ensures.value ∙ c.if-is_sign.true)))
+    (s.unheard_after (s.on_then (s.on_took {g = cond_tail _ lo l} g.met.I.Tokens.laws c.skip.ensures.took.1
+    (λ x ts. refl))
     (s.on_call _ (assign.cond_tail_splits _ lo l) read.on))
-    (s.unheard_call (λ x q. cond_close _ lo l e x q.1) (λ x ts. refl) (c.in_err-expect.ensures.expects g.B.Bodies.is_faithful)))) (let w = c.requires.from.within in let f = c.requires.from.first in omega arith) c.parse_assignment_expr-middle.ensures.grows
+    (s.unheard_call (λ x q. cond_close _ lo l e x q.1) (λ x ts. refl)
+    (c.in_err-expect.ensures.expects g.B.Bodies.is_faithful)))) (let w = c.requires.from.within in
+    let f = c.requires.from.first in omega arith) c.parse_assignment_expr-middle.ensures.grows
 
 pub finish_assignment_expr-returns-in_err-alt : goal.finish_assignment_expr-returns-in_err-alt
 finish_assignment_expr-returns-in_err-alt g t c =
     let l = tree_of c.args.p.now.nodes c.args.left in
     let lo = start_at c.args.p.now.nodes c.args.left.0 in
     let e = tree_of c.parse_assignment_expr-middle.new.p.nodes c.in_ok-cons.cons in
-    let middle = assign.in_middle g.I.Tokens.model g.B.Bodies.is_faithful _ _ c.get_ctx-ctx.result c.parse_assignment_expr-middle.result c.get_ctx-ctx.ensures c.set_ctx.ensures.moves
-    (c.set_ctx.ensures.context ∙ c.cond_middle.ensures) c.parse_assignment_expr-middle.ensures.reads c.set_ctx-then-is_sign.ensures.moves c.set_ctx-then-is_sign.ensures.context in
-    let read = s.parses_ok g.I.Tokens.model g.B.Bodies.is_faithful (tree_of c.parse_assignment_expr-middle.new.p.nodes) (inside _) _ _ c.parse_assignment_expr-middle.result c.in_ok-cons.cons c.in_ok-cons.was middle in
-    let kept = (c.in_ok-expect.ensures.expects g.B.Bodies.is_faithful).on.leads.read.context ∙ c.set_ctx-then-is_sign.ensures.context in
-    let last = assign.in_last g.I.Tokens.model g.B.Bodies.is_faithful _ _ c.get_ctx-ctx.result c.parse_assignment_expr-last.result (sym kept) c.set_ctx-then-is_sign-2.ensures.moves
-    (c.set_ctx-then-is_sign-2.ensures.context ∙ c.cond_last.ensures) c.parse_assignment_expr-last.ensures.reads c.set_ctx-then-is_sign-3.ensures.moves c.set_ctx-then-is_sign-3.ensures.context in
+    let middle = assign.in_middle g.I.Tokens.model g.B.Bodies.is_faithful _ _ c.get_ctx-ctx.result
+    c.parse_assignment_expr-middle.result c.get_ctx-ctx.ensures c.set_ctx.ensures.moves
+    (c.set_ctx.ensures.context ∙ c.cond_middle.ensures) c.parse_assignment_expr-middle.ensures.reads
+    c.set_ctx-then-is_sign.ensures.moves c.set_ctx-then-is_sign.ensures.context in
+    let read = s.parses_ok g.I.Tokens.model g.B.Bodies.is_faithful (tree_of c.parse_assignment_expr-middle.new.p.nodes)
+    (inside _) _ _ c.parse_assignment_expr-middle.result c.in_ok-cons.cons c.in_ok-cons.was middle in
+    let kept = (c.in_ok-expect.ensures.expects g.B.Bodies.is_faithful).on.leads.read.context
+    ∙ c.set_ctx-then-is_sign.ensures.context in
+    let last = assign.in_last g.I.Tokens.model g.B.Bodies.is_faithful _ _ c.get_ctx-ctx.result
+    c.parse_assignment_expr-last.result (sym kept) c.set_ctx-then-is_sign-2.ensures.moves
+    (c.set_ctx-then-is_sign-2.ensures.context ∙ c.cond_last.ensures) c.parse_assignment_expr-last.ensures.reads
+    c.set_ctx-then-is_sign-3.ensures.moves c.set_ctx-then-is_sign-3.ensures.context in
     rewriting.refused c.from_residual-in_err-alt.ensures.1
-    (s.unheard_after (s.on_seen {g = behind (cond_tail _ lo l)} c.in_ok-look.ensures.looks (λ x ts same e. assign.from_question _ lo l x ts (ap (at_token is_question) e ∙ sym c.is_sign.ensures.value ∙ c.if-is_sign.true)))
-    (s.unheard_after (s.on_then (s.on_then (s.on_took {g = cond_tail _ lo l} g.met.I.Tokens.laws c.skip.ensures.took.1 (λ x ts. refl))
+    (s.unheard_after (s.on_seen {g = behind (cond_tail _ lo l)} c.in_ok-look.ensures.looks
+    (λ x ts same e. assign.from_question _ lo l x ts
+    (ap (at_token is_question) e ∙ sym c.is_sign.ensures.value ∙ c.if-is_sign.true)))
+    (s.unheard_after (s.on_then (s.on_then (s.on_took {g = cond_tail _ lo l} g.met.I.Tokens.laws c.skip.ensures.took.1
+    (λ x ts. refl))
     (s.on_call _ (assign.cond_tail_splits _ lo l) read.on))
-    (s.on_call (λ x q. cond_close _ lo l e x q.1) (λ x ts. refl) (c.in_ok-expect.ensures.expects g.B.Bodies.is_faithful).on))
+    (s.on_call (λ x q. cond_close _ lo l e x q.1) (λ x ts. refl)
+    (c.in_ok-expect.ensures.expects g.B.Bodies.is_faithful).on))
     (s.unheard_call (λ x q. Some (cond_e (from_to lo (span_of q.0).hi) l e q.0, q.1)) (λ x ts. refl)
-    (s.parses_err g.I.Tokens.model g.B.Bodies.is_faithful (tree_of c.parse_assignment_expr-last.new.p.nodes) (run _ (at Assign)) _ _ c.parse_assignment_expr-last.result _ c.in_err-alt.was last))))
-    (let w = c.requires.from.within in let f = c.requires.from.first in omega arith) (grows-then c.parse_assignment_expr-middle.ensures.grows c.parse_assignment_expr-last.ensures.grows)
+    (s.parses_err g.I.Tokens.model g.B.Bodies.is_faithful (tree_of c.parse_assignment_expr-last.new.p.nodes)
+    (run _ (at Assign)) _ _ c.parse_assignment_expr-last.result _ c.in_err-alt.was last))))
+    (let w = c.requires.from.within in let f = c.requires.from.first in
+    omega arith) (grows-then c.parse_assignment_expr-middle.ensures.grows
+    c.parse_assignment_expr-last.ensures.grows)
 
 pub finish_assignment_expr-set_ctx-requires-then-is_sign-2 : goal.finish_assignment_expr-set_ctx-requires-then-is_sign-2
 finish_assignment_expr-set_ctx-requires-then-is_sign-2 g t c =
-    let kept = (c.in_ok-expect.ensures.expects g.B.Bodies.is_faithful).on.leads.read.context ∙ c.set_ctx-then-is_sign.ensures.context in
+    let kept = (c.in_ok-expect.ensures.expects g.B.Bodies.is_faithful).on.leads.read.context
+    ∙ c.set_ctx-then-is_sign.ensures.context in
     ap (λ x. x.«module») c.cond_last.ensures ∙ ap (λ x. x.«module») (sym kept)
 
-pub finish_assignment_expr-cond_expr-node-requires-clause-test : goal.finish_assignment_expr-cond_expr-node-requires-clause-test
+pub finish_assignment_expr-cond_expr-node-requires-clause-test :
+    goal.finish_assignment_expr-cond_expr-node-requires-clause-test
 finish_assignment_expr-cond_expr-node-requires-clause-test g t c =
-    from-later (grows-then c.parse_assignment_expr-middle.ensures.grows c.parse_assignment_expr-last.ensures.grows) c.requires.from
+    from-later (grows-then c.parse_assignment_expr-middle.ensures.grows c.parse_assignment_expr-last.ensures.grows)
+    c.requires.from
 
-pub finish_assignment_expr-cond_expr-node-requires-clause-then : goal.finish_assignment_expr-cond_expr-node-requires-clause-then
+pub finish_assignment_expr-cond_expr-node-requires-clause-then :
+    goal.finish_assignment_expr-cond_expr-node-requires-clause-then
 finish_assignment_expr-cond_expr-node-requires-clause-then g t c =
     from-down (let h = c.requires.from.within in omega arith) (from-later c.parse_assignment_expr-last.ensures.grows
-    (m.held_is _ c.parse_assignment_expr-middle.result c.in_ok-cons.cons c.in_ok-cons.was c.parse_assignment_expr-middle.ensures.from))
+    (m.held_is _ c.parse_assignment_expr-middle.result c.in_ok-cons.cons c.in_ok-cons.was
+    c.parse_assignment_expr-middle.ensures.from))
 
-pub finish_assignment_expr-cond_expr-node-requires-clause-other : goal.finish_assignment_expr-cond_expr-node-requires-clause-other
+pub finish_assignment_expr-cond_expr-node-requires-clause-other :
+    goal.finish_assignment_expr-cond_expr-node-requires-clause-other
 finish_assignment_expr-cond_expr-node-requires-clause-other g t c =
-    let cons_from = m.held_is _ c.parse_assignment_expr-middle.result c.in_ok-cons.cons c.in_ok-cons.was c.parse_assignment_expr-middle.ensures.from in
+    let cons_from = m.held_is _ c.parse_assignment_expr-middle.result c.in_ok-cons.cons c.in_ok-cons.was
+    c.parse_assignment_expr-middle.ensures.from in
     from-down (let h = cons_from.within in omega arith)
-    (m.held_is _ c.parse_assignment_expr-last.result c.in_ok-alt.alt c.in_ok-alt.was c.parse_assignment_expr-last.ensures.from)
+    (m.held_is _ c.parse_assignment_expr-last.result c.in_ok-alt.alt c.in_ok-alt.was
+    c.parse_assignment_expr-last.ensures.from)
 
 pub finish_assignment_expr-returns-then-is_sign : goal.finish_assignment_expr-returns-then-is_sign
 finish_assignment_expr-returns-then-is_sign g t c =
@@ -2698,26 +3366,40 @@ finish_assignment_expr-returns-then-is_sign g t c =
     let e = tree_of c.parse_assignment_expr-middle.new.p.nodes c.in_ok-cons.cons in
     let ns = c.parse_assignment_expr-last.new.p.nodes in
     let a = tree_of ns c.in_ok-alt.alt in
-    let middle = assign.in_middle g.I.Tokens.model g.B.Bodies.is_faithful _ _ c.get_ctx-ctx.result c.parse_assignment_expr-middle.result c.get_ctx-ctx.ensures c.set_ctx.ensures.moves
-    (c.set_ctx.ensures.context ∙ c.cond_middle.ensures) c.parse_assignment_expr-middle.ensures.reads c.set_ctx-then-is_sign.ensures.moves c.set_ctx-then-is_sign.ensures.context in
-    let read = s.parses_ok g.I.Tokens.model g.B.Bodies.is_faithful (tree_of c.parse_assignment_expr-middle.new.p.nodes) (inside _) _ _ c.parse_assignment_expr-middle.result c.in_ok-cons.cons c.in_ok-cons.was middle in
-    let kept = (c.in_ok-expect.ensures.expects g.B.Bodies.is_faithful).on.leads.read.context ∙ c.set_ctx-then-is_sign.ensures.context in
-    let last = assign.in_last g.I.Tokens.model g.B.Bodies.is_faithful _ _ c.get_ctx-ctx.result c.parse_assignment_expr-last.result (sym kept) c.set_ctx-then-is_sign-2.ensures.moves
-    (c.set_ctx-then-is_sign-2.ensures.context ∙ c.cond_last.ensures) c.parse_assignment_expr-last.ensures.reads c.set_ctx-then-is_sign-3.ensures.moves c.set_ctx-then-is_sign-3.ensures.context in
-    let read_last = s.parses_ok g.I.Tokens.model g.B.Bodies.is_faithful (tree_of ns) (run _ (at Assign)) _ _ c.parse_assignment_expr-last.result c.in_ok-alt.alt c.in_ok-alt.was last in
+    let middle = assign.in_middle g.I.Tokens.model g.B.Bodies.is_faithful _ _ c.get_ctx-ctx.result
+    c.parse_assignment_expr-middle.result c.get_ctx-ctx.ensures c.set_ctx.ensures.moves
+    (c.set_ctx.ensures.context ∙ c.cond_middle.ensures) c.parse_assignment_expr-middle.ensures.reads
+    c.set_ctx-then-is_sign.ensures.moves c.set_ctx-then-is_sign.ensures.context in
+    let read = s.parses_ok g.I.Tokens.model g.B.Bodies.is_faithful (tree_of c.parse_assignment_expr-middle.new.p.nodes)
+    (inside _) _ _ c.parse_assignment_expr-middle.result c.in_ok-cons.cons c.in_ok-cons.was middle in
+    let kept = (c.in_ok-expect.ensures.expects g.B.Bodies.is_faithful).on.leads.read.context
+    ∙ c.set_ctx-then-is_sign.ensures.context in
+    let last = assign.in_last g.I.Tokens.model g.B.Bodies.is_faithful _ _ c.get_ctx-ctx.result
+    c.parse_assignment_expr-last.result (sym kept) c.set_ctx-then-is_sign-2.ensures.moves
+    (c.set_ctx-then-is_sign-2.ensures.context ∙ c.cond_last.ensures) c.parse_assignment_expr-last.ensures.reads
+    c.set_ctx-then-is_sign-3.ensures.moves c.set_ctx-then-is_sign-3.ensures.context in
+    let read_last = s.parses_ok g.I.Tokens.model g.B.Bodies.is_faithful (tree_of ns)
+    (run _ (at Assign)) _ _ c.parse_assignment_expr-last.result c.in_ok-alt.alt c.in_ok-alt.was last in
     let grows = grows-then c.parse_assignment_expr-middle.ensures.grows c.parse_assignment_expr-last.ensures.grows in
     let place = from_to (start_at ns c.args.left.0) (span_of a).hi in
     let whole = ap (λ v. cond_e (from_to v (span_of a).hi) l e a) (sym (start-later grows c.requires.from))
     ∙ ap (λ v. cond_e place v e a) (sym (tree-later grows c.requires.from))
     ∙ ap (λ v. cond_e place (tree_of ns c.args.left) v a)
-    (sym (tree-later c.parse_assignment_expr-last.ensures.grows (m.held_is _ c.parse_assignment_expr-middle.result c.in_ok-cons.cons c.in_ok-cons.was c.parse_assignment_expr-middle.ensures.from))) in
+    (sym (tree-later c.parse_assignment_expr-last.ensures.grows
+    (m.held_is _ c.parse_assignment_expr-middle.result c.in_ok-cons.cons c.in_ok-cons.was
+    c.parse_assignment_expr-middle.ensures.from))) in
     rewriting.goes_on c.made.result (let w = c.requires.from.within in let f = c.requires.from.first in omega arith)
-    (m.on_after {m = record c.args.p.now { input = c.look.new.input }} c.made.result (s.on_seen {g = behind (cond_tail _ lo l)} c.in_ok-look.ensures.looks (λ x ts same e. assign.from_question _ lo l x ts (ap (at_token is_question) e ∙ sym c.is_sign.ensures.value ∙ c.if-is_sign.true))) (grows-same _)
+    (m.on_after {m = record c.args.p.now { input = c.look.new.input }} c.made.result
+    (s.on_seen {g = behind (cond_tail _ lo l)} c.in_ok-look.ensures.looks
+    (λ x ts same e. assign.from_question _ lo l x ts
+    (ap (at_token is_question) e ∙ sym c.is_sign.ensures.value ∙ c.if-is_sign.true))) (grows-same _)
     (m.weaker c.made.result
-    (m.node _ c.cond_expr-node.result c.made.result (first_kept grows c.requires.from) c.cond_expr-node.ensures.made c.made.ensures.ok c.made.ensures.refused grows c.cond_expr-node.ensures.grows
+    (m.node _ c.cond_expr-node.result c.made.result (first_kept grows c.requires.from) c.cond_expr-node.ensures.made
+    c.made.ensures.ok c.made.ensures.refused grows c.cond_expr-node.ensures.grows
     (s.heard_answer whole (s.heard_first g.met.I.Tokens.laws c.skip.ensures.took.1 (λ x ts. refl)
     (s.on_then (s.on_call _ (assign.cond_tail_splits _ lo l) read.on)
-    (s.on_then (s.on_call (λ x q. cond_close _ lo l e x q.1) (λ x ts. refl) (c.in_ok-expect.ensures.expects g.B.Bodies.is_faithful).on)
+    (s.on_then (s.on_call (λ x q. cond_close _ lo l e x q.1) (λ x ts. refl)
+    (c.in_ok-expect.ensures.expects g.B.Bodies.is_faithful).on)
     (s.on_call (λ x q. Some (cond_e (from_to lo (span_of q.0).hi) l e q.0, q.1)) (λ x ts. refl) read_last.on))))))))
 
 pub finish_assignment_expr-returns-in-None : goal.finish_assignment_expr-returns-in-None
@@ -2728,9 +3410,11 @@ finish_assignment_expr-returns-in-None g t c =
     (m.on (Ok _) (s.on_seen c.in_ok-look.ensures.looks (λ x ts same e.
     assign.from_none _ lo l x ts
     (ap (at_token is_question) e ∙ sym c.is_sign.ensures.value ∙ c.if-is_sign.false)
-    (ap (λ v. assign_at v l) e ∙ sym c.cur_assign_op.ensures.value ∙ c.in-None.is))) (grows-same _) (from_self c.requires.from))
+    (ap (λ v. assign_at v l) e ∙ sym c.cur_assign_op.ensures.value ∙ c.in-None.is))) (grows-same _)
+    (from_self c.requires.from))
 
-pub finish_assignment_expr-assign_target-requires-clause-fit : goal.finish_assignment_expr-assign_target-requires-clause-fit
+pub finish_assignment_expr-assign_target-requires-clause-fit :
+    goal.finish_assignment_expr-assign_target-requires-clause-fit
 finish_assignment_expr-assign_target-requires-clause-fit g t c =
     way.writes_fits _ _ (sym c.cur_assign_op.ensures.value ∙ c.in-Some.is)
 
@@ -2762,15 +3446,19 @@ finish_assignment_expr-returns-in_err-right g t c =
     (s.unheard_call _ (assign.assign_tail_splits _ op tt) c.in_err-right.ensures.reads)))
     (kept-then w.kept (kept-less le (kept-grows c.parse_assignment_expr.ensures.grows))))
 
-pub finish_assignment_expr-assign_node-requires-clause-left : goal.finish_assignment_expr-assign_node-requires-clause-left
+pub finish_assignment_expr-assign_node-requires-clause-left :
+    goal.finish_assignment_expr-assign_node-requires-clause-left
 finish_assignment_expr-assign_node-requires-clause-left g t c =
     from-down (omega arith) (from-later c.parse_assignment_expr.ensures.grows c.in_ok-target.ensures.rewrites.from)
 
-pub finish_assignment_expr-assign_node-requires-clause-right : goal.finish_assignment_expr-assign_node-requires-clause-right
+pub finish_assignment_expr-assign_node-requires-clause-right :
+    goal.finish_assignment_expr-assign_node-requires-clause-right
 finish_assignment_expr-assign_node-requires-clause-right g t c =
-    from-down (let d = way.target_within c.in_ok-target.target c.in_ok-target.ensures.rewrites.from in omega arith) c.in_ok-right.ensures.from
+    from-down (let d = way.target_within c.in_ok-target.target c.in_ok-target.ensures.rewrites.from in
+    omega arith) c.in_ok-right.ensures.from
 
-pub finish_assignment_expr-assign_node-requires-clause-plain : goal.finish_assignment_expr-assign_node-requires-clause-plain
+pub finish_assignment_expr-assign_node-requires-clause-plain :
+    goal.finish_assignment_expr-assign_node-requires-clause-plain
 finish_assignment_expr-assign_node-requires-clause-plain g t c = c.in_ok-target.ensures.plain
 
 pub finish_assignment_expr-returns : goal.finish_assignment_expr-returns
@@ -2801,33 +3489,44 @@ finish_assignment_expr-returns g t c =
     (sym (ending.ended _ g.met.B.Bodies.lawful c.in_ok-right.right Assign x ts us c.in_ok-right.ensures.from h))
     ∙ ap (λ v. assign_made op v hi r y ys) (sym (way.target_later c.in_ok-target.target grows w.from)))))))
     (kept-then w.kept (kept-less le (kept-grows grows)))
-    (way.lowered c.assign_node.result (way.target_above c.in_ok-target.target later) (rewriting.goes_on c.assign_node.result low c.assign_node.ensures))
+    (way.lowered c.assign_node.result (way.target_above c.in_ok-target.target later)
+    (rewriting.goes_on c.assign_node.result low c.assign_node.ensures))
 
 pub parse_prop_name-returns-in-Err : goal.parse_prop_name-returns-in-Err
 parse_prop_name-returns-in-Err g t c =
     entered.aside {q = record c.args.p.now { input = c.eat.new.input }}
-    c.enter_prop_name-before.ensures.before c.enter_prop_name-before.ensures.moves c.enter_prop_name-before.ensures.context
+    c.enter_prop_name-before.ensures.before c.enter_prop_name-before.ensures.moves
+    c.enter_prop_name-before.ensures.context
     (m.no (s.unheard_call _ (key.key_splits _) (c.in-Err.ensures.eats g.B.Bodies.is_faithful)) (grows-same _))
     c.set_ctx.ensures.moves c.set_ctx.ensures.context
 
 pub parse_prop_name-returns-in-Err-2 : goal.parse_prop_name-returns-in-Err-2
 parse_prop_name-returns-in-Err-2 g t c =
-    let inner = assign_within g.B.BodyForms.forms c.include_in-before.ensures.before c.include_in-before.ensures.moves c.include_in-before.ensures.context c.parse_assignment_expr-read.ensures c.in-Err-2.ensures.answer c.in-Err-2.ensures.moves c.in-Err-2.ensures.context in
+    let inner = assign_within g.B.BodyForms.forms c.include_in-before.ensures.before c.include_in-before.ensures.moves
+    c.include_in-before.ensures.context c.parse_assignment_expr-read.ensures c.in-Err-2.ensures.answer
+    c.in-Err-2.ensures.moves c.in-Err-2.ensures.context in
     let some = s.on_call _ (key.key_splits g.B.BodyForms.forms)
-    (s.eats_some g.B.Bodies.is_faithful is_lbracket _ c.in-Some.start _ _ c.in-Some.is (c.in-Ok.ensures.eats g.B.Bodies.is_faithful)).on in
+    (s.eats_some g.B.Bodies.is_faithful is_lbracket _ c.in-Some.start _ _ c.in-Some.is
+    (c.in-Ok.ensures.eats g.B.Bodies.is_faithful)).on in
     entered.aside {q = record c.parse_assignment_expr-read.new.p { input = c.leave.new.input }}
-    c.enter_prop_name-before.ensures.before c.enter_prop_name-before.ensures.moves c.enter_prop_name-before.ensures.context
+    c.enter_prop_name-before.ensures.before c.enter_prop_name-before.ensures.moves
+    c.enter_prop_name-before.ensures.context
     (m.no (s.unheard_after some
     (s.unheard_call _ (key.computed_key_splits _ c.in-Some.start) inner.reads)) inner.grows)
     c.set_ctx-in-Err-2.ensures.moves c.set_ctx-in-Err-2.ensures.context
 
 pub parse_prop_name-returns-in-Ok-2 : goal.parse_prop_name-returns-in-Ok-2
 parse_prop_name-returns-in-Ok-2 g t c =
-    let inner = assign_within g.B.BodyForms.forms {o = Ok c.in-Ok-2.value} c.include_in-before.ensures.before c.include_in-before.ensures.moves c.include_in-before.ensures.context c.parse_assignment_expr-read.ensures c.in-Ok-2.ensures.answer c.in-Ok-2.ensures.moves c.in-Ok-2.ensures.context in
+    let inner = assign_within g.B.BodyForms.forms {o =
+    Ok c.in-Ok-2.value} c.include_in-before.ensures.before c.include_in-before.ensures.moves
+    c.include_in-before.ensures.context c.parse_assignment_expr-read.ensures c.in-Ok-2.ensures.answer
+    c.in-Ok-2.ensures.moves c.in-Ok-2.ensures.context in
     let some = s.on_call _ (key.key_splits g.B.BodyForms.forms)
-    (s.eats_some g.B.Bodies.is_faithful is_lbracket _ c.in-Some.start _ _ c.in-Some.is (c.in-Ok.ensures.eats g.B.Bodies.is_faithful)).on in
+    (s.eats_some g.B.Bodies.is_faithful is_lbracket _ c.in-Some.start _ _ c.in-Some.is
+    (c.in-Ok.ensures.eats g.B.Bodies.is_faithful)).on in
     entered.aside {q = c.computed_prop_name-key.new.p}
-    c.enter_prop_name-before.ensures.before c.enter_prop_name-before.ensures.moves c.enter_prop_name-before.ensures.context
+    c.enter_prop_name-before.ensures.before c.enter_prop_name-before.ensures.moves
+    c.enter_prop_name-before.ensures.context
     (m.after_held c.computed_prop_name-key.result
     (s.on_then some
     (s.on_call _ (key.computed_key_splits _ c.in-Some.start) inner.reads.on))
@@ -2837,11 +3536,13 @@ parse_prop_name-returns-in-Ok-2 g t c =
 pub parse_prop_name-returns-in-None : goal.parse_prop_name-returns-in-None
 parse_prop_name-returns-in-None g t c =
     entered.aside {q = record c.args.p.now { input = c.parse_plain_prop_name-key.new.input }}
-    c.enter_prop_name-before.ensures.before c.enter_prop_name-before.ensures.moves c.enter_prop_name-before.ensures.context
+    c.enter_prop_name-before.ensures.before c.enter_prop_name-before.ensures.moves
+    c.enter_prop_name-before.ensures.context
     (m.after c.parse_plain_prop_name-key.result
     (s.on_call _ (key.key_splits _)
     (s.eats_none g.B.Bodies.is_faithful is_lbracket _ _ _ c.in-None.is (c.in-Ok.ensures.eats g.B.Bodies.is_faithful)))
-    (grows-same _) (key.plain_key_produces c.parse_plain_prop_name-key.result (c.parse_plain_prop_name-key.ensures.parses g.B.Bodies.is_faithful) c.parse_plain_prop_name-key.ensures.parts))
+    (grows-same _) (key.plain_key_produces c.parse_plain_prop_name-key.result
+    (c.parse_plain_prop_name-key.ensures.parses g.B.Bodies.is_faithful) c.parse_plain_prop_name-key.ensures.parts))
     c.set_ctx-in-None.ensures.moves c.set_ctx-in-None.ensures.context
 
 pub parse_prop_name-set_ctx-requires : goal.parse_prop_name-set_ctx-requires
@@ -2851,55 +3552,84 @@ parse_prop_name-set_ctx-requires g t c =
 
 pub parse_prop_name-set_ctx-requires-in-Err-2 : goal.parse_prop_name-set_ctx-requires-in-Err-2
 parse_prop_name-set_ctx-requires-in-Err-2 g t c =
-    let inner = assign_within g.B.BodyForms.forms c.include_in-before.ensures.before c.include_in-before.ensures.moves c.include_in-before.ensures.context c.parse_assignment_expr-read.ensures c.in-Err-2.ensures.answer c.in-Err-2.ensures.moves c.in-Err-2.ensures.context in
+    let inner = assign_within g.B.BodyForms.forms c.include_in-before.ensures.before c.include_in-before.ensures.moves
+    c.include_in-before.ensures.context c.parse_assignment_expr-read.ensures c.in-Err-2.ensures.answer
+    c.in-Err-2.ensures.moves c.in-Err-2.ensures.context in
     c.enter_prop_name-before.ensures.«module» ∙ sym (ap (λ x. x.«module»)
     (inner.reads.refuses.spends.read.context
-    ∙ (s.eats_some g.B.Bodies.is_faithful is_lbracket _ c.in-Some.start _ _ c.in-Some.is (c.in-Ok.ensures.eats g.B.Bodies.is_faithful)).on.leads.read.context))
+    ∙ (s.eats_some g.B.Bodies.is_faithful is_lbracket _ c.in-Some.start _ _ c.in-Some.is
+    (c.in-Ok.ensures.eats g.B.Bodies.is_faithful)).on.leads.read.context))
 
 pub parse_prop_name-set_ctx-requires-in-Some : goal.parse_prop_name-set_ctx-requires-in-Some
 parse_prop_name-set_ctx-requires-in-Some g t c =
-    let inner = assign_within g.B.BodyForms.forms {o = Ok c.in-Ok-2.value} c.include_in-before.ensures.before c.include_in-before.ensures.moves c.include_in-before.ensures.context c.parse_assignment_expr-read.ensures c.in-Ok-2.ensures.answer c.in-Ok-2.ensures.moves c.in-Ok-2.ensures.context in
+    let inner = assign_within g.B.BodyForms.forms {o =
+    Ok c.in-Ok-2.value} c.include_in-before.ensures.before c.include_in-before.ensures.moves
+    c.include_in-before.ensures.context c.parse_assignment_expr-read.ensures c.in-Ok-2.ensures.answer
+    c.in-Ok-2.ensures.moves c.in-Ok-2.ensures.context in
     c.enter_prop_name-before.ensures.«module» ∙ sym (ap (λ x. x.«module»)
-    (key.parses_context g.I.Tokens.model g.B.Bodies.is_faithful _ _ _ _ c.computed_prop_name-key.result c.computed_prop_name-key.ensures.reads
-    ∙ inner.reads.on.leads.read.context ∙ (s.eats_some g.B.Bodies.is_faithful is_lbracket _ c.in-Some.start _ _ c.in-Some.is (c.in-Ok.ensures.eats g.B.Bodies.is_faithful)).on.leads.read.context))
+    (key.parses_context g.I.Tokens.model g.B.Bodies.is_faithful _ _ _ _ c.computed_prop_name-key.result
+    c.computed_prop_name-key.ensures.reads
+    ∙ inner.reads.on.leads.read.context ∙ (s.eats_some g.B.Bodies.is_faithful is_lbracket _ c.in-Some.start _ _
+    c.in-Some.is (c.in-Ok.ensures.eats g.B.Bodies.is_faithful)).on.leads.read.context))
 
 pub parse_prop_name-set_ctx-requires-in-None : goal.parse_prop_name-set_ctx-requires-in-None
 parse_prop_name-set_ctx-requires-in-None g t c =
     c.enter_prop_name-before.ensures.«module» ∙ sym (ap (λ x. x.«module»)
-    (key.parses_context g.I.Tokens.model g.B.Bodies.is_faithful _ _ _ _ c.parse_plain_prop_name-key.result (c.parse_plain_prop_name-key.ensures.parses g.B.Bodies.is_faithful)
-    ∙ (s.eats_none g.B.Bodies.is_faithful is_lbracket _ _ _ c.in-None.is (c.in-Ok.ensures.eats g.B.Bodies.is_faithful)).leads.read.context))
+    (key.parses_context g.I.Tokens.model g.B.Bodies.is_faithful _ _ _ _ c.parse_plain_prop_name-key.result
+    (c.parse_plain_prop_name-key.ensures.parses g.B.Bodies.is_faithful)
+    ∙ (s.eats_none g.B.Bodies.is_faithful is_lbracket _ _ _ c.in-None.is
+    (c.in-Ok.ensures.eats g.B.Bodies.is_faithful)).leads.read.context))
 
 pub parse_tpl_elements-loop-value-init : goal.parse_tpl_elements-loop-value-init
 parse_tpl_elements-loop-value-init g t c = (
-  entered.entered g.met.I.Tokens.laws c.enter_tpl-before.ensures.moves c.enter_tpl-before.ensures.context (λ x ts. tpl.parts_first _ c.args.is_tagged x ts
-      ∙ ap (λ v. parts_behind g.B.BodyForms.forms c.args.is_tagged (trees (map quasi_tree v)) nil x ts) (sym c.new-quasis.ensures.items)
-      ∙ ap (λ v. parts_behind g.B.BodyForms.forms c.args.is_tagged (trees (map quasi_tree c.new-quasis.result.items)) (trees (map (tree_of c.args.p.now.nodes) v)) x ts) (sym c.new-exprs.ensures.items)),
+  entered.entered g.met.I.Tokens.laws c.enter_tpl-before.ensures.moves c.enter_tpl-before.ensures.context
+      (λ x ts. tpl.parts_first _ c.args.is_tagged x ts
+      ∙ ap (λ v. parts_behind g.B.BodyForms.forms c.args.is_tagged (trees (map quasi_tree v)) nil x ts)
+      (sym c.new-quasis.ensures.items)
+      ∙ ap (λ v. parts_behind g.B.BodyForms.forms c.args.is_tagged (trees (map quasi_tree c.new-quasis.result.items))
+      (trees (map (tree_of c.args.p.now.nodes) v)) x ts) (sym c.new-exprs.ensures.items)),
   let a = c.enter_tpl-before.ensures.stays in omega arith,
   grows-same _,
-  record { chained = ap (λ v. chain (seat_at c.args.p.now.nodes) (count c.args.p.now.nodes) (flat one_expr v) (count c.args.p.now.nodes)) c.new-exprs.ensures.items ∙ (apart-none {ns = c.args.p.now.nodes} {k = count c.args.p.now.nodes} (omega arith)).chained },
+  record {
+    chained = ap (λ v. chain (seat_at c.args.p.now.nodes) (count c.args.p.now.nodes) (flat one_expr v)
+        (count c.args.p.now.nodes)) c.new-exprs.ensures.items
+        ∙ (apart-none {ns = c.args.p.now.nodes} {k = count c.args.p.now.nodes} (omega arith)).chained;
+  },
 )
 
 pub parse_tpl_elements-loop-value-preserved : goal.parse_tpl_elements-loop-value-preserved
 parse_tpl_elements-loop-value-preserved g t c =
-    let inner = expr_within g.B.BodyForms.forms {o = Ok c.in-Ok-2.value} c.include_in-before.ensures.before c.include_in-before.ensures.moves c.include_in-before.ensures.context c.parse_expr-read.ensures c.in-Ok-2.ensures.answer c.in-Ok-2.ensures.moves c.in-Ok-2.ensures.context in
+    let inner = expr_within g.B.BodyForms.forms {o = Ok c.in-Ok-2.value} c.include_in-before.ensures.before
+    c.include_in-before.ensures.moves c.include_in-before.ensures.context c.parse_expr-read.ensures
+    c.in-Ok-2.ensures.answer c.in-Ok-2.ensures.moves c.in-Ok-2.ensures.context in
     let texts = trees (map quasi_tree c.loop-value.quasis.items) in
     let exprs = trees (map (tree_of c.loop-value.p.nodes) c.loop-value.exprs.items) in
     let now = trees_append texts (cons (quasi_tree c.in-Ok.value) nil) in
-    let element = s.on_call _ (tpl.behind_splits g.B.BodyForms.forms c.args.is_tagged texts exprs) (c.in-Ok.ensures.parses g.B.Bodies.is_faithful).on in
-    let opened = s.on_call (λ x p. parts_by g.B.BodyForms.forms c.args.is_tagged now exprs p.0 x p.1) (λ x ts. refl) (s.on_answer c.in-None.is (c.in-Ok-eat_tpl_end.ensures.ends g.B.Bodies.is_faithful).on) in
-    let added = ap (λ v. trees (map quasi_tree v)) c.in-Ok-add.ensures.added ∙ trees-more quasi_tree c.loop-value.quasis.items c.in-Ok.value in
+    let element = s.on_call _ (tpl.behind_splits g.B.BodyForms.forms c.args.is_tagged texts exprs)
+    (c.in-Ok.ensures.parses g.B.Bodies.is_faithful).on in
+    let opened = s.on_call (λ x p. parts_by g.B.BodyForms.forms c.args.is_tagged now exprs p.0 x p.1) (λ x ts. refl)
+    (s.on_answer c.in-None.is (c.in-Ok-eat_tpl_end.ensures.ends g.B.Bodies.is_faithful).on) in
+    let added = ap (λ v. trees (map quasi_tree v)) c.in-Ok-add.ensures.added
+    ∙ trees-more quasi_tree c.loop-value.quasis.items c.in-Ok.value in
     let grows = inner.grows in
     let nodes = c.parse_expr-read.new.p.nodes in
-    let more = ap (λ v. trees (map (tree_of nodes) v)) c.in-Ok-add-2.ensures.added ∙ exprs-more c.loop-value.exprs.items c.in-Ok-2.value grows c.loop-value.invariant.3 in
+    let more = ap (λ v. trees (map (tree_of nodes) v)) c.in-Ok-add-2.ensures.added
+    ∙ exprs-more c.loop-value.exprs.items c.in-Ok-2.value grows c.loop-value.invariant.3 in
     let parts = exprs-apart-more c.loop-value.exprs.items c.in-Ok-2.value grows c.loop-value.invariant.3 inner.from in (
       entered.further c.loop-value.invariant.0 (s.on_then element (s.on_then opened
-          (s.on_to (s.on_call (λ x p. parts_behind g.B.BodyForms.forms c.args.is_tagged now (trees_append exprs (cons p.0 nil)) x p.1) (λ x ts. refl)
+          (s.on_to (s.on_call (λ x p. parts_behind g.B.BodyForms.forms c.args.is_tagged now
+          (trees_append exprs (cons p.0 nil)) x p.1) (λ x ts. refl)
           (s.on_then (s.on_call (λ x p. tpl_expr_close g.B.BodyForms.forms p.0 x p.1) (λ x ts. refl) inner.reads.on)
-          (s.on_call (λ x q. Some (tree_of nodes c.in-Ok-2.value, q.1)) (λ x ts. refl) (c.in-Ok-expect.ensures.expects g.B.Bodies.is_faithful).on)))
+          (s.on_call (λ x q. Some (tree_of nodes c.in-Ok-2.value, q.1)) (λ x ts. refl)
+          (c.in-Ok-expect.ensures.expects g.B.Bodies.is_faithful).on)))
           (tpl.behind_same g.B.BodyForms.forms c.args.is_tagged (sym added) (sym more))))),
-      let a = c.loop-value.invariant.1 in let b = c.in-Ok.ensures.falls in let d = c.in-Ok-eat_tpl_end.ensures.falls in let e = inner.falls in let f = c.in-Ok-expect.ensures.falls in omega arith,
+      let a = c.loop-value.invariant.1 in let b = c.in-Ok.ensures.falls in let d = c.in-Ok-eat_tpl_end.ensures.falls in
+          let e = inner.falls in let f = c.in-Ok-expect.ensures.falls in omega arith,
       grows-then c.loop-value.invariant.2 grows,
-      record { chained = ap (λ v. chain (seat_at nodes) (count c.args.p.now.nodes) (flat one_expr v) (count nodes)) c.in-Ok-add-2.ensures.added ∙ parts.chained },
+      record {
+        chained = ap (λ v. chain (seat_at nodes) (count c.args.p.now.nodes) (flat one_expr v) (count nodes))
+            c.in-Ok-add-2.ensures.added ∙ parts.chained;
+      },
     )
 
 pub parse_tpl_elements-returns-in-Err : goal.parse_tpl_elements-returns-in-Err
@@ -2908,7 +3638,9 @@ parse_tpl_elements-returns-in-Err g t c =
     let exprs = trees (map (tree_of c.loop-value.p.nodes) c.loop-value.exprs.items) in
     entered.left {q = record c.loop-value.p { input = c.parse_tpl_element.new.input }}
     c.enter_tpl-before.ensures.before c.loop-value.invariant.0
-    (m.no (s.unheard_after c.loop-value.invariant.0.on (s.unheard_call _ (tpl.behind_splits g.B.BodyForms.forms c.args.is_tagged texts exprs) (c.in-Err.ensures.parses g.B.Bodies.is_faithful)))
+    (m.no (s.unheard_after c.loop-value.invariant.0.on
+    (s.unheard_call _ (tpl.behind_splits g.B.BodyForms.forms c.args.is_tagged texts exprs)
+    (c.in-Err.ensures.parses g.B.Bodies.is_faithful)))
     c.loop-value.invariant.2)
     c.set_ctx.ensures.moves c.set_ctx.ensures.context
 
@@ -2916,7 +3648,9 @@ pub parse_tpl_elements-returns-in-Err-add : goal.parse_tpl_elements-returns-in-E
 parse_tpl_elements-returns-in-Err-add g t c =
     entered.left {q = record c.loop-value.p { input = c.parse_tpl_element.new.input }}
     c.enter_tpl-before.ensures.before c.loop-value.invariant.0
-    (m.no (s.unheard_memory (s.forgoes_later (s.leads_then c.loop-value.invariant.0.on.leads (c.in-Ok.ensures.parses g.B.Bodies.is_faithful).on.leads) (s.forgoes_here g.met.I.Tokens.laws _ _ _ c.in-Err-add.ensures.refused)))
+    (m.no (s.unheard_memory (s.forgoes_later (s.leads_then c.loop-value.invariant.0.on.leads
+    (c.in-Ok.ensures.parses g.B.Bodies.is_faithful).on.leads)
+    (s.forgoes_here g.met.I.Tokens.laws _ _ _ c.in-Err-add.ensures.refused)))
     c.loop-value.invariant.2)
     c.set_ctx-in-Err-add.ensures.moves c.set_ctx-in-Err-add.ensures.context
 
@@ -2925,10 +3659,14 @@ parse_tpl_elements-returns-in-Err-eat_tpl_end g t c =
     let texts = trees (map quasi_tree c.loop-value.quasis.items) in
     let exprs = trees (map (tree_of c.loop-value.p.nodes) c.loop-value.exprs.items) in
     let now = trees_append texts (cons (quasi_tree c.in-Ok.value) nil) in
-    let element = s.on_call _ (tpl.behind_splits g.B.BodyForms.forms c.args.is_tagged texts exprs) (c.in-Ok.ensures.parses g.B.Bodies.is_faithful).on in
+    let element = s.on_call _ (tpl.behind_splits g.B.BodyForms.forms c.args.is_tagged texts exprs)
+    (c.in-Ok.ensures.parses g.B.Bodies.is_faithful).on in
     entered.left {q = record c.loop-value.p { input = c.eat_tpl_end.new.input }}
     c.enter_tpl-before.ensures.before c.loop-value.invariant.0
-    (m.no (s.unheard_after c.loop-value.invariant.0.on (s.unheard_after element (s.unheard_call (λ x p. parts_by g.B.BodyForms.forms c.args.is_tagged now exprs p.0 x p.1) (λ x ts. refl) (c.in-Err-eat_tpl_end.ensures.ends g.B.Bodies.is_faithful))))
+    (m.no (s.unheard_after c.loop-value.invariant.0.on
+    (s.unheard_after element (s.unheard_call (λ x p.
+    parts_by g.B.BodyForms.forms c.args.is_tagged now exprs p.0 x p.1) (λ x ts. refl)
+    (c.in-Err-eat_tpl_end.ensures.ends g.B.Bodies.is_faithful))))
     c.loop-value.invariant.2)
     c.set_ctx-in-Err-eat_tpl_end.ensures.moves c.set_ctx-in-Err-eat_tpl_end.ensures.context
 
@@ -2937,46 +3675,60 @@ parse_tpl_elements-returns-in-Some g t c =
     let texts = trees (map quasi_tree c.loop-value.quasis.items) in
     let exprs = trees (map (tree_of c.loop-value.p.nodes) c.loop-value.exprs.items) in
     let now = trees_append texts (cons (quasi_tree c.in-Ok.value) nil) in
-    let element = s.on_call _ (tpl.behind_splits g.B.BodyForms.forms c.args.is_tagged texts exprs) (c.in-Ok.ensures.parses g.B.Bodies.is_faithful).on in
-    let added = ap (λ v. trees (map quasi_tree v)) c.in-Ok-add.ensures.added ∙ trees-more quasi_tree c.loop-value.quasis.items c.in-Ok.value in
+    let element = s.on_call _ (tpl.behind_splits g.B.BodyForms.forms c.args.is_tagged texts exprs)
+    (c.in-Ok.ensures.parses g.B.Bodies.is_faithful).on in
+    let added = ap (λ v. trees (map quasi_tree v)) c.in-Ok-add.ensures.added
+    ∙ trees-more quasi_tree c.loop-value.quasis.items c.in-Ok.value in
     let some = s.heard_answer c.in-Some.is (c.in-Ok-eat_tpl_end.ensures.ends g.B.Bodies.is_faithful) in
     let whole = ap (λ v. parts_e c.in-Some.end v exprs) (sym added) in
     entered.left {q = record c.loop-value.p { input = c.eat_tpl_end.new.input }}
     c.enter_tpl-before.ensures.before c.loop-value.invariant.0
     (m.yes (Ok _)
-    (s.heard_answer whole (s.heard_after c.loop-value.invariant.0.on (s.heard_after element (s.heard_call (λ x p. parts_by g.B.BodyForms.forms c.args.is_tagged now exprs p.0 x p.1) (λ x ts. refl) (λ x ts. refl) some))))
+    (s.heard_answer whole (s.heard_after c.loop-value.invariant.0.on
+    (s.heard_after element (s.heard_call (λ x p. parts_by g.B.BodyForms.forms c.args.is_tagged now exprs p.0 x p.1)
+    (λ x ts. refl) (λ x ts. refl) some))))
     c.loop-value.invariant.2 c.loop-value.invariant.3)
     c.set_ctx-in-Some.ensures.moves c.set_ctx-in-Some.ensures.context
 
 pub parse_tpl_elements-returns-in-Err-2 : goal.parse_tpl_elements-returns-in-Err-2
 parse_tpl_elements-returns-in-Err-2 g t c =
-    let inner = expr_within g.B.BodyForms.forms c.include_in-before.ensures.before c.include_in-before.ensures.moves c.include_in-before.ensures.context c.parse_expr-read.ensures c.in-Err-2.ensures.answer c.in-Err-2.ensures.moves c.in-Err-2.ensures.context in
+    let inner = expr_within g.B.BodyForms.forms c.include_in-before.ensures.before c.include_in-before.ensures.moves
+    c.include_in-before.ensures.context c.parse_expr-read.ensures c.in-Err-2.ensures.answer c.in-Err-2.ensures.moves
+    c.in-Err-2.ensures.context in
     let texts = trees (map quasi_tree c.loop-value.quasis.items) in
     let exprs = trees (map (tree_of c.loop-value.p.nodes) c.loop-value.exprs.items) in
     let now = trees_append texts (cons (quasi_tree c.in-Ok.value) nil) in
-    let element = s.on_call _ (tpl.behind_splits g.B.BodyForms.forms c.args.is_tagged texts exprs) (c.in-Ok.ensures.parses g.B.Bodies.is_faithful).on in
-    let opened = s.on_call (λ x p. parts_by g.B.BodyForms.forms c.args.is_tagged now exprs p.0 x p.1) (λ x ts. refl) (s.on_answer c.in-None.is (c.in-Ok-eat_tpl_end.ensures.ends g.B.Bodies.is_faithful).on) in
+    let element = s.on_call _ (tpl.behind_splits g.B.BodyForms.forms c.args.is_tagged texts exprs)
+    (c.in-Ok.ensures.parses g.B.Bodies.is_faithful).on in
+    let opened = s.on_call (λ x p. parts_by g.B.BodyForms.forms c.args.is_tagged now exprs p.0 x p.1) (λ x ts. refl)
+    (s.on_answer c.in-None.is (c.in-Ok-eat_tpl_end.ensures.ends g.B.Bodies.is_faithful).on) in
     entered.left {q = record c.parse_expr-read.new.p { input = c.leave.new.input }}
     c.enter_tpl-before.ensures.before c.loop-value.invariant.0
     (m.no (s.unheard_after c.loop-value.invariant.0.on (s.unheard_after element (s.unheard_after opened
-    (s.unheard_call (λ x p. parts_behind g.B.BodyForms.forms c.args.is_tagged now (trees_append exprs (cons p.0 nil)) x p.1) (λ x ts. refl)
+    (s.unheard_call (λ x p. parts_behind g.B.BodyForms.forms c.args.is_tagged now
+    (trees_append exprs (cons p.0 nil)) x p.1) (λ x ts. refl)
     (s.unheard_call (λ x p. tpl_expr_close g.B.BodyForms.forms p.0 x p.1) (λ x ts. refl) inner.reads)))))
     (grows-then c.loop-value.invariant.2 inner.grows))
     c.set_ctx-in-Err-2.ensures.moves c.set_ctx-in-Err-2.ensures.context
 
 pub parse_tpl_elements-returns-in-Err-expect : goal.parse_tpl_elements-returns-in-Err-expect
 parse_tpl_elements-returns-in-Err-expect g t c =
-    let inner = expr_within g.B.BodyForms.forms {o = Ok c.in-Ok-2.value} c.include_in-before.ensures.before c.include_in-before.ensures.moves c.include_in-before.ensures.context c.parse_expr-read.ensures c.in-Ok-2.ensures.answer c.in-Ok-2.ensures.moves c.in-Ok-2.ensures.context in
+    let inner = expr_within g.B.BodyForms.forms {o = Ok c.in-Ok-2.value} c.include_in-before.ensures.before
+    c.include_in-before.ensures.moves c.include_in-before.ensures.context c.parse_expr-read.ensures
+    c.in-Ok-2.ensures.answer c.in-Ok-2.ensures.moves c.in-Ok-2.ensures.context in
     let texts = trees (map quasi_tree c.loop-value.quasis.items) in
     let exprs = trees (map (tree_of c.loop-value.p.nodes) c.loop-value.exprs.items) in
     let now = trees_append texts (cons (quasi_tree c.in-Ok.value) nil) in
-    let element = s.on_call _ (tpl.behind_splits g.B.BodyForms.forms c.args.is_tagged texts exprs) (c.in-Ok.ensures.parses g.B.Bodies.is_faithful).on in
-    let opened = s.on_call (λ x p. parts_by g.B.BodyForms.forms c.args.is_tagged now exprs p.0 x p.1) (λ x ts. refl) (s.on_answer c.in-None.is (c.in-Ok-eat_tpl_end.ensures.ends g.B.Bodies.is_faithful).on) in
+    let element = s.on_call _ (tpl.behind_splits g.B.BodyForms.forms c.args.is_tagged texts exprs)
+    (c.in-Ok.ensures.parses g.B.Bodies.is_faithful).on in
+    let opened = s.on_call (λ x p. parts_by g.B.BodyForms.forms c.args.is_tagged now exprs p.0 x p.1) (λ x ts. refl)
+    (s.on_answer c.in-None.is (c.in-Ok-eat_tpl_end.ensures.ends g.B.Bodies.is_faithful).on) in
     let e = tree_of c.parse_expr-read.new.p.nodes c.in-Ok-2.value in
     entered.left {q = record c.parse_expr-read.new.p { input = c.expect.new.input }}
     c.enter_tpl-before.ensures.before c.loop-value.invariant.0
     (m.no (s.unheard_after c.loop-value.invariant.0.on (s.unheard_after element (s.unheard_after opened
-    (s.unheard_call (λ x p. parts_behind g.B.BodyForms.forms c.args.is_tagged now (trees_append exprs (cons p.0 nil)) x p.1) (λ x ts. refl)
+    (s.unheard_call (λ x p. parts_behind g.B.BodyForms.forms c.args.is_tagged now
+    (trees_append exprs (cons p.0 nil)) x p.1) (λ x ts. refl)
     (s.unheard_after (s.on_call (λ x p. tpl_expr_close g.B.BodyForms.forms p.0 x p.1) (λ x ts. refl) inner.reads.on)
     (s.unheard_call (λ x q. Some (e, q.1)) (λ x ts. refl) (c.in-Err-expect.ensures.expects g.B.Bodies.is_faithful)))))))
     (grows-then c.loop-value.invariant.2 inner.grows))
@@ -2984,10 +3736,14 @@ parse_tpl_elements-returns-in-Err-expect g t c =
 
 pub parse_tpl_elements-returns-in-Err-add-2 : goal.parse_tpl_elements-returns-in-Err-add-2
 parse_tpl_elements-returns-in-Err-add-2 g t c =
-    let inner = expr_within g.B.BodyForms.forms {o = Ok c.in-Ok-2.value} c.include_in-before.ensures.before c.include_in-before.ensures.moves c.include_in-before.ensures.context c.parse_expr-read.ensures c.in-Ok-2.ensures.answer c.in-Ok-2.ensures.moves c.in-Ok-2.ensures.context in
+    let inner = expr_within g.B.BodyForms.forms {o = Ok c.in-Ok-2.value} c.include_in-before.ensures.before
+    c.include_in-before.ensures.moves c.include_in-before.ensures.context c.parse_expr-read.ensures
+    c.in-Ok-2.ensures.answer c.in-Ok-2.ensures.moves c.in-Ok-2.ensures.context in
     entered.left {q = record c.parse_expr-read.new.p { input = c.expect.new.input }}
     c.enter_tpl-before.ensures.before c.loop-value.invariant.0
-    (m.no (s.unheard_memory (s.forgoes_later (s.leads_then c.loop-value.invariant.0.on.leads (s.leads_then (c.in-Ok.ensures.parses g.B.Bodies.is_faithful).on.leads (s.leads_then (c.in-Ok-eat_tpl_end.ensures.ends g.B.Bodies.is_faithful).on.leads
+    (m.no (s.unheard_memory (s.forgoes_later (s.leads_then c.loop-value.invariant.0.on.leads
+    (s.leads_then (c.in-Ok.ensures.parses g.B.Bodies.is_faithful).on.leads
+    (s.leads_then (c.in-Ok-eat_tpl_end.ensures.ends g.B.Bodies.is_faithful).on.leads
     (s.leads_then inner.reads.on.leads (c.in-Ok-expect.ensures.expects g.B.Bodies.is_faithful).on.leads))))
     (s.forgoes_here g.met.I.Tokens.laws _ _ _ c.in-Err-add-2.ensures.refused)))
     (grows-then c.loop-value.invariant.2 inner.grows))
@@ -3009,37 +3765,50 @@ pub parse_tpl_elements-set_ctx-requires-in-Err-eat_tpl_end : goal.parse_tpl_elem
 parse_tpl_elements-set_ctx-requires-in-Err-eat_tpl_end g t c =
     entered.text c.eat_tpl_end.new.input (λ x. refl)
     c.enter_tpl-before.ensures.before c.loop-value.invariant.0
-    ((c.in-Err-eat_tpl_end.ensures.ends g.B.Bodies.is_faithful).refuses.spends.read.context ∙ (c.in-Ok.ensures.parses g.B.Bodies.is_faithful).on.leads.read.context)
+    ((c.in-Err-eat_tpl_end.ensures.ends g.B.Bodies.is_faithful).refuses.spends.read.context
+    ∙ (c.in-Ok.ensures.parses g.B.Bodies.is_faithful).on.leads.read.context)
 
 pub parse_tpl_elements-set_ctx-requires-in-Some : goal.parse_tpl_elements-set_ctx-requires-in-Some
 parse_tpl_elements-set_ctx-requires-in-Some g t c =
     entered.text c.eat_tpl_end.new.input (λ x. refl)
     c.enter_tpl-before.ensures.before c.loop-value.invariant.0
-    ((c.in-Ok-eat_tpl_end.ensures.ends g.B.Bodies.is_faithful).on.leads.read.context ∙ (c.in-Ok.ensures.parses g.B.Bodies.is_faithful).on.leads.read.context)
+    ((c.in-Ok-eat_tpl_end.ensures.ends g.B.Bodies.is_faithful).on.leads.read.context
+    ∙ (c.in-Ok.ensures.parses g.B.Bodies.is_faithful).on.leads.read.context)
 
 pub parse_tpl_elements-set_ctx-requires-in-Err-2 : goal.parse_tpl_elements-set_ctx-requires-in-Err-2
 parse_tpl_elements-set_ctx-requires-in-Err-2 g t c =
-    let inner = expr_within g.B.BodyForms.forms c.include_in-before.ensures.before c.include_in-before.ensures.moves c.include_in-before.ensures.context c.parse_expr-read.ensures c.in-Err-2.ensures.answer c.in-Err-2.ensures.moves c.in-Err-2.ensures.context in
+    let inner = expr_within g.B.BodyForms.forms c.include_in-before.ensures.before c.include_in-before.ensures.moves
+    c.include_in-before.ensures.context c.parse_expr-read.ensures c.in-Err-2.ensures.answer c.in-Err-2.ensures.moves
+    c.in-Err-2.ensures.context in
     entered.text c.leave.new.input (λ x. refl)
     c.enter_tpl-before.ensures.before c.loop-value.invariant.0
     (inner.reads.refuses.spends.read.context
-    ∙ (c.in-Ok-eat_tpl_end.ensures.ends g.B.Bodies.is_faithful).on.leads.read.context ∙ (c.in-Ok.ensures.parses g.B.Bodies.is_faithful).on.leads.read.context)
+    ∙ (c.in-Ok-eat_tpl_end.ensures.ends g.B.Bodies.is_faithful).on.leads.read.context
+    ∙ (c.in-Ok.ensures.parses g.B.Bodies.is_faithful).on.leads.read.context)
 
 pub parse_tpl_elements-set_ctx-requires-in-Err-expect : goal.parse_tpl_elements-set_ctx-requires-in-Err-expect
 parse_tpl_elements-set_ctx-requires-in-Err-expect g t c =
-    let inner = expr_within g.B.BodyForms.forms {o = Ok c.in-Ok-2.value} c.include_in-before.ensures.before c.include_in-before.ensures.moves c.include_in-before.ensures.context c.parse_expr-read.ensures c.in-Ok-2.ensures.answer c.in-Ok-2.ensures.moves c.in-Ok-2.ensures.context in
+    let inner = expr_within g.B.BodyForms.forms {o = Ok c.in-Ok-2.value} c.include_in-before.ensures.before
+    c.include_in-before.ensures.moves c.include_in-before.ensures.context c.parse_expr-read.ensures
+    c.in-Ok-2.ensures.answer c.in-Ok-2.ensures.moves c.in-Ok-2.ensures.context in
     entered.text c.expect.new.input (λ x. refl)
     c.enter_tpl-before.ensures.before c.loop-value.invariant.0
     ((c.in-Err-expect.ensures.expects g.B.Bodies.is_faithful).refuses.spends.read.context
-    ∙ inner.reads.on.leads.read.context ∙ (c.in-Ok-eat_tpl_end.ensures.ends g.B.Bodies.is_faithful).on.leads.read.context ∙ (c.in-Ok.ensures.parses g.B.Bodies.is_faithful).on.leads.read.context)
+    ∙ inner.reads.on.leads.read.context ∙ (c.in-Ok-eat_tpl_end.ensures.ends
+    g.B.Bodies.is_faithful).on.leads.read.context ∙ (c.in-Ok.ensures.parses
+    g.B.Bodies.is_faithful).on.leads.read.context)
 
 pub parse_tpl_elements-set_ctx-requires-in-Err-add-2 : goal.parse_tpl_elements-set_ctx-requires-in-Err-add-2
 parse_tpl_elements-set_ctx-requires-in-Err-add-2 g t c =
-    let inner = expr_within g.B.BodyForms.forms {o = Ok c.in-Ok-2.value} c.include_in-before.ensures.before c.include_in-before.ensures.moves c.include_in-before.ensures.context c.parse_expr-read.ensures c.in-Ok-2.ensures.answer c.in-Ok-2.ensures.moves c.in-Ok-2.ensures.context in
+    let inner = expr_within g.B.BodyForms.forms {o = Ok c.in-Ok-2.value} c.include_in-before.ensures.before
+    c.include_in-before.ensures.moves c.include_in-before.ensures.context c.parse_expr-read.ensures
+    c.in-Ok-2.ensures.answer c.in-Ok-2.ensures.moves c.in-Ok-2.ensures.context in
     entered.text c.expect.new.input (λ x. refl)
     c.enter_tpl-before.ensures.before c.loop-value.invariant.0
     ((c.in-Ok-expect.ensures.expects g.B.Bodies.is_faithful).on.leads.read.context
-    ∙ inner.reads.on.leads.read.context ∙ (c.in-Ok-eat_tpl_end.ensures.ends g.B.Bodies.is_faithful).on.leads.read.context ∙ (c.in-Ok.ensures.parses g.B.Bodies.is_faithful).on.leads.read.context)
+    ∙ inner.reads.on.leads.read.context ∙ (c.in-Ok-eat_tpl_end.ensures.ends
+    g.B.Bodies.is_faithful).on.leads.read.context ∙ (c.in-Ok.ensures.parses
+    g.B.Bodies.is_faithful).on.leads.read.context)
 
 pub parse_object_pat_prop-returns-in_err-dots : goal.parse_object_pat_prop-returns-in_err-dots
 parse_object_pat_prop-returns-in_err-dots g t c =
@@ -3070,7 +3839,8 @@ pub parse_object_pat_prop-returns-in_err-key-2 : goal.parse_object_pat_prop-retu
 parse_object_pat_prop-returns-in_err-key-2 g t c =
     let named = pat_prop.key_read _ c.in-None.is (c.in_ok-dots.ensures.eats _) c.in_ok-key.ensures.reads in
     m.refused c.from_residual-in_err-key-2.ensures.1
-    (pat_prop.behind_refused _ (tree_of c.parse_prop_name.new.p.nodes) c.in_ok-key.key named (c.in_err-key-2.ensures.after _))
+    (pat_prop.behind_refused _ (tree_of c.parse_prop_name.new.p.nodes) c.in_ok-key.key named
+    (c.in_err-key-2.ensures.after _))
     c.parse_prop_name.ensures.grows
 
 pub parse_object_pat_prop-returns-in_err-value-in-Value : goal.parse_object_pat_prop-returns-in_err-value-in-Value
@@ -3097,7 +3867,10 @@ parse_object_pat_prop-returns-in_ok-value-in-Value g t c =
 
 pub parse_object_pat_prop-returns-in_err-value-in-Default : goal.parse_object_pat_prop-returns-in_err-value-in-Default
 parse_object_pat_prop-returns-in_err-value-in-Default g t c =
-    let inner = assign_within g.B.BodyForms.forms c.include_in-before.ensures.before c.include_in-before.ensures.moves c.include_in-before.ensures.context c.parse_assignment_expr-read.ensures c.in_err-value-in-Default.ensures.answer c.in_err-value-in-Default.ensures.moves c.in_err-value-in-Default.ensures.context in
+    let inner = assign_within g.B.BodyForms.forms c.include_in-before.ensures.before c.include_in-before.ensures.moves
+    c.include_in-before.ensures.context c.parse_assignment_expr-read.ensures
+    c.in_err-value-in-Default.ensures.answer c.in_err-value-in-Default.ensures.moves
+    c.in_err-value-in-Default.ensures.context in
     let named = pat_prop.key_read _ c.in-None.is (c.in_ok-dots.ensures.eats _) c.in_ok-key.ensures.reads in
     m.refused c.from_residual-in_err-value-in-Default.ensures.1
     (pat_prop.default_refused _ (tree_of c.parse_prop_name.new.p.nodes) c.in_ok-key.key named c.in-Default.name
@@ -3107,10 +3880,14 @@ parse_object_pat_prop-returns-in_err-value-in-Default g t c =
 pub parse_object_pat_prop-returns-in_ok-value-in-Default : goal.parse_object_pat_prop-returns-in_ok-value-in-Default
 parse_object_pat_prop-returns-in_ok-value-in-Default g t c =
     let value = c.in_ok-value-in-Default.value in
-    let inner = assign_within g.B.BodyForms.forms {o = Ok value} c.include_in-before.ensures.before c.include_in-before.ensures.moves c.include_in-before.ensures.context c.parse_assignment_expr-read.ensures c.in_ok-value-in-Default.ensures.answer c.in_ok-value-in-Default.ensures.moves c.in_ok-value-in-Default.ensures.context in
+    let inner = assign_within g.B.BodyForms.forms {o =
+    Ok value} c.include_in-before.ensures.before c.include_in-before.ensures.moves
+    c.include_in-before.ensures.context c.parse_assignment_expr-read.ensures c.in_ok-value-in-Default.ensures.answer
+    c.in_ok-value-in-Default.ensures.moves c.in_ok-value-in-Default.ensures.context in
     let ns = c.parse_prop_name.new.p.nodes in
     let named = pat_prop.key_read _ c.in-None.is (c.in_ok-dots.ensures.eats _) c.in_ok-key.ensures.reads in
-    let equals = pat_prop.behind_read _ (tree_of ns) c.in_ok-key.key named _ c.in-Default.is (c.in_ok-key-2.ensures.after _) in
+    let equals = pat_prop.behind_read _ (tree_of ns) c.in_ok-key.key named _ c.in-Default.is
+    (c.in_ok-key-2.ensures.after _) in
     m.yes (Ok _)
     (pat_node.default_read _ g.met.B.Bodies.lawful (key_at ns c.in_ok-key.key) c.in-Default.name value
     c.default_pat_prop.result equals inner c.default_pat_prop.ensures.tree)
@@ -3134,7 +3911,8 @@ parse_pat_props-loop-items-init g t c = pat_props.started _ c.args.p.now _ g.met
 pub parse_pat_props-loop-items-preserved : goal.parse_pat_props-loop-items-preserved
 parse_pat_props-loop-items-preserved g t c =
     let more = pat_props.goes_on _ c.loop-items.invariant c.in-None.is (c.in_ok-end.ensures.eats _) in
-    pat_props.added _ c.loop-items.invariant _ _ more c.in_ok-prop.ensures.reads (c.in_ok-trailing_comma.ensures.separates _)
+    pat_props.added _ c.loop-items.invariant _ _ more c.in_ok-prop.ensures.reads
+    (c.in_ok-trailing_comma.ensures.separates _)
     c.parse_object_pat_prop.ensures.grows c.in_ok-prop.ensures.from c.in_ok-add.ensures.added
 
 pub parse_pat_props-returns-in_err-end : goal.parse_pat_props-returns-in_err-end
@@ -3170,48 +3948,67 @@ parse_pat_props-returns-in_err-trailing_comma g t c =
 pub parse_binding_element-returns-in_err-left : goal.parse_binding_element-returns-in_err-left
 parse_binding_element-returns-in_err-left g t c =
     m.refused c.from_residual.ensures.1
-    (s.unheard_call (λ x p. eaten is_equals x p.1 >>= (λ q. default_by g.B.BodyForms.forms p.0 q.0 x q.1)) (λ x ts. pat_array.element_splits _ x ts) c.in_err-left.ensures.reads)
+    (s.unheard_call (λ x p. eaten is_equals x p.1 >>= (λ q. default_by g.B.BodyForms.forms p.0 q.0 x q.1))
+    (λ x ts. pat_array.element_splits _ x ts) c.in_err-left.ensures.reads)
     c.parse_pat.ensures.grows
 
 pub parse_binding_element-returns-in_err-eat : goal.parse_binding_element-returns-in_err-eat
 parse_binding_element-returns-in_err-eat g t c =
     let left = pat_at c.parse_pat.new.p.nodes c.in_ok-left.left in
     m.refused c.from_residual-in_err-eat.ensures.1
-    (s.unheard_after (s.on_call (λ x p. eaten is_equals x p.1 >>= (λ q. default_by g.B.BodyForms.forms p.0 q.0 x q.1)) (λ x ts. pat_array.element_splits _ x ts) c.in_ok-left.ensures.reads.on)
-    (s.unheard_call (λ x q. default_by _ left q.0 x q.1) (λ x ts. refl) (c.in_err-eat.ensures.eats g.B.Bodies.is_faithful)))
+    (s.unheard_after (s.on_call (λ x p. eaten is_equals x p.1 >>= (λ q. default_by g.B.BodyForms.forms p.0 q.0 x q.1))
+    (λ x ts. pat_array.element_splits _ x ts) c.in_ok-left.ensures.reads.on)
+    (s.unheard_call (λ x q. default_by _ left q.0 x q.1) (λ x ts. refl)
+    (c.in_err-eat.ensures.eats g.B.Bodies.is_faithful)))
     c.parse_pat.ensures.grows
 
 pub parse_binding_element-returns-in_err-value-in-Some : goal.parse_binding_element-returns-in_err-value-in-Some
 parse_binding_element-returns-in_err-value-in-Some g t c =
-    let inner = assign_within g.B.BodyForms.forms c.include_in-before.ensures.before c.include_in-before.ensures.moves c.include_in-before.ensures.context c.parse_assignment_expr-read.ensures c.in_err-value-in-Some.ensures.answer c.in_err-value-in-Some.ensures.moves c.in_err-value-in-Some.ensures.context in
+    let inner = assign_within g.B.BodyForms.forms c.include_in-before.ensures.before c.include_in-before.ensures.moves
+    c.include_in-before.ensures.context c.parse_assignment_expr-read.ensures c.in_err-value-in-Some.ensures.answer
+    c.in_err-value-in-Some.ensures.moves c.in_err-value-in-Some.ensures.context in
     let left = pat_at c.parse_pat.new.p.nodes c.in_ok-left.left in
-    let some = s.eats_some g.B.Bodies.is_faithful is_equals _ c.in-Some.field-0 _ _ c.in-Some.is (c.in_ok-eat.ensures.eats g.B.Bodies.is_faithful) in
+    let some = s.eats_some g.B.Bodies.is_faithful is_equals _ c.in-Some.field-0 _ _ c.in-Some.is
+    (c.in_ok-eat.ensures.eats g.B.Bodies.is_faithful) in
     m.refused c.from_residual-in_err-value-in-Some.ensures.1
-    (s.unheard_after (s.on_then (s.on_call (λ x p. eaten is_equals x p.1 >>= (λ q. default_by g.B.BodyForms.forms p.0 q.0 x q.1)) (λ x ts. pat_array.element_splits _ x ts) c.in_ok-left.ensures.reads.on)
+    (s.unheard_after (s.on_then (s.on_call (λ x p. eaten is_equals x p.1 >>=
+    (λ q. default_by g.B.BodyForms.forms p.0 q.0 x q.1))
+    (λ x ts. pat_array.element_splits _ x ts) c.in_ok-left.ensures.reads.on)
     (s.on_call (λ x q. default_by g.B.BodyForms.forms left q.0 x q.1) (λ x ts. refl) some.on))
-    (s.unheard_call (λ x p. Some (default_p (to (span_of left) (span_of p.0)) left p.0, p.1)) (λ x ts. pat_init.default_value_splits _ left x ts) inner.reads))
+    (s.unheard_call (λ x p. Some (default_p (to (span_of left) (span_of p.0)) left p.0, p.1))
+    (λ x ts. pat_init.default_value_splits _ left x ts) inner.reads))
     (grows-then c.parse_pat.ensures.grows inner.grows)
 
 pub parse_binding_element-default_pat-requires-clause-left : goal.parse_binding_element-default_pat-requires-clause-left
-parse_binding_element-default_pat-requires-clause-left g t c = from-down (omega arith) (from-later c.parse_assignment_expr-read.ensures.grows c.in_ok-left.ensures.from)
+parse_binding_element-default_pat-requires-clause-left g t c =
+    from-down (omega arith) (from-later c.parse_assignment_expr-read.ensures.grows c.in_ok-left.ensures.from)
 
 pub parse_binding_element-returns-in_ok-value-in-Some : goal.parse_binding_element-returns-in_ok-value-in-Some
 parse_binding_element-returns-in_ok-value-in-Some g t c =
-    let inner = assign_within g.B.BodyForms.forms {o = Ok c.in_ok-value-in-Some.value} c.include_in-before.ensures.before c.include_in-before.ensures.moves c.include_in-before.ensures.context c.parse_assignment_expr-read.ensures c.in_ok-value-in-Some.ensures.answer c.in_ok-value-in-Some.ensures.moves c.in_ok-value-in-Some.ensures.context in
+    let inner = assign_within g.B.BodyForms.forms {o =
+    Ok c.in_ok-value-in-Some.value} c.include_in-before.ensures.before c.include_in-before.ensures.moves
+    c.include_in-before.ensures.context c.parse_assignment_expr-read.ensures c.in_ok-value-in-Some.ensures.answer
+    c.in_ok-value-in-Some.ensures.moves c.in_ok-value-in-Some.ensures.context in
     let left = pat_at c.parse_pat.new.p.nodes c.in_ok-left.left in
-    let some = s.eats_some g.B.Bodies.is_faithful is_equals _ c.in-Some.field-0 _ _ c.in-Some.is (c.in_ok-eat.ensures.eats g.B.Bodies.is_faithful) in
-    m.call {m = c.parse_pat.new.p} c.default_pat.result (λ x p. eaten is_equals x p.1 >>= (λ q. default_by g.B.BodyForms.forms p.0 q.0 x q.1)) (λ x ts. pat_array.element_splits _ x ts)
+    let some = s.eats_some g.B.Bodies.is_faithful is_equals _ c.in-Some.field-0 _ _ c.in-Some.is
+    (c.in_ok-eat.ensures.eats g.B.Bodies.is_faithful) in
+    m.call {m = c.parse_pat.new.p} c.default_pat.result
+    (λ x p. eaten is_equals x p.1 >>= (λ q. default_by g.B.BodyForms.forms p.0 q.0 x q.1))
+    (λ x ts. pat_array.element_splits _ x ts)
     c.in_ok-left.ensures.reads c.parse_pat.ensures.grows (λ x h. h)
     (m.on_after {m = record c.parse_pat.new.p { input = c.eat.new.input }} c.default_pat.result
     (s.on_call (λ x q. default_by g.B.BodyForms.forms left q.0 x q.1) (λ x ts. refl) some.on) (grows-same _)
-    (pat_init.default_read _ g.met.B.Bodies.lawful c.in_ok-left.left c.in_ok-value-in-Some.value c.default_pat.result c.in_ok-left.ensures.from inner c.default_pat.ensures))
+    (pat_init.default_read _ g.met.B.Bodies.lawful c.in_ok-left.left c.in_ok-value-in-Some.value c.default_pat.result
+    c.in_ok-left.ensures.from inner c.default_pat.ensures))
 
 pub parse_binding_element-returns-in-None : goal.parse_binding_element-returns-in-None
 parse_binding_element-returns-in-None g t c =
     let left = pat_at c.parse_pat.new.p.nodes c.in_ok-left.left in
-    let none = s.eats_none g.B.Bodies.is_faithful is_equals _ _ _ c.in-None.is (c.in_ok-eat.ensures.eats g.B.Bodies.is_faithful) in
+    let none = s.eats_none g.B.Bodies.is_faithful is_equals _ _ _ c.in-None.is
+    (c.in_ok-eat.ensures.eats g.B.Bodies.is_faithful) in
     m.yes (Ok _)
-    (s.heard_more (λ x p. eaten is_equals x p.1 >>= (λ q. default_by g.B.BodyForms.forms p.0 q.0 x q.1)) (λ x ts. pat_array.element_splits _ x ts) c.in_ok-left.ensures.reads
+    (s.heard_more (λ x p. eaten is_equals x p.1 >>= (λ q. default_by g.B.BodyForms.forms p.0 q.0 x q.1))
+    (λ x ts. pat_array.element_splits _ x ts) c.in_ok-left.ensures.reads
     (s.on_call (λ x q. default_by g.B.BodyForms.forms left q.0 x q.1) (λ x ts. refl) none))
     c.parse_pat.ensures.grows c.in_ok-left.ensures.from
 
@@ -3222,7 +4019,8 @@ parse_pat-returns-in_err-look g t c =
 pub parse_pat-returns-in_err-less-in-Array : goal.parse_pat-returns-in_err-less-in-Array
 parse_pat-returns-in_err-less-in-Array g t c =
     m.refused c.from_residual-in_err-less-in-Array.ensures.1
-    (s.unheard_memory (s.forgoes_later (s.here_leads c.in_ok-look.ensures.looks) (s.forgoes_here g.met.I.Tokens.laws _ _ _ c.in_err-less-in-Array.ensures.refused))) (grows-same _)
+    (s.unheard_memory (s.forgoes_later (s.here_leads c.in_ok-look.ensures.looks)
+    (s.forgoes_here g.met.I.Tokens.laws _ _ _ c.in_err-less-in-Array.ensures.refused))) (grows-same _)
 
 pub parse_pat-returns-in_err-elems-in-Array : goal.parse_pat-returns-in_err-elems-in-Array
 parse_pat-returns-in_err-elems-in-Array g t c =
@@ -3231,14 +4029,22 @@ parse_pat-returns-in_err-elems-in-Array g t c =
     let start = c.cur_span-start.result in
     let place = s.place_was first c.cur_span-start.result c.cur_span-start.ensures in
     m.refused c.from_residual-in_err-elems-in-Array.ensures.1
-    (s.unheard_after (s.on_then (s.on_seen c.in_ok-look.ensures.looks (λ x ts same e. pat_array.pat_array_picked _ x ts (ap (at_token is_lbracket) e ∙ sign)))
+    (s.unheard_after (s.on_then (s.on_seen c.in_ok-look.ensures.looks
+    (λ x ts same e. pat_array.pat_array_picked _ x ts (ap (at_token is_lbracket) e ∙ sign)))
     (s.on_took {g = array_pat_tail g.B.BodyForms.forms start} g.met.I.Tokens.laws first
-    (λ x ts. pat_array.pat_array_opens _ (plain first.was) x ts (rule.passes_plain is_lbracket _ _ first.current sign) ∙ ap (λ v. array_pat_tail g.B.BodyForms.forms v x ts) (sym place))))
-    (s.unheard_call (λ x p. Some (array_pat_from start p.0, p.1)) (λ x ts. pat_array.array_pat_splits _ start x ts) c.in_err-elems-in-Array.ensures.reads))
+    (λ x ts. pat_array.pat_array_opens _ (plain first.was) x ts
+    (rule.passes_plain is_lbracket _ _ first.current sign) ∙ ap (λ v. array_pat_tail g.B.BodyForms.forms v x ts)
+    (sym place))))
+    (s.unheard_call (λ x p. Some (array_pat_from start p.0, p.1))
+    (λ x ts. pat_array.array_pat_splits _ start x ts) c.in_err-elems-in-Array.ensures.reads))
     c.parse_pat_elements.ensures.grows
 
 pub parse_pat-array_pat-requires : goal.parse_pat-array_pat-requires
-parse_pat-array_pat-requires g t c = record { apart = apart-down (pat_elem_parts c.in_ok-elems-in-Array.elems.items) c.in_ok-elems-in-Array.ensures.from }
+parse_pat-array_pat-requires g t c =
+    record {
+      apart = apart-down (pat_elem_parts c.in_ok-elems-in-Array.elems.items)
+          c.in_ok-elems-in-Array.ensures.from;
+    }
 
 pub parse_pat-returns-in_ok-elems-in-Array : goal.parse_pat-returns-in_ok-elems-in-Array
 parse_pat-returns-in_ok-elems-in-Array g t c =
@@ -3246,59 +4052,81 @@ parse_pat-returns-in_ok-elems-in-Array g t c =
     let first = c.skip.ensures.took.1 in
     let start = c.cur_span-start.result in
     let place = s.place_was first c.cur_span-start.result c.cur_span-start.ensures in
-    let begun = s.on_then (s.on_seen c.in_ok-look.ensures.looks (λ x ts same e. pat_array.pat_array_picked _ x ts (ap (at_token is_lbracket) e ∙ sign)))
+    let begun = s.on_then (s.on_seen c.in_ok-look.ensures.looks
+    (λ x ts same e. pat_array.pat_array_picked _ x ts (ap (at_token is_lbracket) e ∙ sign)))
     (s.on_took {g = array_pat_tail g.B.BodyForms.forms start} g.met.I.Tokens.laws first
-    (λ x ts. pat_array.pat_array_opens _ (plain first.was) x ts (rule.passes_plain is_lbracket _ _ first.current sign) ∙ ap (λ v. array_pat_tail g.B.BodyForms.forms v x ts) (sym place))) in
+    (λ x ts. pat_array.pat_array_opens _ (plain first.was) x ts
+    (rule.passes_plain is_lbracket _ _ first.current sign) ∙ ap (λ v. array_pat_tail g.B.BodyForms.forms v x ts)
+    (sym place))) in
     m.after {m = record c.args.p.now { input = c.skip.new.input }} c.array_pat.result begun (grows-same _)
-    (m.call c.array_pat.result (λ x p. Some (array_pat_from start p.0, p.1)) (λ x ts. pat_array.array_pat_splits _ start x ts)
+    (m.call c.array_pat.result (λ x p. Some (array_pat_from start p.0, p.1))
+    (λ x ts. pat_array.array_pat_splits _ start x ts)
     c.in_ok-elems-in-Array.ensures.reads c.parse_pat_elements.ensures.grows (λ x h. h)
     (c.array_pat.ensures (count c.args.p.now.nodes) c.in_ok-elems-in-Array.ensures.from))
 
 pub parse_pat-returns-in_err-less-in-Object : goal.parse_pat-returns-in_err-less-in-Object
 parse_pat-returns-in_err-less-in-Object g t c =
     m.refused c.from_residual-in_err-less-in-Object.ensures.1
-    (s.unheard_memory (s.forgoes_later (s.here_leads c.in_ok-look.ensures.looks) (s.forgoes_here g.met.I.Tokens.laws _ _ _ c.in_err-less-in-Object.ensures.refused))) (grows-same _)
+    (s.unheard_memory (s.forgoes_later (s.here_leads c.in_ok-look.ensures.looks)
+    (s.forgoes_here g.met.I.Tokens.laws _ _ _ c.in_err-less-in-Object.ensures.refused))) (grows-same _)
 
 pub parse_pat-returns-in_err-props-in-Object : goal.parse_pat-returns-in_err-props-in-Object
 parse_pat-returns-in_err-props-in-Object g t c =
     let opens = c.open_object.ensures.opens in
     m.refused c.from_residual-in_err-props-in-Object.ensures.1
-    (pat_begins.object_refused g.B.BodyForms.forms c.in_ok-look.ensures.looks (sym c.pat_kind.ensures ∙ c.in-Object.is) opens.took
+    (pat_begins.object_refused g.B.BodyForms.forms c.in_ok-look.ensures.looks
+    (sym c.pat_kind.ensures ∙ c.in-Object.is) opens.took
     (leaving.unheard_aside opens.moves (opens.inside ∙ ap deciding opens.outside)
-    (leaving.leaves_err (λ l. props_done (pat_props_at c.parse_pat_props-props.new.p.nodes l)) c.parse_pat_props-props.result _ c.in_err-props-in-Object.was c.parse_pat_props-props.ensures.reads)
+    (leaving.leaves_err (λ l. props_done (pat_props_at c.parse_pat_props-props.new.p.nodes l))
+    c.parse_pat_props-props.result _ c.in_err-props-in-Object.was c.parse_pat_props-props.ensures.reads)
     c.set_ctx.ensures.moves (c.set_ctx.ensures.context ∙ opens.outside)))
     c.parse_pat_props-props.ensures.grows
 
 pub parse_pat-object_pat-requires : goal.parse_pat-object_pat-requires
 parse_pat-object_pat-requires g t c =
-    record { apart = apart-down (pat_props_parts c.in_ok-props-in-Object.field-0.items) (m.held_is _ c.parse_pat_props-props.result c.in_ok-props-in-Object.field-0 c.in_ok-props-in-Object.was c.parse_pat_props-props.ensures.from) }
+    record {
+      apart = apart-down (pat_props_parts c.in_ok-props-in-Object.field-0.items)
+          (m.held_is _ c.parse_pat_props-props.result c.in_ok-props-in-Object.field-0 c.in_ok-props-in-Object.was
+          c.parse_pat_props-props.ensures.from);
+    }
 
 pub parse_pat-returns-in_ok-props-in-Object : goal.parse_pat-returns-in_ok-props-in-Object
 parse_pat-returns-in_ok-props-in-Object g t c =
     let opens = c.open_object.ensures.opens in
     let ns = c.parse_pat_props-props.new.p.nodes in
     let list = c.in_ok-props-in-Object.field-0 in
-    let apart = m.held_is _ c.parse_pat_props-props.result list c.in_ok-props-in-Object.was c.parse_pat_props-props.ensures.from in
+    let apart = m.held_is _ c.parse_pat_props-props.result list c.in_ok-props-in-Object.was
+    c.parse_pat_props-props.ensures.from in
     let made = c.object_pat.ensures (count c.args.p.now.nodes) apart in
     m.yes c.object_pat.result
-    (pat_begins.object_reads g.B.BodyForms.forms (pat_at c.object_pat.new.p.nodes) (pat_props_at ns list) c.object_pat.result c.object_pat.new.p.input c.in_ok-look.ensures.looks (sym c.pat_kind.ensures ∙ c.in-Object.is) opens.took opens.place
+    (pat_begins.object_reads g.B.BodyForms.forms (pat_at c.object_pat.new.p.nodes)
+    (pat_props_at ns list) c.object_pat.result c.object_pat.new.p.input c.in_ok-look.ensures.looks
+    (sym c.pat_kind.ensures ∙ c.in-Object.is) opens.took opens.place
     (s.on_aside opens.moves (opens.inside ∙ ap deciding opens.outside)
-    (leaving.leaves_ok (λ l. props_done (pat_props_at ns l)) c.parse_pat_props-props.result list c.in_ok-props-in-Object.was c.parse_pat_props-props.ensures.reads)
+    (leaving.leaves_ok (λ l. props_done (pat_props_at ns l)) c.parse_pat_props-props.result list
+    c.in_ok-props-in-Object.was c.parse_pat_props-props.ensures.reads)
     c.set_ctx.ensures.moves (c.set_ctx.ensures.context ∙ opens.outside)) made.reads)
     (grows-then c.parse_pat_props-props.ensures.grows made.grows) made.from
 
 pub parse_pat-returns-in-Plain : goal.parse_pat-returns-in-Plain
 parse_pat-returns-in-Plain g t c =
     m.after c.parse_plain_pat.result
-    (s.on_seen c.in_ok-look.ensures.looks (λ x ts same e. pat_array.pat_plain _ x ts (ap pat_kind e ∙ sym c.pat_kind.ensures ∙ c.in-Plain.is)))
+    (s.on_seen c.in_ok-look.ensures.looks (λ x ts same e.
+    pat_array.pat_plain _ x ts (ap pat_kind e ∙ sym c.pat_kind.ensures ∙ c.in-Plain.is)))
     (grows-same _) c.parse_plain_pat.ensures
 
 pub parse_pat_elements-loop-items-init : goal.parse_pat_elements-loop-items-init
 parse_pat_elements-loop-items-init g t c = (
-  s.on_here g.met.I.Tokens.laws _ (λ x ts. pat_array.elements_first _ x ts ∙ ap (λ v. elements_left g.B.BodyForms.forms going (map (if_there c.args.p.now.nodes) v) x ts) (sym c.new-items.ensures.items)),
+  s.on_here g.met.I.Tokens.laws _ (λ x ts. pat_array.elements_first _ x ts ∙ ap
+      (λ v. elements_left g.B.BodyForms.forms going (map (if_there c.args.p.now.nodes) v) x ts)
+      (sym c.new-items.ensures.items)),
   omega arith,
   grows-same _,
-  record { chained = ap (λ v. chain (seat_at c.args.p.now.nodes) (count c.args.p.now.nodes) (flat (if_some one_pat) v) (count c.args.p.now.nodes)) c.new-items.ensures.items ∙ (apart-none {ns = c.args.p.now.nodes} {k = count c.args.p.now.nodes} (omega arith)).chained },
+  record {
+    chained = ap (λ v. chain (seat_at c.args.p.now.nodes) (count c.args.p.now.nodes) (flat (if_some one_pat) v)
+        (count c.args.p.now.nodes)) c.new-items.ensures.items
+        ∙ (apart-none {ns = c.args.p.now.nodes} {k = count c.args.p.now.nodes} (omega arith)).chained;
+  },
 )
 
 pub parse_pat_elements-returns-in_err-end : goal.parse_pat_elements-returns-in_err-end
@@ -3306,23 +4134,27 @@ parse_pat_elements-returns-in_err-end g t c =
     let stage = stage_of c.loop-items.rest in
     let before = map (if_there c.loop-items.p.nodes) c.loop-items.items.items in
     m.refused c.from_residual.ensures.1
-    (elem_turn.not_turned g.B.BodyForms.forms stage before c.loop-items.invariant.0 (c.in_err-end.ensures.next g.B.Bodies.is_faithful)) c.loop-items.invariant.2
+    (elem_turn.not_turned g.B.BodyForms.forms stage before c.loop-items.invariant.0
+    (c.in_err-end.ensures.next g.B.Bodies.is_faithful)) c.loop-items.invariant.2
 
 pub parse_pat_elements-returns-in-End : goal.parse_pat_elements-returns-in-End
 parse_pat_elements-returns-in-End g t c =
     let stage = stage_of c.loop-items.rest in
     let before = map (if_there c.loop-items.p.nodes) c.loop-items.items.items in
     m.yes (Ok _)
-    (elem_turn.ended g.B.BodyForms.forms stage before c.loop-items.invariant.0 c.in-End.end c.in-End.is (c.in_ok-end.ensures.ate (ap is_item c.in-End.is) g.B.Bodies.is_faithful))
+    (elem_turn.ended g.B.BodyForms.forms stage before c.loop-items.invariant.0 c.in-End.end c.in-End.is
+    (c.in_ok-end.ensures.ate (ap is_item c.in-End.is) g.B.Bodies.is_faithful))
     c.loop-items.invariant.2 c.loop-items.invariant.3
 
 pub parse_pat_elements-returns-in_err-add-in-Hole : goal.parse_pat_elements-returns-in_err-add-in-Hole
 parse_pat_elements-returns-in_err-add-in-Hole g t c =
     let stage = stage_of c.loop-items.rest in
     let before = map (if_there c.loop-items.p.nodes) c.loop-items.items.items in
-    let read = elem_turn.holed g.B.BodyForms.forms stage before c.loop-items.invariant.0 c.in-Hole.is (c.in_ok-end.ensures.next g.B.Bodies.is_faithful) in
+    let read = elem_turn.holed g.B.BodyForms.forms stage before c.loop-items.invariant.0 c.in-Hole.is
+    (c.in_ok-end.ensures.next g.B.Bodies.is_faithful) in
     m.refused c.from_residual-in_err-add-in-Hole.ensures.1
-    (s.unheard_memory (s.forgoes_later read.leads (s.forgoes_here g.met.I.Tokens.laws _ _ _ c.in_err-add-in-Hole.ensures.refused))) c.loop-items.invariant.2
+    (s.unheard_memory (s.forgoes_later read.leads (s.forgoes_here g.met.I.Tokens.laws _ _ _
+    c.in_err-add-in-Hole.ensures.refused))) c.loop-items.invariant.2
 
 pub parse_pat_elements-loop-items-smaller-in-Hole : goal.parse_pat_elements-loop-items-smaller-in-Hole
 parse_pat_elements-loop-items-smaller-in-Hole g t c =
@@ -3333,40 +4165,54 @@ parse_pat_elements-loop-items-preserved-in-Hole g t c =
     let stage = stage_of c.loop-items.rest in
     let before = map (if_there c.loop-items.p.nodes) c.loop-items.items.items in
     let ns = c.loop-items.p.nodes in
-    let read = elem_turn.holed g.B.BodyForms.forms stage before c.loop-items.invariant.0 c.in-Hole.is (c.in_ok-end.ensures.next g.B.Bodies.is_faithful) in
+    let read = elem_turn.holed g.B.BodyForms.forms stage before c.loop-items.invariant.0 c.in-Hole.is
+    (c.in_ok-end.ensures.next g.B.Bodies.is_faithful) in
     let rest = ap stage_of c.passed-rest.ensures ∙ passed_stage c.loop-items.rest in
-    let more = ap (map (if_there ns)) c.in_ok-add-in-Hole.ensures.added ∙ holed-more c.loop-items.items.items None (grows-same ns) c.loop-items.invariant.3 in
-    let parts = apart-list-more (if_some one_pat) c.loop-items.items.items None (grows-same ns) c.loop-items.invariant.3 (apart-none (omega arith)) in (
-      s.on_to read (λ x ts. ap (λ v. elements_left g.B.BodyForms.forms v (before ++ None ∷ []) x ts) (sym rest) ∙ ap (λ v. elements_left g.B.BodyForms.forms (stage_of c.passed-rest.result) v x ts) (sym more)),
+    let more = ap (map (if_there ns)) c.in_ok-add-in-Hole.ensures.added ∙ holed-more c.loop-items.items.items None
+    (grows-same ns) c.loop-items.invariant.3 in
+    let parts = apart-list-more (if_some one_pat) c.loop-items.items.items None (grows-same ns) c.loop-items.invariant.3
+    (apart-none (omega arith)) in (
+      s.on_to read (λ x ts. ap (λ v. elements_left g.B.BodyForms.forms v (before ++ None ∷ []) x ts) (sym rest) ∙ ap
+          (λ v. elements_left g.B.BodyForms.forms (stage_of c.passed-rest.result) v x ts) (sym more)),
       let a = c.loop-items.invariant.1 in let b = c.in_ok-end.ensures.falls in omega arith,
       c.loop-items.invariant.2,
-      record { chained = ap (λ v. chain (seat_at ns) (count c.args.p.now.nodes) (flat (if_some one_pat) v) (count ns)) c.in_ok-add-in-Hole.ensures.added ∙ parts.chained },
+      record {
+        chained = ap (λ v. chain (seat_at ns) (count c.args.p.now.nodes) (flat (if_some one_pat) v) (count ns))
+            c.in_ok-add-in-Hole.ensures.added ∙ parts.chained;
+      },
     )
 
 pub parse_pat_elements-returns-in_err-arg-in-Some : goal.parse_pat_elements-returns-in_err-arg-in-Some
 parse_pat_elements-returns-in_err-arg-in-Some g t c =
     let stage = stage_of c.loop-items.rest in
     let before = map (if_there c.loop-items.p.nodes) c.loop-items.items.items in
-    let turned = elem_turn.turned g.B.BodyForms.forms stage before c.loop-items.invariant.0 (next_element.Item (Some c.in-Some.dots)) (c.in-Item.is ∙ ap (λ o. next_element.Item o) c.in-Some.is) (c.in_ok-end.ensures.next g.B.Bodies.is_faithful) in
+    let turned = elem_turn.turned g.B.BodyForms.forms stage before c.loop-items.invariant.0
+    (next_element.Item (Some c.in-Some.dots)) (c.in-Item.is ∙ ap (λ o. next_element.Item o) c.in-Some.is)
+    (c.in_ok-end.ensures.next g.B.Bodies.is_faithful) in
     m.refused c.from_residual-in_err-arg-in-Some.ensures.1
-    (elem_turn.no_item g.B.BodyForms.forms stage before (Some c.in-Some.dots) turned (elem_turn.no_rest g.B.BodyForms.forms c.in-Some.dots c.in_err-arg-in-Some.ensures.reads))
+    (elem_turn.no_item g.B.BodyForms.forms stage before (Some c.in-Some.dots) turned
+    (elem_turn.no_rest g.B.BodyForms.forms c.in-Some.dots c.in_err-arg-in-Some.ensures.reads))
     (grows-then c.loop-items.invariant.2 c.parse_pat.ensures.grows)
 
 pub parse_pat_elements-returns-in_err-pat-in-Some : goal.parse_pat_elements-returns-in_err-pat-in-Some
 parse_pat_elements-returns-in_err-pat-in-Some g t c =
     let stage = stage_of c.loop-items.rest in
     let before = map (if_there c.loop-items.p.nodes) c.loop-items.items.items in
-    let turned = elem_turn.turned g.B.BodyForms.forms stage before c.loop-items.invariant.0 (next_element.Item (Some c.in-Some.dots)) (c.in-Item.is ∙ ap (λ o. next_element.Item o) c.in-Some.is) (c.in_ok-end.ensures.next g.B.Bodies.is_faithful) in
+    let turned = elem_turn.turned g.B.BodyForms.forms stage before c.loop-items.invariant.0
+    (next_element.Item (Some c.in-Some.dots)) (c.in-Item.is ∙ ap (λ o. next_element.Item o) c.in-Some.is)
+    (c.in_ok-end.ensures.next g.B.Bodies.is_faithful) in
     m.refused c.from_residual-in_err-pat-in-Some.ensures.1
     (elem_turn.no_item g.B.BodyForms.forms stage before (Some c.in-Some.dots) turned
-    (s.unheard_after (elem_turn.rest_begun g.B.BodyForms.forms c.in-Some.dots c.in_ok-arg-in-Some.ensures.reads.on) c.in_err-pat-in-Some.ensures.reads))
+    (s.unheard_after (elem_turn.rest_begun g.B.BodyForms.forms c.in-Some.dots c.in_ok-arg-in-Some.ensures.reads.on)
+    c.in_err-pat-in-Some.ensures.reads))
     (grows-then c.loop-items.invariant.2 (grows-then c.parse_pat.ensures.grows c.rest_pat.ensures.grows))
 
 pub parse_pat_elements-returns-in_err-pat-in-None : goal.parse_pat_elements-returns-in_err-pat-in-None
 parse_pat_elements-returns-in_err-pat-in-None g t c =
     let stage = stage_of c.loop-items.rest in
     let before = map (if_there c.loop-items.p.nodes) c.loop-items.items.items in
-    let turned = elem_turn.turned g.B.BodyForms.forms stage before c.loop-items.invariant.0 (next_element.Item None) (c.in-Item.is ∙ ap (λ o. next_element.Item o) c.in-None.is) (c.in_ok-end.ensures.next g.B.Bodies.is_faithful) in
+    let turned = elem_turn.turned g.B.BodyForms.forms stage before c.loop-items.invariant.0 (next_element.Item None)
+    (c.in-Item.is ∙ ap (λ o. next_element.Item o) c.in-None.is) (c.in_ok-end.ensures.next g.B.Bodies.is_faithful) in
     m.refused c.from_residual-in_err-pat-in-None.ensures.1
     (elem_turn.no_item g.B.BodyForms.forms stage before None turned c.in_err-pat-in-None.ensures.reads)
     (grows-then c.loop-items.invariant.2 c.parse_binding_element.ensures.grows)
@@ -3381,19 +4227,30 @@ parse_pat_elements-returns-in_err-add-in-Item g t c =
       | parse_pat_elements-in-Some+in_ok-arg-in-Some+in_ok-pat-in-Some w ↦ w.dots-is ∙ sym w.in-Some.is
       | parse_pat_elements-in-None+in_ok-pat-in-None w ↦ w.dots-is
     ] in
-    let turned = elem_turn.turned g.B.BodyForms.forms stage before c.loop-items.invariant.0 (next_element.Item dots) (c.in-Item.is ∙ ap (λ o. next_element.Item o) (sym same)) (c.in_ok-end.ensures.next g.B.Bodies.is_faithful) in
+    let turned = elem_turn.turned g.B.BodyForms.forms stage before c.loop-items.invariant.0 (next_element.Item dots)
+    (c.in-Item.is ∙ ap (λ o. next_element.Item o) (sym same)) (c.in_ok-end.ensures.next g.B.Bodies.is_faithful) in
     let from = record c.loop-items.p { input = c.next_element.new.input } in
-    let item : Produces g.I.Tokens.model g.B.Bodies.is_faithful pat_itself pat_at (item_read g.B.BodyForms.forms dots) (count c.loop-items.p.nodes) from (Ok c.match-dots.pat) c.match-dots.p =
+    let item : Produces g.I.Tokens.model g.B.Bodies.is_faithful pat_itself pat_at (item_read g.B.BodyForms.forms dots)
+    (count c.loop-items.p.nodes) from (Ok c.match-dots.pat) c.match-dots.p =
     elim c.match-dots.branch [
       | parse_pat_elements-in-Some+in_ok-arg-in-Some+in_ok-pat-in-Some w ↦ rw (w.p-is, w.pat-is, w.dots-is)
-          (elem_turn.rest_item g.B.BodyForms.forms w.in-Some.dots w.parse_pat.new.p w.in_ok-arg-in-Some.arg (Ok _) w.in_ok-arg-in-Some.ensures.reads w.parse_pat.ensures.grows w.in_ok-arg-in-Some.ensures.from
-          (record { reads = w.in_ok-pat-in-Some.ensures.reads; falls = w.in_ok-pat-in-Some.ensures.falls; grows = w.rest_pat.ensures.grows; from = w.in_ok-pat-in-Some.ensures.from }))
+          (elem_turn.rest_item g.B.BodyForms.forms w.in-Some.dots w.parse_pat.new.p w.in_ok-arg-in-Some.arg
+          (Ok _) w.in_ok-arg-in-Some.ensures.reads w.parse_pat.ensures.grows w.in_ok-arg-in-Some.ensures.from
+          (record {
+            reads = w.in_ok-pat-in-Some.ensures.reads;
+            falls = w.in_ok-pat-in-Some.ensures.falls;
+            grows =
+                w.rest_pat.ensures.grows;
+            from = w.in_ok-pat-in-Some.ensures.from;
+          }))
       | parse_pat_elements-in-None+in_ok-pat-in-None w ↦ rw (w.p-is, w.pat-is, w.dots-is ∙ w.in-None.is)
-          (m.yes (Ok _) w.in_ok-pat-in-None.ensures.reads w.parse_binding_element.ensures.grows w.in_ok-pat-in-None.ensures.from)
+          (m.yes (Ok _) w.in_ok-pat-in-None.ensures.reads w.parse_binding_element.ensures.grows
+          w.in_ok-pat-in-None.ensures.from)
     ] in
     let read = elem_turn.item g.B.BodyForms.forms stage before dots turned item.reads.on in
     m.refused c.from_residual-in_err-add-in-Item.ensures.1
-    (s.unheard_memory (s.forgoes_later read.leads (s.forgoes_here g.met.I.Tokens.laws _ _ _ c.in_err-add-in-Item.ensures.refused)))
+    (s.unheard_memory (s.forgoes_later read.leads (s.forgoes_here g.met.I.Tokens.laws _ _ _
+    c.in_err-add-in-Item.ensures.refused)))
     (grows-then c.loop-items.invariant.2 item.grows)
 
 pub parse_pat_elements-returns-in_err-rest-in-Item : goal.parse_pat_elements-returns-in_err-rest-in-Item
@@ -3406,19 +4263,31 @@ parse_pat_elements-returns-in_err-rest-in-Item g t c =
       | parse_pat_elements-in-Some+in_ok-arg-in-Some+in_ok-pat-in-Some w ↦ w.dots-is ∙ sym w.in-Some.is
       | parse_pat_elements-in-None+in_ok-pat-in-None w ↦ w.dots-is
     ] in
-    let turned = elem_turn.turned g.B.BodyForms.forms stage before c.loop-items.invariant.0 (next_element.Item dots) (c.in-Item.is ∙ ap (λ o. next_element.Item o) (sym same)) (c.in_ok-end.ensures.next g.B.Bodies.is_faithful) in
+    let turned = elem_turn.turned g.B.BodyForms.forms stage before c.loop-items.invariant.0 (next_element.Item dots)
+    (c.in-Item.is ∙ ap (λ o. next_element.Item o) (sym same)) (c.in_ok-end.ensures.next g.B.Bodies.is_faithful) in
     let from = record c.loop-items.p { input = c.next_element.new.input } in
-    let item : Produces g.I.Tokens.model g.B.Bodies.is_faithful pat_itself pat_at (item_read g.B.BodyForms.forms dots) (count c.loop-items.p.nodes) from (Ok c.match-dots.pat) c.match-dots.p =
+    let item : Produces g.I.Tokens.model g.B.Bodies.is_faithful pat_itself pat_at (item_read g.B.BodyForms.forms dots)
+    (count c.loop-items.p.nodes) from (Ok c.match-dots.pat) c.match-dots.p =
     elim c.match-dots.branch [
       | parse_pat_elements-in-Some+in_ok-arg-in-Some+in_ok-pat-in-Some w ↦ rw (w.p-is, w.pat-is, w.dots-is)
-          (elem_turn.rest_item g.B.BodyForms.forms w.in-Some.dots w.parse_pat.new.p w.in_ok-arg-in-Some.arg (Ok _) w.in_ok-arg-in-Some.ensures.reads w.parse_pat.ensures.grows w.in_ok-arg-in-Some.ensures.from
-          (record { reads = w.in_ok-pat-in-Some.ensures.reads; falls = w.in_ok-pat-in-Some.ensures.falls; grows = w.rest_pat.ensures.grows; from = w.in_ok-pat-in-Some.ensures.from }))
+          (elem_turn.rest_item g.B.BodyForms.forms w.in-Some.dots w.parse_pat.new.p w.in_ok-arg-in-Some.arg
+          (Ok _) w.in_ok-arg-in-Some.ensures.reads w.parse_pat.ensures.grows w.in_ok-arg-in-Some.ensures.from
+          (record {
+            reads = w.in_ok-pat-in-Some.ensures.reads;
+            falls = w.in_ok-pat-in-Some.ensures.falls;
+            grows =
+                w.rest_pat.ensures.grows;
+            from = w.in_ok-pat-in-Some.ensures.from;
+          }))
       | parse_pat_elements-in-None+in_ok-pat-in-None w ↦ rw (w.p-is, w.pat-is, w.dots-is ∙ w.in-None.is)
-          (m.yes (Ok _) w.in_ok-pat-in-None.ensures.reads w.parse_binding_element.ensures.grows w.in_ok-pat-in-None.ensures.from)
+          (m.yes (Ok _) w.in_ok-pat-in-None.ensures.reads w.parse_binding_element.ensures.grows
+          w.in_ok-pat-in-None.ensures.from)
     ] in
     let read = elem_turn.item g.B.BodyForms.forms stage before dots turned item.reads.on in
     m.refused c.from_residual-in_err-rest-in-Item.ensures.1
-    (elem_turn.not_separated g.B.BodyForms.forms (is_some dots) stage (before ++ Some (pat_at c.match-dots.p.nodes c.match-dots.pat) ∷ []) read (c.in_err-rest-in-Item.ensures.separates g.B.Bodies.is_faithful))
+    (elem_turn.not_separated g.B.BodyForms.forms (is_some dots) stage
+    (before ++ Some (pat_at c.match-dots.p.nodes c.match-dots.pat) ∷ []) read
+    (c.in_err-rest-in-Item.ensures.separates g.B.Bodies.is_faithful))
     (grows-then c.loop-items.invariant.2 item.grows)
 
 pub parse_pat_elements-loop-items-preserved : goal.parse_pat_elements-loop-items-preserved
@@ -3431,36 +4300,60 @@ parse_pat_elements-loop-items-preserved g t c =
       | parse_pat_elements-in-Some+in_ok-arg-in-Some+in_ok-pat-in-Some w ↦ w.dots-is ∙ sym w.in-Some.is
       | parse_pat_elements-in-None+in_ok-pat-in-None w ↦ w.dots-is
     ] in
-    let turned = elem_turn.turned g.B.BodyForms.forms stage before c.loop-items.invariant.0 (next_element.Item dots) (c.in-Item.is ∙ ap (λ o. next_element.Item o) (sym same)) (c.in_ok-end.ensures.next g.B.Bodies.is_faithful) in
+    let turned = elem_turn.turned g.B.BodyForms.forms stage before c.loop-items.invariant.0 (next_element.Item dots)
+    (c.in-Item.is ∙ ap (λ o. next_element.Item o) (sym same)) (c.in_ok-end.ensures.next g.B.Bodies.is_faithful) in
     let from = record c.loop-items.p { input = c.next_element.new.input } in
-    let item : Produces g.I.Tokens.model g.B.Bodies.is_faithful pat_itself pat_at (item_read g.B.BodyForms.forms dots) (count c.loop-items.p.nodes) from (Ok c.match-dots.pat) c.match-dots.p =
+    let item : Produces g.I.Tokens.model g.B.Bodies.is_faithful pat_itself pat_at (item_read g.B.BodyForms.forms dots)
+    (count c.loop-items.p.nodes) from (Ok c.match-dots.pat) c.match-dots.p =
     elim c.match-dots.branch [
       | parse_pat_elements-in-Some+in_ok-arg-in-Some+in_ok-pat-in-Some w ↦ rw (w.p-is, w.pat-is, w.dots-is)
-          (elem_turn.rest_item g.B.BodyForms.forms w.in-Some.dots w.parse_pat.new.p w.in_ok-arg-in-Some.arg (Ok _) w.in_ok-arg-in-Some.ensures.reads w.parse_pat.ensures.grows w.in_ok-arg-in-Some.ensures.from
-          (record { reads = w.in_ok-pat-in-Some.ensures.reads; falls = w.in_ok-pat-in-Some.ensures.falls; grows = w.rest_pat.ensures.grows; from = w.in_ok-pat-in-Some.ensures.from }))
+          (elem_turn.rest_item g.B.BodyForms.forms w.in-Some.dots w.parse_pat.new.p w.in_ok-arg-in-Some.arg
+          (Ok _) w.in_ok-arg-in-Some.ensures.reads w.parse_pat.ensures.grows w.in_ok-arg-in-Some.ensures.from
+          (record {
+            reads = w.in_ok-pat-in-Some.ensures.reads;
+            falls = w.in_ok-pat-in-Some.ensures.falls;
+            grows =
+                w.rest_pat.ensures.grows;
+            from = w.in_ok-pat-in-Some.ensures.from;
+          }))
       | parse_pat_elements-in-None+in_ok-pat-in-None w ↦ rw (w.p-is, w.pat-is, w.dots-is ∙ w.in-None.is)
-          (m.yes (Ok _) w.in_ok-pat-in-None.ensures.reads w.parse_binding_element.ensures.grows w.in_ok-pat-in-None.ensures.from)
+          (m.yes (Ok _) w.in_ok-pat-in-None.ensures.reads w.parse_binding_element.ensures.grows
+          w.in_ok-pat-in-None.ensures.from)
     ] in
     let ns = c.match-dots.p.nodes in
     let pat = c.match-dots.pat in
     let read = elem_turn.item g.B.BodyForms.forms stage before dots turned item.reads.on in
-    let more = ap (map (if_there ns)) c.in_ok-add-in-Item.ensures.added ∙ holed-more c.loop-items.items.items (Some pat) item.grows c.loop-items.invariant.3 in
-    let parts = apart-list-more (if_some one_pat) c.loop-items.items.items (Some pat) item.grows c.loop-items.invariant.3 (apart-from (pat_part pat) item.from) in (
-      s.on_to (elem_turn.separated g.B.BodyForms.forms (is_some dots) stage (before ++ Some (pat_at ns pat) ∷ []) read (c.in_ok-rest-in-Item.ensures.separates g.B.Bodies.is_faithful))
+    let more = ap (map (if_there ns)) c.in_ok-add-in-Item.ensures.added ∙ holed-more c.loop-items.items.items
+    (Some pat) item.grows c.loop-items.invariant.3 in
+    let parts = apart-list-more (if_some one_pat) c.loop-items.items.items
+    (Some pat) item.grows c.loop-items.invariant.3 (apart-from (pat_part pat) item.from) in (
+      s.on_to (elem_turn.separated g.B.BodyForms.forms (is_some dots) stage (before ++ Some (pat_at ns pat) ∷ []) read
+          (c.in_ok-rest-in-Item.ensures.separates g.B.Bodies.is_faithful))
           (λ x ts. ap (λ v. elements_left g.B.BodyForms.forms (stage_of c.in_ok-rest-in-Item.rest) v x ts) (sym more)),
-      let a = c.loop-items.invariant.1 in let b = c.in_ok-end.ensures.falls in let d = item.falls in let e = c.in_ok-rest-in-Item.ensures.falls in omega arith,
+      let a = c.loop-items.invariant.1 in let b = c.in_ok-end.ensures.falls in let d = item.falls in
+          let e = c.in_ok-rest-in-Item.ensures.falls in omega arith,
       grows-then c.loop-items.invariant.2 item.grows,
-      record { chained = ap (λ v. chain (seat_at ns) (count c.args.p.now.nodes) (flat (if_some one_pat) v) (count ns)) c.in_ok-add-in-Item.ensures.added ∙ parts.chained },
+      record {
+        chained = ap (λ v. chain (seat_at ns) (count c.args.p.now.nodes) (flat (if_some one_pat) v) (count ns))
+            c.in_ok-add-in-Item.ensures.added ∙ parts.chained;
+      },
     )
 
 pub parse_formal_params-loop-params-init : goal.parse_formal_params-loop-params-init
 parse_formal_params-loop-params-init g t c = (
-  s.on_here g.met.I.Tokens.laws _ (λ x ts. formal.params_first _ x ts ∙ ap (λ v. params_left g.B.BodyForms.forms going (trees (map (λ p. pat_at c.args.p.now.nodes p.pat) v)) x ts) (sym c.new-params.ensures.items)),
+  s.on_here g.met.I.Tokens.laws _ (λ x ts. formal.params_first _ x ts ∙ ap
+      (λ v. params_left g.B.BodyForms.forms going (trees (map (λ p. pat_at c.args.p.now.nodes p.pat) v)) x ts)
+      (sym c.new-params.ensures.items)),
   omega arith,
   grows-same _,
-  record { chained = ap (λ v. chain (seat_at c.args.p.now.nodes) (count c.args.p.now.nodes) (flat param_parts v) (count c.args.p.now.nodes)) c.new-params.ensures.items ∙ (apart-none {ns = c.args.p.now.nodes} {k = count c.args.p.now.nodes} (omega arith)).chained },
+  record {
+    chained = ap (λ v. chain (seat_at c.args.p.now.nodes) (count c.args.p.now.nodes) (flat param_parts v)
+        (count c.args.p.now.nodes)) c.new-params.ensures.items
+        ∙ (apart-none {ns = c.args.p.now.nodes} {k = count c.args.p.now.nodes} (omega arith)).chained;
+  },
   subst (λ v. placed c.args.p.now.nodes v) (sym c.new-params.ensures.items) tt,
-  λ l n. subst (λ v. AllReadAlone g.B.BodyForms.forms (scope g.I.Tokens.model c.args.p.now.input) (trees (map (λ p. pat_at c.args.p.now.nodes p.pat) v))) (sym c.new-params.ensures.items) tt,
+  λ l n. subst (λ v. AllReadAlone g.B.BodyForms.forms (scope g.I.Tokens.model c.args.p.now.input)
+      (trees (map (λ p. pat_at c.args.p.now.nodes p.pat) v))) (sym c.new-params.ensures.items) tt,
 )
 
 pub parse_formal_params-returns-in_err-next_param : goal.parse_formal_params-returns-in_err-next_param
@@ -3468,7 +4361,8 @@ parse_formal_params-returns-in_err-next_param g t c =
     let stage = stage_of c.loop-params.rest in
     let before = params_at c.loop-params.p.nodes c.loop-params.params in
     alone.no_params c.from_residual.result c.from_residual.ensures.1
-    (param_turn.not_turned g.B.BodyForms.forms stage before c.loop-params.invariant.0 (c.in_err-next_param.ensures.next g.B.Bodies.is_faithful)) c.loop-params.invariant.2
+    (param_turn.not_turned g.B.BodyForms.forms stage before c.loop-params.invariant.0
+    (c.in_err-next_param.ensures.next g.B.Bodies.is_faithful)) c.loop-params.invariant.2
 
 pub parse_formal_params-returns-in-End : goal.parse_formal_params-returns-in-End
 parse_formal_params-returns-in-End g t c =
@@ -3477,36 +4371,49 @@ parse_formal_params-returns-in-End g t c =
     let looked = c.in_ok-next_param.ensures.next g.B.Bodies.is_faithful in
     alone.params_left_open c.loop-params.params
     (param_turn.ended g.B.BodyForms.forms stage before c.loop-params.invariant.0 c.in-End.is looked)
-    (alone.alone_later g.I.Tokens.model g.B.BodyForms.forms before c.loop-params.invariant.0.leads looked.leads c.loop-params.invariant.5)
+    (alone.alone_later g.I.Tokens.model g.B.BodyForms.forms before c.loop-params.invariant.0.leads looked.leads
+    c.loop-params.invariant.5)
     c.loop-params.invariant.2 (c.loop-params.invariant.3, c.loop-params.invariant.4)
 
 pub parse_formal_params-returns-in_err-arg-in-Some : goal.parse_formal_params-returns-in_err-arg-in-Some
 parse_formal_params-returns-in_err-arg-in-Some g t c =
     let stage = stage_of c.loop-params.rest in
     let before = params_at c.loop-params.p.nodes c.loop-params.params in
-    let turned = param_turn.turned g.B.BodyForms.forms stage before c.loop-params.invariant.0 (next_param.Item (Some c.in-Some.dots)) (c.in-Item.is ∙ ap (λ o. next_param.Item o) c.in-Some.is) (c.in_ok-next_param.ensures.next g.B.Bodies.is_faithful) in
+    let turned = param_turn.turned g.B.BodyForms.forms stage before c.loop-params.invariant.0
+    (next_param.Item (Some c.in-Some.dots)) (c.in-Item.is ∙ ap (λ o. next_param.Item o) c.in-Some.is)
+    (c.in_ok-next_param.ensures.next g.B.Bodies.is_faithful) in
     alone.no_params c.from_residual-in_err-arg-in-Some.result c.from_residual-in_err-arg-in-Some.ensures.1
-    (param_turn.no_item g.B.BodyForms.forms stage before (Some c.in-Some.dots) turned (param_turn.no_rest g.B.BodyForms.forms c.in-Some.dots c.in_err-arg-in-Some.ensures.reads))
+    (param_turn.no_item g.B.BodyForms.forms stage before (Some c.in-Some.dots) turned
+    (param_turn.no_rest g.B.BodyForms.forms c.in-Some.dots c.in_err-arg-in-Some.ensures.reads))
     (grows-then c.loop-params.invariant.2 c.parse_pat.ensures.grows)
 
 pub parse_formal_params-returns-in_err-eat-in-Some : goal.parse_formal_params-returns-in_err-eat-in-Some
 parse_formal_params-returns-in_err-eat-in-Some g t c =
     let stage = stage_of c.loop-params.rest in
     let before = params_at c.loop-params.p.nodes c.loop-params.params in
-    let turned = param_turn.turned g.B.BodyForms.forms stage before c.loop-params.invariant.0 (next_param.Item (Some c.in-Some.dots)) (c.in-Item.is ∙ ap (λ o. next_param.Item o) c.in-Some.is) (c.in_ok-next_param.ensures.next g.B.Bodies.is_faithful) in
+    let turned = param_turn.turned g.B.BodyForms.forms stage before c.loop-params.invariant.0
+    (next_param.Item (Some c.in-Some.dots)) (c.in-Item.is ∙ ap (λ o. next_param.Item o) c.in-Some.is)
+    (c.in_ok-next_param.ensures.next g.B.Bodies.is_faithful) in
     alone.no_params c.from_residual-in_err-eat-in-Some.result c.from_residual-in_err-eat-in-Some.ensures.1
-    (param_turn.no_item g.B.BodyForms.forms stage before (Some c.in-Some.dots) turned (s.unheard_after (param_turn.rest_begun g.B.BodyForms.forms c.in-Some.dots c.in_ok-arg-in-Some.ensures.reads.on)
-    (param_turn.rest_unlooked c.in-Some.dots (pat_at c.parse_pat.new.p.nodes c.in_ok-arg-in-Some.arg) (c.in_err-eat-in-Some.ensures.eats g.B.Bodies.is_faithful))))
+    (param_turn.no_item g.B.BodyForms.forms stage before (Some c.in-Some.dots) turned
+    (s.unheard_after (param_turn.rest_begun g.B.BodyForms.forms c.in-Some.dots c.in_ok-arg-in-Some.ensures.reads.on)
+    (param_turn.rest_unlooked c.in-Some.dots (pat_at c.parse_pat.new.p.nodes c.in_ok-arg-in-Some.arg)
+    (c.in_err-eat-in-Some.ensures.eats g.B.Bodies.is_faithful))))
     (grows-then c.loop-params.invariant.2 c.parse_pat.ensures.grows)
 
 pub parse_formal_params-returns-in_err-value-in-Some-2 : goal.parse_formal_params-returns-in_err-value-in-Some-2
 parse_formal_params-returns-in_err-value-in-Some-2 g t c =
     let stage = stage_of c.loop-params.rest in
     let before = params_at c.loop-params.p.nodes c.loop-params.params in
-    let turned = param_turn.turned g.B.BodyForms.forms stage before c.loop-params.invariant.0 (next_param.Item (Some c.in-Some.dots)) (c.in-Item.is ∙ ap (λ o. next_param.Item o) c.in-Some.is) (c.in_ok-next_param.ensures.next g.B.Bodies.is_faithful) in
+    let turned = param_turn.turned g.B.BodyForms.forms stage before c.loop-params.invariant.0
+    (next_param.Item (Some c.in-Some.dots)) (c.in-Item.is ∙ ap (λ o. next_param.Item o) c.in-Some.is)
+    (c.in_ok-next_param.ensures.next g.B.Bodies.is_faithful) in
     alone.no_params c.from_residual-in_err-value-in-Some-2.result c.from_residual-in_err-value-in-Some-2.ensures.1
-    (param_turn.no_item g.B.BodyForms.forms stage before (Some c.in-Some.dots) turned (s.unheard_after (param_turn.rest_begun g.B.BodyForms.forms c.in-Some.dots c.in_ok-arg-in-Some.ensures.reads.on)
-    (s.unheard_after (param_turn.rest_ill c.in-Some.dots (pat_at c.parse_pat.new.p.nodes c.in_ok-arg-in-Some.arg) (s.eats_some g.B.Bodies.is_faithful is_equals _ c.in-Some-2.field-0 _ _ c.in-Some-2.is (c.in_ok-eat-in-Some.ensures.eats g.B.Bodies.is_faithful)).on)
+    (param_turn.no_item g.B.BodyForms.forms stage before (Some c.in-Some.dots) turned
+    (s.unheard_after (param_turn.rest_begun g.B.BodyForms.forms c.in-Some.dots c.in_ok-arg-in-Some.ensures.reads.on)
+    (s.unheard_after (param_turn.rest_ill c.in-Some.dots (pat_at c.parse_pat.new.p.nodes c.in_ok-arg-in-Some.arg)
+    (s.eats_some g.B.Bodies.is_faithful is_equals _ c.in-Some-2.field-0 _ _ c.in-Some-2.is
+    (c.in_ok-eat-in-Some.ensures.eats g.B.Bodies.is_faithful)).on)
     (s.unheard_none (λ x ts. refl) c.in_err-value-in-Some-2.ensures.reads.refuses))))
     (grows-then c.loop-params.invariant.2 (grows-then c.parse_pat.ensures.grows c.parse_assignment_expr.ensures.grows))
 
@@ -3518,29 +4425,42 @@ pub parse_formal_params-returns-in_err-pat-in-Some-2 : goal.parse_formal_params-
 parse_formal_params-returns-in_err-pat-in-Some-2 g t c =
     let stage = stage_of c.loop-params.rest in
     let before = params_at c.loop-params.p.nodes c.loop-params.params in
-    let turned = param_turn.turned g.B.BodyForms.forms stage before c.loop-params.invariant.0 (next_param.Item (Some c.in-Some.dots)) (c.in-Item.is ∙ ap (λ o. next_param.Item o) c.in-Some.is) (c.in_ok-next_param.ensures.next g.B.Bodies.is_faithful) in
+    let turned = param_turn.turned g.B.BodyForms.forms stage before c.loop-params.invariant.0
+    (next_param.Item (Some c.in-Some.dots)) (c.in-Item.is ∙ ap (λ o. next_param.Item o) c.in-Some.is)
+    (c.in_ok-next_param.ensures.next g.B.Bodies.is_faithful) in
     alone.no_params c.from_residual-in_err-pat-in-Some-2.result c.from_residual-in_err-pat-in-Some-2.ensures.1
-    (param_turn.no_item g.B.BodyForms.forms stage before (Some c.in-Some.dots) turned (s.unheard_after (param_turn.rest_begun g.B.BodyForms.forms c.in-Some.dots c.in_ok-arg-in-Some.ensures.reads.on)
-    (s.unheard_after (param_turn.rest_faulty c.in-Some.dots (pat_at c.parse_pat.new.p.nodes c.in_ok-arg-in-Some.arg) (s.eats_some g.B.Bodies.is_faithful is_equals _ c.in-Some-2.field-0 _ _ c.in-Some-2.is (c.in_ok-eat-in-Some.ensures.eats g.B.Bodies.is_faithful)).on c.in_ok-value-in-Some-2.ensures.reads.on.leads)
+    (param_turn.no_item g.B.BodyForms.forms stage before (Some c.in-Some.dots) turned
+    (s.unheard_after (param_turn.rest_begun g.B.BodyForms.forms c.in-Some.dots c.in_ok-arg-in-Some.ensures.reads.on)
+    (s.unheard_after (param_turn.rest_faulty c.in-Some.dots (pat_at c.parse_pat.new.p.nodes c.in_ok-arg-in-Some.arg)
+    (s.eats_some g.B.Bodies.is_faithful is_equals _ c.in-Some-2.field-0 _ _ c.in-Some-2.is
+    (c.in_ok-eat-in-Some.ensures.eats g.B.Bodies.is_faithful)).on c.in_ok-value-in-Some-2.ensures.reads.on.leads)
     c.in_err-pat-in-Some-2.ensures.reads)))
-    (grows-then c.loop-params.invariant.2 (grows-then c.parse_pat.ensures.grows (grows-then c.parse_assignment_expr.ensures.grows c.rest_default.ensures.grows)))
+    (grows-then c.loop-params.invariant.2 (grows-then c.parse_pat.ensures.grows
+    (grows-then c.parse_assignment_expr.ensures.grows c.rest_default.ensures.grows)))
 
 pub parse_formal_params-returns-in_err-pat-in-None-2 : goal.parse_formal_params-returns-in_err-pat-in-None-2
 parse_formal_params-returns-in_err-pat-in-None-2 g t c =
     let stage = stage_of c.loop-params.rest in
     let before = params_at c.loop-params.p.nodes c.loop-params.params in
-    let turned = param_turn.turned g.B.BodyForms.forms stage before c.loop-params.invariant.0 (next_param.Item (Some c.in-Some.dots)) (c.in-Item.is ∙ ap (λ o. next_param.Item o) c.in-Some.is) (c.in_ok-next_param.ensures.next g.B.Bodies.is_faithful) in
-    let none = s.eats_none g.B.Bodies.is_faithful is_equals _ _ _ c.in-None-2.is (c.in_ok-eat-in-Some.ensures.eats g.B.Bodies.is_faithful) in
+    let turned = param_turn.turned g.B.BodyForms.forms stage before c.loop-params.invariant.0
+    (next_param.Item (Some c.in-Some.dots)) (c.in-Item.is ∙ ap (λ o. next_param.Item o) c.in-Some.is)
+    (c.in_ok-next_param.ensures.next g.B.Bodies.is_faithful) in
+    let none = s.eats_none g.B.Bodies.is_faithful is_equals _ _ _ c.in-None-2.is
+    (c.in_ok-eat-in-Some.ensures.eats g.B.Bodies.is_faithful) in
     alone.no_params c.from_residual-in_err-pat-in-None-2.result c.from_residual-in_err-pat-in-None-2.ensures.1
-    (param_turn.no_item g.B.BodyForms.forms stage before (Some c.in-Some.dots) turned (s.unheard_after (param_turn.rest_begun g.B.BodyForms.forms c.in-Some.dots c.in_ok-arg-in-Some.ensures.reads.on)
-    (s.unheard_after (param_turn.rest_bare c.in-Some.dots (pat_at c.parse_pat.new.p.nodes c.in_ok-arg-in-Some.arg) none) c.in_err-pat-in-None-2.ensures.reads)))
+    (param_turn.no_item g.B.BodyForms.forms stage before (Some c.in-Some.dots) turned
+    (s.unheard_after (param_turn.rest_begun g.B.BodyForms.forms c.in-Some.dots c.in_ok-arg-in-Some.ensures.reads.on)
+    (s.unheard_after (param_turn.rest_bare c.in-Some.dots (pat_at c.parse_pat.new.p.nodes c.in_ok-arg-in-Some.arg) none)
+    c.in_err-pat-in-None-2.ensures.reads)))
     (grows-then c.loop-params.invariant.2 (grows-then c.parse_pat.ensures.grows c.rest_pat.ensures.grows))
 
 pub parse_formal_params-returns-in_err-pat-in-None : goal.parse_formal_params-returns-in_err-pat-in-None
 parse_formal_params-returns-in_err-pat-in-None g t c =
     let stage = stage_of c.loop-params.rest in
     let before = params_at c.loop-params.p.nodes c.loop-params.params in
-    let turned = param_turn.turned g.B.BodyForms.forms stage before c.loop-params.invariant.0 (next_param.Item None) (c.in-Item.is ∙ ap (λ o. next_param.Item o) c.in-None.is) (c.in_ok-next_param.ensures.next g.B.Bodies.is_faithful) in
+    let turned = param_turn.turned g.B.BodyForms.forms stage before c.loop-params.invariant.0 (next_param.Item None)
+    (c.in-Item.is ∙ ap (λ o. next_param.Item o) c.in-None.is)
+    (c.in_ok-next_param.ensures.next g.B.Bodies.is_faithful) in
     alone.no_params c.from_residual-in_err-pat-in-None.result c.from_residual-in_err-pat-in-None.ensures.1
     (param_turn.no_item g.B.BodyForms.forms stage before None turned c.in_err-pat-in-None.ensures.reads)
     (grows-then c.loop-params.invariant.2 c.parse_binding_element.ensures.grows)
@@ -3553,33 +4473,59 @@ parse_formal_params-returns-in_err-add-in-Item g t c =
     let same : c.match-dots.dots ≡ c.in-Item.dots =
     elim c.match-dots.branch [
       | parse_formal_params-in-Some+in_ok-arg-in-Some+in_ok-eat-in-Some+in-Some-2+in_ok-value-in-Some-2+in_ok-pat-in-Some-2 w ↦ w.dots-is ∙ sym w.in-Some.is
-      | parse_formal_params-in-Some+in_ok-arg-in-Some+in_ok-eat-in-Some+in-None-2+in_ok-pat-in-None-2 w ↦ w.dots-is ∙ sym w.in-Some.is
+      | parse_formal_params-in-Some+in_ok-arg-in-Some+in_ok-eat-in-Some+in-None-2+in_ok-pat-in-None-2 w ↦ w.dots-is
+          ∙ sym w.in-Some.is
       | parse_formal_params-in-None+in_ok-pat-in-None w ↦ w.dots-is
     ] in
-    let turned = param_turn.turned g.B.BodyForms.forms stage before c.loop-params.invariant.0 (next_param.Item dots) (c.in-Item.is ∙ ap (λ o. next_param.Item o) (sym same)) (c.in_ok-next_param.ensures.next g.B.Bodies.is_faithful) in
+    let turned = param_turn.turned g.B.BodyForms.forms stage before c.loop-params.invariant.0 (next_param.Item dots)
+    (c.in-Item.is ∙ ap (λ o. next_param.Item o) (sym same))
+    (c.in_ok-next_param.ensures.next g.B.Bodies.is_faithful) in
     let from = record c.loop-params.p { input = c.next_param.new.input } in
-    let item : Produces g.I.Tokens.model g.B.Bodies.is_faithful pat_itself pat_at (param_read g.B.BodyForms.forms dots) (count c.loop-params.p.nodes) from (Ok c.match-dots.pat) c.match-dots.p =
+    let item : Produces g.I.Tokens.model g.B.Bodies.is_faithful pat_itself pat_at (param_read g.B.BodyForms.forms dots)
+    (count c.loop-params.p.nodes) from (Ok c.match-dots.pat) c.match-dots.p =
     elim c.match-dots.branch [
       | parse_formal_params-in-Some+in_ok-arg-in-Some+in_ok-eat-in-Some+in-Some-2+in_ok-value-in-Some-2+in_ok-pat-in-Some-2 w ↦
           let arg = w.in_ok-arg-in-Some.arg in
           let t = pat_at w.parse_pat.new.p.nodes arg in
           rw (w.p-is, w.pat-is, w.dots-is)
-          (param_turn.rest_param g.B.BodyForms.forms w.in-Some.dots {n = w.parse_assignment_expr.new.p} w.parse_pat.new.p arg (Ok _) w.in_ok-arg-in-Some.ensures.reads w.parse_pat.ensures.grows w.in_ok-arg-in-Some.ensures.from
-          (param_turn.rest_faulty w.in-Some.dots t (s.eats_some g.B.Bodies.is_faithful is_equals _ w.in-Some-2.field-0 _ _ w.in-Some-2.is (w.in_ok-eat-in-Some.ensures.eats g.B.Bodies.is_faithful)).on w.in_ok-value-in-Some-2.ensures.reads.on.leads)
-          w.parse_assignment_expr.ensures.grows (record { reads = w.in_ok-pat-in-Some-2.ensures.reads; falls = w.in_ok-pat-in-Some-2.ensures.falls; grows = w.rest_default.ensures.grows; from = w.in_ok-pat-in-Some-2.ensures.from }))
+          (param_turn.rest_param g.B.BodyForms.forms w.in-Some.dots
+          {n = w.parse_assignment_expr.new.p} w.parse_pat.new.p arg
+          (Ok _) w.in_ok-arg-in-Some.ensures.reads w.parse_pat.ensures.grows w.in_ok-arg-in-Some.ensures.from
+          (param_turn.rest_faulty w.in-Some.dots t (s.eats_some g.B.Bodies.is_faithful is_equals _ w.in-Some-2.field-0 _
+          _ w.in-Some-2.is (w.in_ok-eat-in-Some.ensures.eats g.B.Bodies.is_faithful)).on
+          w.in_ok-value-in-Some-2.ensures.reads.on.leads)
+          w.parse_assignment_expr.ensures.grows (record {
+            reads = w.in_ok-pat-in-Some-2.ensures.reads;
+            falls =
+                w.in_ok-pat-in-Some-2.ensures.falls;
+            grows = w.rest_default.ensures.grows;
+            from =
+                w.in_ok-pat-in-Some-2.ensures.from;
+          }))
       | parse_formal_params-in-Some+in_ok-arg-in-Some+in_ok-eat-in-Some+in-None-2+in_ok-pat-in-None-2 w ↦
           let arg = w.in_ok-arg-in-Some.arg in
           let t = pat_at w.parse_pat.new.p.nodes arg in
-          let none = s.eats_none g.B.Bodies.is_faithful is_equals _ _ _ w.in-None-2.is (w.in_ok-eat-in-Some.ensures.eats g.B.Bodies.is_faithful) in
+          let none = s.eats_none g.B.Bodies.is_faithful is_equals _ _ _ w.in-None-2.is
+          (w.in_ok-eat-in-Some.ensures.eats g.B.Bodies.is_faithful) in
           rw (w.p-is, w.pat-is, w.dots-is)
-          (param_turn.rest_param g.B.BodyForms.forms w.in-Some.dots {n = record w.parse_pat.new.p { input = w.eat.new.input }} w.parse_pat.new.p arg (Ok _) w.in_ok-arg-in-Some.ensures.reads w.parse_pat.ensures.grows w.in_ok-arg-in-Some.ensures.from
-          (param_turn.rest_bare w.in-Some.dots t none) (grows-same _) (record { reads = w.in_ok-pat-in-None-2.ensures.reads; falls = w.in_ok-pat-in-None-2.ensures.falls; grows = w.rest_pat.ensures.grows; from = w.in_ok-pat-in-None-2.ensures.from }))
+          (param_turn.rest_param g.B.BodyForms.forms w.in-Some.dots
+          {n = record w.parse_pat.new.p { input = w.eat.new.input }} w.parse_pat.new.p arg
+          (Ok _) w.in_ok-arg-in-Some.ensures.reads w.parse_pat.ensures.grows w.in_ok-arg-in-Some.ensures.from
+          (param_turn.rest_bare w.in-Some.dots t none) (grows-same _)
+          (record {
+            reads = w.in_ok-pat-in-None-2.ensures.reads;
+            falls = w.in_ok-pat-in-None-2.ensures.falls;
+            grows = w.rest_pat.ensures.grows;
+            from = w.in_ok-pat-in-None-2.ensures.from;
+          }))
       | parse_formal_params-in-None+in_ok-pat-in-None w ↦ rw (w.p-is, w.pat-is, w.dots-is ∙ w.in-None.is)
-          (m.yes (Ok _) w.in_ok-pat-in-None.ensures.reads w.parse_binding_element.ensures.grows w.in_ok-pat-in-None.ensures.from)
+          (m.yes (Ok _) w.in_ok-pat-in-None.ensures.reads w.parse_binding_element.ensures.grows
+          w.in_ok-pat-in-None.ensures.from)
     ] in
     let read = param_turn.item g.B.BodyForms.forms stage before dots turned item.reads.on in
     alone.no_params c.from_residual-in_err-add-in-Item.result c.from_residual-in_err-add-in-Item.ensures.1
-    (s.unheard_memory (s.forgoes_later read.leads (s.forgoes_here g.met.I.Tokens.laws _ _ _ c.in_err-add-in-Item.ensures.refused)))
+    (s.unheard_memory (s.forgoes_later read.leads (s.forgoes_here g.met.I.Tokens.laws _ _ _
+    c.in_err-add-in-Item.ensures.refused)))
     (grows-then c.loop-params.invariant.2 item.grows)
 
 pub parse_formal_params-returns-in_err-rest-in-Item : goal.parse_formal_params-returns-in_err-rest-in-Item
@@ -3590,33 +4536,60 @@ parse_formal_params-returns-in_err-rest-in-Item g t c =
     let same : c.match-dots.dots ≡ c.in-Item.dots =
     elim c.match-dots.branch [
       | parse_formal_params-in-Some+in_ok-arg-in-Some+in_ok-eat-in-Some+in-Some-2+in_ok-value-in-Some-2+in_ok-pat-in-Some-2 w ↦ w.dots-is ∙ sym w.in-Some.is
-      | parse_formal_params-in-Some+in_ok-arg-in-Some+in_ok-eat-in-Some+in-None-2+in_ok-pat-in-None-2 w ↦ w.dots-is ∙ sym w.in-Some.is
+      | parse_formal_params-in-Some+in_ok-arg-in-Some+in_ok-eat-in-Some+in-None-2+in_ok-pat-in-None-2 w ↦ w.dots-is
+          ∙ sym w.in-Some.is
       | parse_formal_params-in-None+in_ok-pat-in-None w ↦ w.dots-is
     ] in
-    let turned = param_turn.turned g.B.BodyForms.forms stage before c.loop-params.invariant.0 (next_param.Item dots) (c.in-Item.is ∙ ap (λ o. next_param.Item o) (sym same)) (c.in_ok-next_param.ensures.next g.B.Bodies.is_faithful) in
+    let turned = param_turn.turned g.B.BodyForms.forms stage before c.loop-params.invariant.0 (next_param.Item dots)
+    (c.in-Item.is ∙ ap (λ o. next_param.Item o) (sym same))
+    (c.in_ok-next_param.ensures.next g.B.Bodies.is_faithful) in
     let from = record c.loop-params.p { input = c.next_param.new.input } in
-    let item : Produces g.I.Tokens.model g.B.Bodies.is_faithful pat_itself pat_at (param_read g.B.BodyForms.forms dots) (count c.loop-params.p.nodes) from (Ok c.match-dots.pat) c.match-dots.p =
+    let item : Produces g.I.Tokens.model g.B.Bodies.is_faithful pat_itself pat_at (param_read g.B.BodyForms.forms dots)
+    (count c.loop-params.p.nodes) from (Ok c.match-dots.pat) c.match-dots.p =
     elim c.match-dots.branch [
       | parse_formal_params-in-Some+in_ok-arg-in-Some+in_ok-eat-in-Some+in-Some-2+in_ok-value-in-Some-2+in_ok-pat-in-Some-2 w ↦
           let arg = w.in_ok-arg-in-Some.arg in
           let t = pat_at w.parse_pat.new.p.nodes arg in
           rw (w.p-is, w.pat-is, w.dots-is)
-          (param_turn.rest_param g.B.BodyForms.forms w.in-Some.dots {n = w.parse_assignment_expr.new.p} w.parse_pat.new.p arg (Ok _) w.in_ok-arg-in-Some.ensures.reads w.parse_pat.ensures.grows w.in_ok-arg-in-Some.ensures.from
-          (param_turn.rest_faulty w.in-Some.dots t (s.eats_some g.B.Bodies.is_faithful is_equals _ w.in-Some-2.field-0 _ _ w.in-Some-2.is (w.in_ok-eat-in-Some.ensures.eats g.B.Bodies.is_faithful)).on w.in_ok-value-in-Some-2.ensures.reads.on.leads)
-          w.parse_assignment_expr.ensures.grows (record { reads = w.in_ok-pat-in-Some-2.ensures.reads; falls = w.in_ok-pat-in-Some-2.ensures.falls; grows = w.rest_default.ensures.grows; from = w.in_ok-pat-in-Some-2.ensures.from }))
+          (param_turn.rest_param g.B.BodyForms.forms w.in-Some.dots
+          {n = w.parse_assignment_expr.new.p} w.parse_pat.new.p arg
+          (Ok _) w.in_ok-arg-in-Some.ensures.reads w.parse_pat.ensures.grows w.in_ok-arg-in-Some.ensures.from
+          (param_turn.rest_faulty w.in-Some.dots t (s.eats_some g.B.Bodies.is_faithful is_equals _ w.in-Some-2.field-0 _
+          _ w.in-Some-2.is (w.in_ok-eat-in-Some.ensures.eats g.B.Bodies.is_faithful)).on
+          w.in_ok-value-in-Some-2.ensures.reads.on.leads)
+          w.parse_assignment_expr.ensures.grows (record {
+            reads = w.in_ok-pat-in-Some-2.ensures.reads;
+            falls =
+                w.in_ok-pat-in-Some-2.ensures.falls;
+            grows = w.rest_default.ensures.grows;
+            from =
+                w.in_ok-pat-in-Some-2.ensures.from;
+          }))
       | parse_formal_params-in-Some+in_ok-arg-in-Some+in_ok-eat-in-Some+in-None-2+in_ok-pat-in-None-2 w ↦
           let arg = w.in_ok-arg-in-Some.arg in
           let t = pat_at w.parse_pat.new.p.nodes arg in
-          let none = s.eats_none g.B.Bodies.is_faithful is_equals _ _ _ w.in-None-2.is (w.in_ok-eat-in-Some.ensures.eats g.B.Bodies.is_faithful) in
+          let none = s.eats_none g.B.Bodies.is_faithful is_equals _ _ _ w.in-None-2.is
+          (w.in_ok-eat-in-Some.ensures.eats g.B.Bodies.is_faithful) in
           rw (w.p-is, w.pat-is, w.dots-is)
-          (param_turn.rest_param g.B.BodyForms.forms w.in-Some.dots {n = record w.parse_pat.new.p { input = w.eat.new.input }} w.parse_pat.new.p arg (Ok _) w.in_ok-arg-in-Some.ensures.reads w.parse_pat.ensures.grows w.in_ok-arg-in-Some.ensures.from
-          (param_turn.rest_bare w.in-Some.dots t none) (grows-same _) (record { reads = w.in_ok-pat-in-None-2.ensures.reads; falls = w.in_ok-pat-in-None-2.ensures.falls; grows = w.rest_pat.ensures.grows; from = w.in_ok-pat-in-None-2.ensures.from }))
+          (param_turn.rest_param g.B.BodyForms.forms w.in-Some.dots
+          {n = record w.parse_pat.new.p { input = w.eat.new.input }} w.parse_pat.new.p arg
+          (Ok _) w.in_ok-arg-in-Some.ensures.reads w.parse_pat.ensures.grows w.in_ok-arg-in-Some.ensures.from
+          (param_turn.rest_bare w.in-Some.dots t none) (grows-same _)
+          (record {
+            reads = w.in_ok-pat-in-None-2.ensures.reads;
+            falls = w.in_ok-pat-in-None-2.ensures.falls;
+            grows = w.rest_pat.ensures.grows;
+            from = w.in_ok-pat-in-None-2.ensures.from;
+          }))
       | parse_formal_params-in-None+in_ok-pat-in-None w ↦ rw (w.p-is, w.pat-is, w.dots-is ∙ w.in-None.is)
-          (m.yes (Ok _) w.in_ok-pat-in-None.ensures.reads w.parse_binding_element.ensures.grows w.in_ok-pat-in-None.ensures.from)
+          (m.yes (Ok _) w.in_ok-pat-in-None.ensures.reads w.parse_binding_element.ensures.grows
+          w.in_ok-pat-in-None.ensures.from)
     ] in
     let read = param_turn.item g.B.BodyForms.forms stage before dots turned item.reads.on in
     alone.no_params c.from_residual-in_err-rest-in-Item.result c.from_residual-in_err-rest-in-Item.ensures.1
-    (param_turn.not_separated g.B.BodyForms.forms (is_some dots) stage (trees_append before (cons (pat_at c.match-dots.p.nodes c.match-dots.pat) nil)) read (c.in_err-rest-in-Item.ensures.separates g.B.Bodies.is_faithful))
+    (param_turn.not_separated g.B.BodyForms.forms (is_some dots) stage
+    (trees_append before (cons (pat_at c.match-dots.p.nodes c.match-dots.pat) nil)) read
+    (c.in_err-rest-in-Item.ensures.separates g.B.Bodies.is_faithful))
     (grows-then c.loop-params.invariant.2 item.grows)
 
 pub parse_formal_params-loop-params-preserved : goal.parse_formal_params-loop-params-preserved
@@ -3627,29 +4600,54 @@ parse_formal_params-loop-params-preserved g t c =
     let same : c.match-dots.dots ≡ c.in-Item.dots =
     elim c.match-dots.branch [
       | parse_formal_params-in-Some+in_ok-arg-in-Some+in_ok-eat-in-Some+in-Some-2+in_ok-value-in-Some-2+in_ok-pat-in-Some-2 w ↦ w.dots-is ∙ sym w.in-Some.is
-      | parse_formal_params-in-Some+in_ok-arg-in-Some+in_ok-eat-in-Some+in-None-2+in_ok-pat-in-None-2 w ↦ w.dots-is ∙ sym w.in-Some.is
+      | parse_formal_params-in-Some+in_ok-arg-in-Some+in_ok-eat-in-Some+in-None-2+in_ok-pat-in-None-2 w ↦ w.dots-is
+          ∙ sym w.in-Some.is
       | parse_formal_params-in-None+in_ok-pat-in-None w ↦ w.dots-is
     ] in
-    let turned = param_turn.turned g.B.BodyForms.forms stage before c.loop-params.invariant.0 (next_param.Item dots) (c.in-Item.is ∙ ap (λ o. next_param.Item o) (sym same)) (c.in_ok-next_param.ensures.next g.B.Bodies.is_faithful) in
+    let turned = param_turn.turned g.B.BodyForms.forms stage before c.loop-params.invariant.0 (next_param.Item dots)
+    (c.in-Item.is ∙ ap (λ o. next_param.Item o) (sym same))
+    (c.in_ok-next_param.ensures.next g.B.Bodies.is_faithful) in
     let from = record c.loop-params.p { input = c.next_param.new.input } in
-    let item : Produces g.I.Tokens.model g.B.Bodies.is_faithful pat_itself pat_at (param_read g.B.BodyForms.forms dots) (count c.loop-params.p.nodes) from (Ok c.match-dots.pat) c.match-dots.p =
+    let item : Produces g.I.Tokens.model g.B.Bodies.is_faithful pat_itself pat_at (param_read g.B.BodyForms.forms dots)
+    (count c.loop-params.p.nodes) from (Ok c.match-dots.pat) c.match-dots.p =
     elim c.match-dots.branch [
       | parse_formal_params-in-Some+in_ok-arg-in-Some+in_ok-eat-in-Some+in-Some-2+in_ok-value-in-Some-2+in_ok-pat-in-Some-2 w ↦
           let arg = w.in_ok-arg-in-Some.arg in
           let t = pat_at w.parse_pat.new.p.nodes arg in
           rw (w.p-is, w.pat-is, w.dots-is)
-          (param_turn.rest_param g.B.BodyForms.forms w.in-Some.dots {n = w.parse_assignment_expr.new.p} w.parse_pat.new.p arg (Ok _) w.in_ok-arg-in-Some.ensures.reads w.parse_pat.ensures.grows w.in_ok-arg-in-Some.ensures.from
-          (param_turn.rest_faulty w.in-Some.dots t (s.eats_some g.B.Bodies.is_faithful is_equals _ w.in-Some-2.field-0 _ _ w.in-Some-2.is (w.in_ok-eat-in-Some.ensures.eats g.B.Bodies.is_faithful)).on w.in_ok-value-in-Some-2.ensures.reads.on.leads)
-          w.parse_assignment_expr.ensures.grows (record { reads = w.in_ok-pat-in-Some-2.ensures.reads; falls = w.in_ok-pat-in-Some-2.ensures.falls; grows = w.rest_default.ensures.grows; from = w.in_ok-pat-in-Some-2.ensures.from }))
+          (param_turn.rest_param g.B.BodyForms.forms w.in-Some.dots
+          {n = w.parse_assignment_expr.new.p} w.parse_pat.new.p arg
+          (Ok _) w.in_ok-arg-in-Some.ensures.reads w.parse_pat.ensures.grows w.in_ok-arg-in-Some.ensures.from
+          (param_turn.rest_faulty w.in-Some.dots t (s.eats_some g.B.Bodies.is_faithful is_equals _ w.in-Some-2.field-0 _
+          _ w.in-Some-2.is (w.in_ok-eat-in-Some.ensures.eats g.B.Bodies.is_faithful)).on
+          w.in_ok-value-in-Some-2.ensures.reads.on.leads)
+          w.parse_assignment_expr.ensures.grows (record {
+            reads = w.in_ok-pat-in-Some-2.ensures.reads;
+            falls =
+                w.in_ok-pat-in-Some-2.ensures.falls;
+            grows = w.rest_default.ensures.grows;
+            from =
+                w.in_ok-pat-in-Some-2.ensures.from;
+          }))
       | parse_formal_params-in-Some+in_ok-arg-in-Some+in_ok-eat-in-Some+in-None-2+in_ok-pat-in-None-2 w ↦
           let arg = w.in_ok-arg-in-Some.arg in
           let t = pat_at w.parse_pat.new.p.nodes arg in
-          let none = s.eats_none g.B.Bodies.is_faithful is_equals _ _ _ w.in-None-2.is (w.in_ok-eat-in-Some.ensures.eats g.B.Bodies.is_faithful) in
+          let none = s.eats_none g.B.Bodies.is_faithful is_equals _ _ _ w.in-None-2.is
+          (w.in_ok-eat-in-Some.ensures.eats g.B.Bodies.is_faithful) in
           rw (w.p-is, w.pat-is, w.dots-is)
-          (param_turn.rest_param g.B.BodyForms.forms w.in-Some.dots {n = record w.parse_pat.new.p { input = w.eat.new.input }} w.parse_pat.new.p arg (Ok _) w.in_ok-arg-in-Some.ensures.reads w.parse_pat.ensures.grows w.in_ok-arg-in-Some.ensures.from
-          (param_turn.rest_bare w.in-Some.dots t none) (grows-same _) (record { reads = w.in_ok-pat-in-None-2.ensures.reads; falls = w.in_ok-pat-in-None-2.ensures.falls; grows = w.rest_pat.ensures.grows; from = w.in_ok-pat-in-None-2.ensures.from }))
+          (param_turn.rest_param g.B.BodyForms.forms w.in-Some.dots
+          {n = record w.parse_pat.new.p { input = w.eat.new.input }} w.parse_pat.new.p arg
+          (Ok _) w.in_ok-arg-in-Some.ensures.reads w.parse_pat.ensures.grows w.in_ok-arg-in-Some.ensures.from
+          (param_turn.rest_bare w.in-Some.dots t none) (grows-same _)
+          (record {
+            reads = w.in_ok-pat-in-None-2.ensures.reads;
+            falls = w.in_ok-pat-in-None-2.ensures.falls;
+            grows = w.rest_pat.ensures.grows;
+            from = w.in_ok-pat-in-None-2.ensures.from;
+          }))
       | parse_formal_params-in-None+in_ok-pat-in-None w ↦ rw (w.p-is, w.pat-is, w.dots-is ∙ w.in-None.is)
-          (m.yes (Ok _) w.in_ok-pat-in-None.ensures.reads w.parse_binding_element.ensures.grows w.in_ok-pat-in-None.ensures.from)
+          (m.yes (Ok _) w.in_ok-pat-in-None.ensures.reads w.parse_binding_element.ensures.grows
+          w.in_ok-pat-in-None.ensures.from)
     ] in
     let ns = c.match-dots.p.nodes in
     let pat = c.match-dots.pat in
@@ -3658,16 +4656,26 @@ parse_formal_params-loop-params-preserved g t c =
     let more = ap (λ v. trees (map (λ p. pat_at ns p.pat) v)) c.in_ok-add-in-Item.ensures.added
     ∙ params-more c.loop-params.params.items param item.grows c.loop-params.invariant.3
     ∙ ap (λ v. trees_append before (cons (pat_at ns v) nil)) c.param_of-param.ensures.pat in
-    let last = subst (λ v. From (count c.loop-params.p.nodes) ns (pat_part v)) (sym c.param_of-param.ensures.pat) item.from in
-    let parts = placed-more c.loop-params.params.items param item.grows (c.loop-params.invariant.3, c.loop-params.invariant.4) last
+    let last = subst (λ v. From (count c.loop-params.p.nodes) ns (pat_part v))
+    (sym c.param_of-param.ensures.pat) item.from in
+    let parts = placed-more c.loop-params.params.items param item.grows
+    (c.loop-params.invariant.3, c.loop-params.invariant.4) last
     (c.param_of-param.ensures.span ∙ ap (λ v. span_of (pat_at ns v)) (sym c.param_of-param.ensures.pat)) in (
-      s.on_to (param_turn.separated g.B.BodyForms.forms (is_some dots) stage (trees_append before (cons (pat_at ns pat) nil)) read (c.in_ok-rest-in-Item.ensures.separates g.B.Bodies.is_faithful))
+      s.on_to (param_turn.separated g.B.BodyForms.forms (is_some dots) stage
+          (trees_append before (cons (pat_at ns pat) nil)) read
+          (c.in_ok-rest-in-Item.ensures.separates g.B.Bodies.is_faithful))
           (λ x ts. ap (λ v. params_left g.B.BodyForms.forms (stage_of c.in_ok-rest-in-Item.rest) v x ts) (sym more)),
-      let a = c.loop-params.invariant.1 in let b = c.in_ok-next_param.ensures.falls in let d = item.falls in let e = c.in_ok-rest-in-Item.ensures.falls in omega arith,
+      let a = c.loop-params.invariant.1 in let b = c.in_ok-next_param.ensures.falls in let d = item.falls in
+          let e = c.in_ok-rest-in-Item.ensures.falls in omega arith,
       grows-then c.loop-params.invariant.2 item.grows,
-      record { chained = ap (λ v. chain (seat_at ns) (count c.args.p.now.nodes) (flat param_parts v) (count ns)) c.in_ok-add-in-Item.ensures.added ∙ parts.0.chained },
+      record {
+        chained = ap (λ v. chain (seat_at ns) (count c.args.p.now.nodes) (flat param_parts v) (count ns))
+            c.in_ok-add-in-Item.ensures.added ∙ parts.0.chained;
+      },
       subst (λ v. placed ns v) (sym c.in_ok-add-in-Item.ensures.added) parts.1,
       λ l n. subst (λ v. AllReadAlone g.B.BodyForms.forms (scope g.I.Tokens.model c.args.p.now.input) v) (sym more)
-          (alone.alone_more g.I.Tokens.model g.B.BodyForms.forms before (pat_at ns pat) dots c.loop-params.invariant.0.leads (c.in_ok-next_param.ensures.next g.B.Bodies.is_faithful).leads item.reads.on
+          (alone.alone_more g.I.Tokens.model g.B.BodyForms.forms before
+          (pat_at ns pat) dots c.loop-params.invariant.0.leads
+          (c.in_ok-next_param.ensures.next g.B.Bodies.is_faithful).leads item.reads.on
           (c.in_ok-rest-in-Item.ensures.separates g.B.Bodies.is_faithful).leads c.loop-params.invariant.5 l n),
     )

@@ -1,4 +1,5 @@
--- Each call is made with a level less of room, or on the way down to the place where one is taken: so at most 20 calls are nested for each
+-- Each call is made with a level less of room, or on the way down to the place where one is taken: so at most 20 calls
+-- are nested for each
 -- level of the bound, and 20 more.
 use Rattle.std.proofs.Common.{◌≡◌, ◌+◌, ◌*◌, ◌≤◌, not, map, length}
 use Rattle.std.specs.Prelude.{slice_index_or}
@@ -100,8 +101,7 @@ invariant-parse_operators-loop-pending g l =
     (operand_parts (all_pending l.pending) l.left)
 
 abbrev pub decreases-parse_operators-loop-pending : goal.decreases-parse_operators-loop-pending
-decreases-parse_operators-loop-pending g l =
-    to_come g.I.Tokens.model l.p.input * 2 + length (all_pending l.pending)
+decreases-parse_operators-loop-pending g l = to_come g.I.Tokens.model l.p.input * 2 + length (all_pending l.pending)
 
 abbrev pub decreases-recover_operators : goal.decreases-recover_operators
 decreases-recover_operators g l = l.room * 20 + 13

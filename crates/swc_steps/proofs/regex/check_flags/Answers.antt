@@ -8,7 +8,8 @@ use Rattle.swc_steps.proofs.regex.check_flags.Goals as goal
 
 pub returns-in_err-check_known-clause-checks : goal.returns-in_err-check_known-clause-checks
 returns-in_err-check_known-clause-checks g c =
-    let p = err_from_is_err_and c.from_residual.result c.from_residual.ensures.1 in rw (p.1, p.2) c.in_err-check_known.ensures.checks
+    let p = err_from_is_err_and c.from_residual.result c.from_residual.ensures.1 in
+    rw (p.1, p.2) c.in_err-check_known.ensures.checks
 
 pub returns-clause-checks : goal.returns-clause-checks
 returns-clause-checks g c =
@@ -16,6 +17,8 @@ returns-clause-checks g c =
     let b = c.args.input.now in
     let d = c.check_once.new.input in
     let flags = c.as_bytes-flags.result.now in
-    let P : List ℕ → Type 0 = λ fs. MatchResult c.check_once.result (λ x. Checks model (flags_ok fs) b d) (λ e. Forgoes model b e d) in
+    let P : List ℕ → Type 0 = λ fs. MatchResult c.check_once.result (λ x. Checks model (flags_ok fs) b d)
+    (λ e. Forgoes model b e d) in
     subst P (c.as_bytes-flags.ensures.value ∙ c.as_str.ensures)
-    (check_later model (has_unknown flags) (is_some (repeated flags)) _ _ _ c.check_once.result c.in_ok-check_known.ensures.checks c.check_once.ensures.checks)
+    (check_later model (has_unknown flags) (is_some (repeated flags)) _ _ _ c.check_once.result
+    c.in_ok-check_known.ensures.checks c.check_once.ensures.checks)

@@ -12,4 +12,5 @@ returns-in-None-clause-checks g c =
 pub returns-in-Some-clause-checks : goal.returns-in-Some-clause-checks
 returns-in-Some-clause-checks g c =
     check_notes g.I.Tokens.model (not (is_some (repeated c.args.flags.now))) _ _ c.emit_err.result
-    (ap (λ o. not (is_some o)) (sym c.repeated.ensures ∙ c.in-Some.is)) c.emit_err.ensures.tries c.emit_err.ensures.notes
+    (ap (λ o. not (is_some o)) (sym c.repeated.ensures ∙ c.in-Some.is)) c.emit_err.ensures.tries
+    c.emit_err.ensures.notes

@@ -23,7 +23,8 @@ returns-in_err-check_flags g c =
 pub returns : goal.returns
 returns g c =
     let regex = c.in_ok-regex.regex in
-    m.node _ c.lit-node.result c.made.result (omega arith) c.lit-node.ensures.made c.made.ensures.ok c.made.ensures.refused
+    m.node _ c.lit-node.result c.made.result (omega arith) c.lit-node.ensures.made c.made.ensures.ok
+    c.made.ensures.refused
     (grows-same _) c.lit-node.ensures.grows
     (s.heard_more _ rule.expr_splits (c.in_ok-regex.ensures.parses g.B.Bodies.is_faithful)
     (s.on_checked {g = s.give (lit_tree (lit.Regex regex))} (flags_ok regex.flags) c.in_ok-check_flags.ensures.checks

@@ -24,7 +24,8 @@ returns-then-not-is_regex-clause-parses g c = λ sure.
     (on_slash {g = regex_tail slash.was.span} g.met.I.Tokens.laws slash
     (λ x ts. text_opens (plain slash.was) x ts (passes_plain is_slash _ slash.was slash.current c.requires)))
     (s.unheard_at c.in_ok-look.ensures.looks
-    (λ x ts same e. tail_not slash.was.span x ts (ap (at_token is_regex) e ∙ sym c.is_regex.ensures.value ∙ c.if-not-is_regex.true))
+    (λ x ts same e. tail_not slash.was.span x ts (ap (at_token is_regex) e ∙ sym c.is_regex.ensures.value
+    ∙ c.if-not-is_regex.true))
     c.syntax_error.ensures.refuses)
 
 pub returns-clause-parses : goal.returns-clause-parses
@@ -36,7 +37,8 @@ returns-clause-parses g c = λ sure.
     (on_slash {g = regex_tail slash.was.span} g.met.I.Tokens.laws slash
     (λ x ts. text_opens (plain slash.was) x ts (passes_plain is_slash _ slash.was slash.current c.requires)))
     (s.heard_after
-    (s.on_seen {f = regex_tail slash.was.span} {g = regex_tail slash.was.span} c.in_ok-look.ensures.looks (λ x ts same e. refl))
+    (s.on_seen {f = regex_tail slash.was.span} {g = regex_tail slash.was.span} c.in_ok-look.ensures.looks
+    (λ x ts same e. refl))
     (s.heard_after
     (on_still {f = regex_tail slash.was.span} g.met.I.Tokens.laws c.end_hint.ensures.still c.end_hint.ensures.lives)
     (s.heard_call _ (tail_splits slash.was.span) (λ x ts. refl)

@@ -11,4 +11,5 @@ returns-clause-parses g c = λ sure.
     g.met.I.Tokens.laws c.parse_ident_name.ensures.names
 
 pub returns-clause-falls : goal.returns-clause-falls
-returns-clause-falls g c = parses_lower g.I.Tokens.model true name_spelling (word may_name) _ _ c.parse_ident_name.result (returns-clause-parses g c true)
+returns-clause-falls g c = parses_lower g.I.Tokens.model true name_spelling
+    (word may_name) _ _ c.parse_ident_name.result (returns-clause-parses g c true)

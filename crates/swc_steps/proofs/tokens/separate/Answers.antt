@@ -19,7 +19,8 @@ returns-in-Some-clause-separates g c = λ sure.
 
 pub returns-in_err-require_close-in-None-clause-separates : goal.returns-in_err-require_close-in-None-clause-separates
 returns-in_err-require_close-in-None-clause-separates g c =
-    let p = err_from_is_err_and c.from_residual-in_err-require_close-in-None.result c.from_residual-in_err-require_close-in-None.ensures.1 in λ sure. rw (p.1, p.2)
+    let p = err_from_is_err_and c.from_residual-in_err-require_close-in-None.result
+    c.from_residual-in_err-require_close-in-None.ensures.1 in λ sure. rw (p.1, p.2)
     (s.unheard_after (s.on_call _ (separated_splits (is_sign_token c.args.close))
     (s.eats_none sure is_comma _ _ _ c.in-None.is (c.in_ok-comma.ensures.eats sure)))
     (s.unheard_call (λ x q. Some (None, q.1)) (λ x ts. refl) (c.in_err-require_close-in-None.ensures.closes sure)))

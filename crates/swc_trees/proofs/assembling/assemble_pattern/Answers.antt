@@ -6,8 +6,12 @@ use Rattle.swc_trees.proofs.assembling.assemble_pattern.Goals as goal
 
 pub returns-in_ok-elems-in-PatArray : goal.returns-in_ok-elems-in-PatArray
 returns-in_ok-elems-in-PatArray g c =
-    made-is _ c.in-PatArray.is (made-one c.in_ok-elems-in-PatArray.ensures (λ at e. array_target_tree _ _ _ g.F.Spanned.place g.C.Spanned.place g.K.Spanned.place c.in-PatArray.span c.in_ok-elems-in-PatArray.elems ∙ ap (λ v. node array c.in-PatArray.span (trees v)) e))
+    made-is _ c.in-PatArray.is (made-one c.in_ok-elems-in-PatArray.ensures
+    (λ at e. array_target_tree _ _ _ g.F.Spanned.place g.C.Spanned.place g.K.Spanned.place c.in-PatArray.span
+    c.in_ok-elems-in-PatArray.elems ∙ ap (λ v. node array c.in-PatArray.span (trees v)) e))
 
 pub returns-in_ok-props-in-PatObject : goal.returns-in_ok-props-in-PatObject
 returns-in_ok-props-in-PatObject g c =
-    made-is _ c.in-PatObject.is (made-one c.in_ok-props-in-PatObject.ensures (λ at e. object_target_tree _ _ _ g.F.Spanned.place g.C.Spanned.place g.K.Spanned.place c.in-PatObject.span c.in_ok-props-in-PatObject.props ∙ ap (λ v. node object c.in-PatObject.span (trees v)) e))
+    made-is _ c.in-PatObject.is (made-one c.in_ok-props-in-PatObject.ensures
+    (λ at e. object_target_tree _ _ _ g.F.Spanned.place g.C.Spanned.place g.K.Spanned.place c.in-PatObject.span
+    c.in_ok-props-in-PatObject.props ∙ ap (λ v. node object c.in-PatObject.span (trees v)) e))

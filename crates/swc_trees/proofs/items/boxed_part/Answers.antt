@@ -2,5 +2,4 @@ use Rattle.swc_trees.proofs.Assembled.{if-boxed}
 use Rattle.swc_trees.proofs.items.boxed_part.Goals as goal
 
 pub returns : goal.returns
-returns g c =
-    if-boxed _ _ c.boxed.result c.boxed.ensures c.pop_part.ensures
+returns g c = if-boxed _ _ c.boxed.result c.boxed.ensures c.pop_part.ensures

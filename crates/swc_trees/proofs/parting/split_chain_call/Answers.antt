@@ -4,4 +4,5 @@ use Rattle.swc_trees.proofs.{Agreed.headed, Splits.split-two}
 use Rattle.swc_trees.proofs.parting.split_chain_call.Goals as goal
 
 pub returns : goal.returns
-returns g c = split-two c.in_ok-callee.ensures c.in_ok-args.ensures refl (λ at e f. ap (node call c.args.call.now.span) (headed e f))
+returns g c = split-two c.in_ok-callee.ensures c.in_ok-args.ensures refl
+    (λ at e f. ap (node call c.args.call.now.span) (headed e f))

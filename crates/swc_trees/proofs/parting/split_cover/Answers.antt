@@ -5,4 +5,5 @@ use Rattle.swc_trees.proofs.{Splits.split-one, Agreed.read-two}
 use Rattle.swc_trees.proofs.parting.split_cover.Goals as goal
 
 pub returns : goal.returns
-returns g c = split-one c.in_ok-value.ensures refl (λ at e. read-two (λ k v. node cover c.args.prop.now.span (cons (ident_tree k) (cons v nil))) c.in_ok-key.ensures e)
+returns g c = split-one c.in_ok-value.ensures refl (λ at e.
+    read-two (λ k v. node cover c.args.prop.now.span (cons (ident_tree k) (cons v nil))) c.in_ok-key.ensures e)

@@ -4,4 +4,5 @@ use Rattle.swc_trees.proofs.{Agreed.two, Splits.split-two}
 use Rattle.swc_trees.proofs.parting.split_member.Goals as goal
 
 pub returns : goal.returns
-returns g c = split-two c.in_ok-obj.ensures c.in_ok-prop.ensures refl (λ at e f. ap (node member c.args.member.now.span) (two e f))
+returns g c = split-two c.in_ok-obj.ensures c.in_ok-prop.ensures refl
+    (λ at e f. ap (node member c.args.member.now.span) (two e f))

@@ -4,4 +4,5 @@ use Rattle.swc_trees.proofs.{Splits.split-two, Agreed.read-three}
 use Rattle.swc_trees.proofs.parting.split_method.Goals as goal
 
 pub returns : goal.returns
-returns g c = split-two c.in_ok-key.ensures c.in_ok-function.ensures refl (λ at e f. read-three (λ s k v. node method s (cons k (cons v nil))) f.1 e f.0)
+returns g c = split-two c.in_ok-key.ensures c.in_ok-function.ensures refl
+    (λ at e f. read-three (λ s k v. node method s (cons k (cons v nil))) f.1 e f.0)

@@ -11,8 +11,11 @@ all-requires g c =
 
 pub pop_expr-callee-requires : goal.pop_expr-callee-requires
 pop_expr-callee-requires g c =
-    offers-first (one_expr c.in-Call.call.callee) (args_parts c.in-Call.call.args) (rw c.in-Call.is at c.requires) c.in_ok-args-in-Call.ensures
+    offers-first (one_expr c.in-Call.call.callee) (args_parts c.in-Call.call.args)
+    (rw c.in-Call.is at c.requires) c.in_ok-args-in-Call.ensures
 
 pub returns-in_ok-args-in-Call : goal.returns-in_ok-args-in-Call
 returns-in_ok-args-in-Call g c =
-    rw c.in-Call.is (made-two (one_expr c.in-Call.call.callee) (args_parts c.in-Call.call.args) c.in_ok-args-in-Call.ensures c.pop_expr-callee.ensures (λ at e f. ap (node call c.in-Call.call.span) (headed e f)))
+    rw c.in-Call.is (made-two (one_expr c.in-Call.call.callee)
+    (args_parts c.in-Call.call.args) c.in_ok-args-in-Call.ensures c.pop_expr-callee.ensures
+    (λ at e f. ap (node call c.in-Call.call.span) (headed e f)))

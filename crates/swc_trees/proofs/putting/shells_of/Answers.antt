@@ -22,6 +22,7 @@ loop-tree-preserved g c =
 pub returns : goal.returns
 returns g c =
     subst
-    (λ v. Reads g.F.Spanned.place g.C.Spanned.place g.K.Spanned.place (reverse c.loop-tree.shells.items) v c.args.due.items)
+    (λ v. Reads g.F.Spanned.place g.C.Spanned.place g.K.Spanned.place
+    (reverse c.loop-tree.shells.items) v c.args.due.items)
     (nil_from_length c.loop-tree.due.items (sym c.loop-tree.due.ok.0 ∙ c.in_default.ensures.cases.0))
     c.loop-tree.invariant

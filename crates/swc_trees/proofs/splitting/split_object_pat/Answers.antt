@@ -4,4 +4,5 @@ use Rattle.swc_trees.proofs.Splits.{split-one}
 use Rattle.swc_trees.proofs.splitting.split_object_pat.Goals as goal
 
 pub returns : goal.returns
-returns g c = split-one c.in_ok-props.ensures refl (λ at e. record { stands = ap (λ v. node object c.args.span (trees v)) e; view = refl })
+returns g c = split-one c.in_ok-props.ensures refl (λ at e.
+    record { stands = ap (λ v. node object c.args.span (trees v)) e; view = refl })

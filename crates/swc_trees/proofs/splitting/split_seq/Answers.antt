@@ -4,4 +4,5 @@ use Rattle.swc_trees.proofs.Splits.{split-one}
 use Rattle.swc_trees.proofs.splitting.split_seq.Goals as goal
 
 pub returns : goal.returns
-returns g c = split-one c.in_ok-exprs.ensures refl (λ at e. record { stands = ap (λ v. node seq c.args.span (trees v)) e; view = refl })
+returns g c = split-one c.in_ok-exprs.ensures refl (λ at e.
+    record { stands = ap (λ v. node seq c.args.span (trees v)) e; view = refl })

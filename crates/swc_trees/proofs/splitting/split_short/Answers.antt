@@ -10,64 +10,205 @@ use Rattle.swc_trees.proofs.Agreed.{read-two, read-three}
 use Rattle.swc_trees.proofs.splitting.split_short.Goals as goal
 
 pub returns-in-This : goal.returns-in-This
-returns-in-This g c = split-none refl (λ at. record { stands = ap (λ v0. leaf this v0.span) c.in-This.e-is ∙ sym (ap (expr_tree _ _ _ g.F.Spanned.place g.C.Spanned.place g.K.Spanned.place) c.in-This.is ∙ this_tree _ _ _ g.F.Spanned.place g.C.Spanned.place g.K.Spanned.place c.in-This.e); view = refl })
+returns-in-This g c = split-none refl (λ at. record {
+  stands =
+      ap (λ v0. leaf this v0.span) c.in-This.e-is ∙ sym (ap
+      (expr_tree _ _ _ g.F.Spanned.place g.C.Spanned.place g.K.Spanned.place) c.in-This.is
+      ∙ this_tree _ _ _ g.F.Spanned.place g.C.Spanned.place g.K.Spanned.place c.in-This.e);
+  view = refl;
+})
 
 pub returns-in-MetaProp : goal.returns-in-MetaProp
-returns-in-MetaProp g c = split-none refl (λ at. record { stands = ap (λ v. leaf (meta v.kind) v.span) c.taken_meta.ensures ∙ (ap (λ v0. leaf (meta v0.kind) v0.span) c.in-MetaProp.m-is ∙ sym (ap (expr_tree _ _ _ g.F.Spanned.place g.C.Spanned.place g.K.Spanned.place) c.in-MetaProp.is ∙ meta_tree _ _ _ g.F.Spanned.place g.C.Spanned.place g.K.Spanned.place c.in-MetaProp.m)); view = refl })
+returns-in-MetaProp g c = split-none refl (λ at. record {
+  stands =
+      ap (λ v. leaf (meta v.kind) v.span) c.taken_meta.ensures
+      ∙ (ap (λ v0. leaf (meta v0.kind) v0.span) c.in-MetaProp.m-is ∙ sym
+      (ap (expr_tree _ _ _ g.F.Spanned.place g.C.Spanned.place g.K.Spanned.place) c.in-MetaProp.is
+      ∙ meta_tree _ _ _ g.F.Spanned.place g.C.Spanned.place g.K.Spanned.place c.in-MetaProp.m));
+  view = refl;
+})
 
 pub returns-in_ok-taken_private-in-PrivateName : goal.returns-in_ok-taken_private-in-PrivateName
-returns-in_ok-taken_private-in-PrivateName g c = split-none refl (λ at. record { stands = ap (λ v. private_tree v) c.in_ok-taken_private-in-PrivateName.ensures ∙ (ap (λ v0. private_tree v0) c.in-PrivateName.p-is ∙ sym (ap (expr_tree _ _ _ g.F.Spanned.place g.C.Spanned.place g.K.Spanned.place) c.in-PrivateName.is ∙ private_expr_tree _ _ _ g.F.Spanned.place g.C.Spanned.place g.K.Spanned.place c.in-PrivateName.p)); view = refl })
+returns-in_ok-taken_private-in-PrivateName g c = split-none refl
+    (λ at. record {
+      stands = ap (λ v. private_tree v) c.in_ok-taken_private-in-PrivateName.ensures
+          ∙ (ap (λ v0. private_tree v0) c.in-PrivateName.p-is ∙ sym
+          (ap (expr_tree _ _ _ g.F.Spanned.place g.C.Spanned.place g.K.Spanned.place) c.in-PrivateName.is
+          ∙ private_expr_tree _ _ _ g.F.Spanned.place g.C.Spanned.place g.K.Spanned.place c.in-PrivateName.p));
+      view = refl;
+    })
 
 pub returns-in_ok-taken_ident-in-Ident : goal.returns-in_ok-taken_ident-in-Ident
-returns-in_ok-taken_ident-in-Ident g c = split-none refl (λ at. record { stands = ap (λ v. ident_tree v) c.in_ok-taken_ident-in-Ident.ensures ∙ (ap (λ v0. ident_tree v0) c.in-Ident.i-is ∙ sym (ap (expr_tree _ _ _ g.F.Spanned.place g.C.Spanned.place g.K.Spanned.place) c.in-Ident.is ∙ ident_expr_tree _ _ _ g.F.Spanned.place g.C.Spanned.place g.K.Spanned.place c.in-Ident.i)); view = refl })
+returns-in_ok-taken_ident-in-Ident g c = split-none refl
+    (λ at. record {
+      stands = ap (λ v. ident_tree v) c.in_ok-taken_ident-in-Ident.ensures
+          ∙ (ap (λ v0. ident_tree v0) c.in-Ident.i-is ∙ sym (ap
+          (expr_tree _ _ _ g.F.Spanned.place g.C.Spanned.place g.K.Spanned.place) c.in-Ident.is
+          ∙ ident_expr_tree _ _ _ g.F.Spanned.place g.C.Spanned.place g.K.Spanned.place c.in-Ident.i));
+      view = refl;
+    })
 
 pub returns-in-Lit : goal.returns-in-Lit
-returns-in-Lit g c = split-none c.lit_node.ensures.slots (λ at. record { stands = c.lit_node.ensures.tree at ∙ ap lit_tree c.taken_lit.ensures ∙ (ap (λ v0. lit_tree v0) c.in-Lit.l-is ∙ sym (ap (expr_tree _ _ _ g.F.Spanned.place g.C.Spanned.place g.K.Spanned.place) c.in-Lit.is ∙ lit_expr_tree _ _ _ g.F.Spanned.place g.C.Spanned.place g.K.Spanned.place c.in-Lit.l)); view = ap (view_ok expr) c.lit_node.ensures.form })
+returns-in-Lit g c = split-none c.lit_node.ensures.slots
+    (λ at. record {
+      stands = c.lit_node.ensures.tree at ∙ ap lit_tree c.taken_lit.ensures
+          ∙ (ap (λ v0. lit_tree v0) c.in-Lit.l-is ∙ sym
+          (ap (expr_tree _ _ _ g.F.Spanned.place g.C.Spanned.place g.K.Spanned.place) c.in-Lit.is
+          ∙ lit_expr_tree _ _ _ g.F.Spanned.place g.C.Spanned.place g.K.Spanned.place c.in-Lit.l));
+      view =
+          ap (view_ok expr) c.lit_node.ensures.form;
+    })
 
 pub returns-in-Invalid : goal.returns-in-Invalid
-returns-in-Invalid g c = split-none refl (λ at. record { stands = ap (λ v0. leaf invalid v0.span) c.in-Invalid.i-is ∙ sym (ap (expr_tree _ _ _ g.F.Spanned.place g.C.Spanned.place g.K.Spanned.place) c.in-Invalid.is ∙ invalid_tree _ _ _ g.F.Spanned.place g.C.Spanned.place g.K.Spanned.place c.in-Invalid.i); view = refl })
+returns-in-Invalid g c = split-none refl (λ at. record {
+  stands =
+      ap (λ v0. leaf invalid v0.span) c.in-Invalid.i-is ∙ sym
+      (ap (expr_tree _ _ _ g.F.Spanned.place g.C.Spanned.place g.K.Spanned.place) c.in-Invalid.is
+      ∙ invalid_tree _ _ _ g.F.Spanned.place g.C.Spanned.place g.K.Spanned.place c.in-Invalid.i);
+  view = refl;
+})
 
 pub returns-in-Array : goal.returns-in-Array
-returns-in-Array g c = split-tree c.split_array.ensures (read-two (λ v0 v1. node array v0 (trees (map (or_hole (item_tree (boxed_tree _ _ _ g.F.Spanned.place g.C.Spanned.place g.K.Spanned.place))) v1.items))) c.in-Array.span-is c.in-Array.elems-is ∙ sym (ap (expr_tree _ _ _ g.F.Spanned.place g.C.Spanned.place g.K.Spanned.place) c.in-Array.is ∙ array_tree _ _ _ g.F.Spanned.place g.C.Spanned.place g.K.Spanned.place c.in-Array.span c.in-Array.elems))
+returns-in-Array g c = split-tree c.split_array.ensures
+    (read-two (λ v0 v1. node array v0
+    (trees (map (or_hole (item_tree (boxed_tree _ _ _ g.F.Spanned.place g.C.Spanned.place g.K.Spanned.place)))
+    v1.items))) c.in-Array.span-is c.in-Array.elems-is ∙ sym
+    (ap (expr_tree _ _ _ g.F.Spanned.place g.C.Spanned.place g.K.Spanned.place) c.in-Array.is
+    ∙ array_tree _ _ _ g.F.Spanned.place g.C.Spanned.place g.K.Spanned.place c.in-Array.span c.in-Array.elems))
 
 pub returns-in-Object : goal.returns-in-Object
-returns-in-Object g c = split-tree c.split_object.ensures (read-two (λ v0 v1. node object v0 (trees (map (prop_or_spread_tree _ _ _ g.F.Spanned.place g.C.Spanned.place g.K.Spanned.place) v1.items))) c.in-Object.span-is c.in-Object.props-is ∙ sym (ap (expr_tree _ _ _ g.F.Spanned.place g.C.Spanned.place g.K.Spanned.place) c.in-Object.is ∙ object_tree _ _ _ g.F.Spanned.place g.C.Spanned.place g.K.Spanned.place c.in-Object.span c.in-Object.props))
+returns-in-Object g c = split-tree c.split_object.ensures
+    (read-two (λ v0 v1. node object v0
+    (trees (map (prop_or_spread_tree _ _ _ g.F.Spanned.place g.C.Spanned.place g.K.Spanned.place) v1.items)))
+    c.in-Object.span-is c.in-Object.props-is ∙ sym (ap
+    (expr_tree _ _ _ g.F.Spanned.place g.C.Spanned.place g.K.Spanned.place) c.in-Object.is
+    ∙ object_tree _ _ _ g.F.Spanned.place g.C.Spanned.place g.K.Spanned.place c.in-Object.span c.in-Object.props))
 
 pub returns-in-Seq : goal.returns-in-Seq
-returns-in-Seq g c = split-tree c.split_seq.ensures (read-two (λ v0 v1. node seq v0 (trees (map (boxed_tree _ _ _ g.F.Spanned.place g.C.Spanned.place g.K.Spanned.place) v1.items))) c.in-Seq.span-is c.in-Seq.exprs-is ∙ sym (ap (expr_tree _ _ _ g.F.Spanned.place g.C.Spanned.place g.K.Spanned.place) c.in-Seq.is ∙ seq_tree _ _ _ g.F.Spanned.place g.C.Spanned.place g.K.Spanned.place c.in-Seq.span c.in-Seq.exprs))
+returns-in-Seq g c = split-tree c.split_seq.ensures (read-two
+    (λ v0 v1. node seq v0 (trees (map (boxed_tree _ _ _ g.F.Spanned.place g.C.Spanned.place g.K.Spanned.place)
+    v1.items))) c.in-Seq.span-is c.in-Seq.exprs-is ∙ sym
+    (ap (expr_tree _ _ _ g.F.Spanned.place g.C.Spanned.place g.K.Spanned.place) c.in-Seq.is
+    ∙ seq_tree _ _ _ g.F.Spanned.place g.C.Spanned.place g.K.Spanned.place c.in-Seq.span c.in-Seq.exprs))
 
 pub returns-in_ok-split_paren-in-Paren : goal.returns-in_ok-split_paren-in-Paren
-returns-in_ok-split_paren-in-Paren g c = split-one c.in_ok-split_paren-in-Paren.ensures refl (λ at e. record { stands = e ∙ (ap (λ v0. paren_tree (boxed_tree _ _ _ g.F.Spanned.place g.C.Spanned.place g.K.Spanned.place) v0) c.in-Paren.p-is ∙ sym (ap (expr_tree _ _ _ g.F.Spanned.place g.C.Spanned.place g.K.Spanned.place) c.in-Paren.is ∙ paren_expr_tree _ _ _ g.F.Spanned.place g.C.Spanned.place g.K.Spanned.place c.in-Paren.p)); view = refl })
+returns-in_ok-split_paren-in-Paren g c = split-one c.in_ok-split_paren-in-Paren.ensures refl
+    (λ at e. record {
+      stands = e ∙ (ap (λ v0. paren_tree
+          (boxed_tree _ _ _ g.F.Spanned.place g.C.Spanned.place g.K.Spanned.place) v0) c.in-Paren.p-is ∙ sym
+          (ap (expr_tree _ _ _ g.F.Spanned.place g.C.Spanned.place g.K.Spanned.place) c.in-Paren.is
+          ∙ paren_expr_tree _ _ _ g.F.Spanned.place g.C.Spanned.place g.K.Spanned.place c.in-Paren.p));
+      view = refl;
+    })
 
 pub returns-in_ok-split_member-in-Member : goal.returns-in_ok-split_member-in-Member
-returns-in_ok-split_member-in-Member g c = split-one c.in_ok-split_member-in-Member.ensures refl (λ at e. record { stands = e ∙ (ap (λ v0. member_tree (boxed_tree _ _ _ g.F.Spanned.place g.C.Spanned.place g.K.Spanned.place) v0) c.in-Member.m-is ∙ sym (ap (expr_tree _ _ _ g.F.Spanned.place g.C.Spanned.place g.K.Spanned.place) c.in-Member.is ∙ member_expr_tree _ _ _ g.F.Spanned.place g.C.Spanned.place g.K.Spanned.place c.in-Member.m)); view = refl })
+returns-in_ok-split_member-in-Member g c = split-one c.in_ok-split_member-in-Member.ensures refl
+    (λ at e. record {
+      stands = e ∙ (ap (λ v0. member_tree
+          (boxed_tree _ _ _ g.F.Spanned.place g.C.Spanned.place g.K.Spanned.place) v0) c.in-Member.m-is ∙ sym
+          (ap (expr_tree _ _ _ g.F.Spanned.place g.C.Spanned.place g.K.Spanned.place) c.in-Member.is
+          ∙ member_expr_tree _ _ _ g.F.Spanned.place g.C.Spanned.place g.K.Spanned.place c.in-Member.m));
+      view = refl;
+    })
 
 pub returns-in_ok-split_super_prop-in-SuperProp : goal.returns-in_ok-split_super_prop-in-SuperProp
-returns-in_ok-split_super_prop-in-SuperProp g c = split-one c.in_ok-split_super_prop-in-SuperProp.ensures refl (λ at e. record { stands = e ∙ (ap (λ v0. super_prop_tree (boxed_tree _ _ _ g.F.Spanned.place g.C.Spanned.place g.K.Spanned.place) v0) c.in-SuperProp.p-is ∙ sym (ap (expr_tree _ _ _ g.F.Spanned.place g.C.Spanned.place g.K.Spanned.place) c.in-SuperProp.is ∙ super_prop_expr_tree _ _ _ g.F.Spanned.place g.C.Spanned.place g.K.Spanned.place c.in-SuperProp.p)); view = refl })
+returns-in_ok-split_super_prop-in-SuperProp g c = split-one c.in_ok-split_super_prop-in-SuperProp.ensures refl
+    (λ at e. record {
+      stands = e ∙ (ap (λ v0. super_prop_tree
+          (boxed_tree _ _ _ g.F.Spanned.place g.C.Spanned.place g.K.Spanned.place) v0) c.in-SuperProp.p-is ∙ sym
+          (ap (expr_tree _ _ _ g.F.Spanned.place g.C.Spanned.place g.K.Spanned.place) c.in-SuperProp.is
+          ∙ super_prop_expr_tree _ _ _ g.F.Spanned.place g.C.Spanned.place g.K.Spanned.place c.in-SuperProp.p));
+      view =
+          refl;
+    })
 
 pub returns-in_ok-split_chain-in-OptChain : goal.returns-in_ok-split_chain-in-OptChain
-returns-in_ok-split_chain-in-OptChain g c = split-one c.in_ok-split_chain-in-OptChain.ensures refl (λ at e. record { stands = e ∙ (ap (λ v0. chain_tree (boxed_tree _ _ _ g.F.Spanned.place g.C.Spanned.place g.K.Spanned.place) v0) c.in-OptChain.c-is ∙ sym (ap (expr_tree _ _ _ g.F.Spanned.place g.C.Spanned.place g.K.Spanned.place) c.in-OptChain.is ∙ opt_chain_tree _ _ _ g.F.Spanned.place g.C.Spanned.place g.K.Spanned.place c.in-OptChain.c)); view = refl })
+returns-in_ok-split_chain-in-OptChain g c = split-one c.in_ok-split_chain-in-OptChain.ensures refl
+    (λ at e. record {
+      stands = e ∙ (ap (λ v0. chain_tree
+          (boxed_tree _ _ _ g.F.Spanned.place g.C.Spanned.place g.K.Spanned.place) v0) c.in-OptChain.c-is ∙ sym
+          (ap (expr_tree _ _ _ g.F.Spanned.place g.C.Spanned.place g.K.Spanned.place) c.in-OptChain.is
+          ∙ opt_chain_tree _ _ _ g.F.Spanned.place g.C.Spanned.place g.K.Spanned.place c.in-OptChain.c));
+      view = refl;
+    })
 
 pub returns-in_ok-split_tpl-in-Tpl : goal.returns-in_ok-split_tpl-in-Tpl
-returns-in_ok-split_tpl-in-Tpl g c = split-one c.in_ok-split_tpl-in-Tpl.ensures refl (λ at e. record { stands = e ∙ (ap (λ v0. tpl_tree (boxed_tree _ _ _ g.F.Spanned.place g.C.Spanned.place g.K.Spanned.place) v0) c.in-Tpl.t-is ∙ sym (ap (expr_tree _ _ _ g.F.Spanned.place g.C.Spanned.place g.K.Spanned.place) c.in-Tpl.is ∙ tpl_expr_tree _ _ _ g.F.Spanned.place g.C.Spanned.place g.K.Spanned.place c.in-Tpl.t)); view = refl })
+returns-in_ok-split_tpl-in-Tpl g c = split-one c.in_ok-split_tpl-in-Tpl.ensures refl
+    (λ at e. record {
+      stands = e ∙ (ap (λ v0. tpl_tree
+          (boxed_tree _ _ _ g.F.Spanned.place g.C.Spanned.place g.K.Spanned.place) v0) c.in-Tpl.t-is ∙ sym
+          (ap (expr_tree _ _ _ g.F.Spanned.place g.C.Spanned.place g.K.Spanned.place) c.in-Tpl.is
+          ∙ tpl_expr_tree _ _ _ g.F.Spanned.place g.C.Spanned.place g.K.Spanned.place c.in-Tpl.t));
+      view = refl;
+    })
 
 pub returns-in-Unary : goal.returns-in-Unary
-returns-in-Unary g c = split-tree c.split_unary.ensures (read-three (λ v0 v1 v2. node (unary v1) v0 (cons ((boxed_tree _ _ _ g.F.Spanned.place g.C.Spanned.place g.K.Spanned.place) v2) nil)) c.in-Unary.span-is c.in-Unary.op-is c.in-Unary.arg-is ∙ sym (ap (expr_tree _ _ _ g.F.Spanned.place g.C.Spanned.place g.K.Spanned.place) c.in-Unary.is ∙ unary_tree _ _ _ g.F.Spanned.place g.C.Spanned.place g.K.Spanned.place c.in-Unary.span c.in-Unary.op c.in-Unary.arg))
+returns-in-Unary g c = split-tree c.split_unary.ensures
+    (read-three (λ v0 v1 v2. node (unary v1) v0
+    (cons ((boxed_tree _ _ _ g.F.Spanned.place g.C.Spanned.place g.K.Spanned.place) v2) nil)) c.in-Unary.span-is
+    c.in-Unary.op-is c.in-Unary.arg-is ∙ sym (ap (expr_tree _ _ _ g.F.Spanned.place g.C.Spanned.place g.K.Spanned.place)
+    c.in-Unary.is ∙ unary_tree _ _ _ g.F.Spanned.place g.C.Spanned.place g.K.Spanned.place c.in-Unary.span c.in-Unary.op
+    c.in-Unary.arg))
 
 pub returns-in-Await : goal.returns-in-Await
-returns-in-Await g c = split-tree c.split_await.ensures (read-two (λ v0 v1. node await v0 (cons ((boxed_tree _ _ _ g.F.Spanned.place g.C.Spanned.place g.K.Spanned.place) v1) nil)) c.in-Await.span-is c.in-Await.arg-is ∙ sym (ap (expr_tree _ _ _ g.F.Spanned.place g.C.Spanned.place g.K.Spanned.place) c.in-Await.is ∙ await_tree _ _ _ g.F.Spanned.place g.C.Spanned.place g.K.Spanned.place c.in-Await.span c.in-Await.arg))
+returns-in-Await g c = split-tree c.split_await.ensures
+    (read-two (λ v0 v1. node await v0
+    (cons ((boxed_tree _ _ _ g.F.Spanned.place g.C.Spanned.place g.K.Spanned.place) v1) nil)) c.in-Await.span-is
+    c.in-Await.arg-is ∙ sym (ap (expr_tree _ _ _ g.F.Spanned.place g.C.Spanned.place g.K.Spanned.place) c.in-Await.is
+    ∙ await_tree _ _ _ g.F.Spanned.place g.C.Spanned.place g.K.Spanned.place c.in-Await.span c.in-Await.arg))
 
 pub returns-in-Call : goal.returns-in-Call
-returns-in-Call g c = split-tree c.split_call.ensures (read-three (λ v0 v1 v2. node call v0 (cons (callee_tree (boxed_tree _ _ _ g.F.Spanned.place g.C.Spanned.place g.K.Spanned.place) v1) (item_trees (boxed_tree _ _ _ g.F.Spanned.place g.C.Spanned.place g.K.Spanned.place) v2.items))) c.in-Call.span-is c.in-Call.callee-is c.in-Call.args-is ∙ sym (ap (expr_tree _ _ _ g.F.Spanned.place g.C.Spanned.place g.K.Spanned.place) c.in-Call.is ∙ call_expr_tree _ _ _ g.F.Spanned.place g.C.Spanned.place g.K.Spanned.place c.in-Call.span c.in-Call.callee c.in-Call.args))
+returns-in-Call g c = split-tree c.split_call.ensures (read-three
+    (λ v0 v1 v2. node call v0 (cons (callee_tree (boxed_tree _ _ _ g.F.Spanned.place g.C.Spanned.place
+    g.K.Spanned.place) v1) (item_trees (boxed_tree _ _ _ g.F.Spanned.place g.C.Spanned.place g.K.Spanned.place)
+    v2.items))) c.in-Call.span-is c.in-Call.callee-is c.in-Call.args-is ∙ sym
+    (ap (expr_tree _ _ _ g.F.Spanned.place g.C.Spanned.place g.K.Spanned.place) c.in-Call.is
+    ∙ call_expr_tree _ _ _ g.F.Spanned.place g.C.Spanned.place g.K.Spanned.place c.in-Call.span c.in-Call.callee
+    c.in-Call.args))
 
 pub returns-in-New : goal.returns-in-New
-returns-in-New g c = split-tree c.split_new.ensures (read-three (λ v0 v1 v2. node new v0 (cons ((boxed_tree _ _ _ g.F.Spanned.place g.C.Spanned.place g.K.Spanned.place) v1) (cons (or_hole (args_tree (boxed_tree _ _ _ g.F.Spanned.place g.C.Spanned.place g.K.Spanned.place)) v2) nil))) c.in-New.span-is c.in-New.callee-is c.in-New.args-is ∙ sym (ap (expr_tree _ _ _ g.F.Spanned.place g.C.Spanned.place g.K.Spanned.place) c.in-New.is ∙ new_tree _ _ _ g.F.Spanned.place g.C.Spanned.place g.K.Spanned.place c.in-New.span c.in-New.callee c.in-New.args))
+returns-in-New g c = split-tree c.split_new.ensures (read-three
+    (λ v0 v1 v2. node new v0 (cons ((boxed_tree _ _ _ g.F.Spanned.place g.C.Spanned.place g.K.Spanned.place) v1)
+    (cons (or_hole (args_tree (boxed_tree _ _ _ g.F.Spanned.place g.C.Spanned.place g.K.Spanned.place)) v2) nil)))
+    c.in-New.span-is c.in-New.callee-is c.in-New.args-is ∙ sym
+    (ap (expr_tree _ _ _ g.F.Spanned.place g.C.Spanned.place g.K.Spanned.place) c.in-New.is
+    ∙ new_tree _ _ _ g.F.Spanned.place g.C.Spanned.place g.K.Spanned.place c.in-New.span c.in-New.callee c.in-New.args))
 
 pub returns-in-TaggedTpl : goal.returns-in-TaggedTpl
-returns-in-TaggedTpl g c = split-tree c.split_tagged.ensures (read-three (λ v0 v1 v2. node tagged v0 (cons ((boxed_tree _ _ _ g.F.Spanned.place g.C.Spanned.place g.K.Spanned.place) v1) (cons (tpl_tree (boxed_tree _ _ _ g.F.Spanned.place g.C.Spanned.place g.K.Spanned.place) v2.value) nil))) c.in-TaggedTpl.span-is c.in-TaggedTpl.tag-is c.in-TaggedTpl.tpl-is ∙ sym (ap (expr_tree _ _ _ g.F.Spanned.place g.C.Spanned.place g.K.Spanned.place) c.in-TaggedTpl.is ∙ tagged_tree _ _ _ g.F.Spanned.place g.C.Spanned.place g.K.Spanned.place c.in-TaggedTpl.span c.in-TaggedTpl.tag c.in-TaggedTpl.tpl))
+returns-in-TaggedTpl g c = split-tree c.split_tagged.ensures
+    (read-three (λ v0 v1 v2. node tagged v0
+    (cons ((boxed_tree _ _ _ g.F.Spanned.place g.C.Spanned.place g.K.Spanned.place) v1)
+    (cons (tpl_tree (boxed_tree _ _ _ g.F.Spanned.place g.C.Spanned.place g.K.Spanned.place) v2.value) nil)))
+    c.in-TaggedTpl.span-is c.in-TaggedTpl.tag-is c.in-TaggedTpl.tpl-is ∙ sym
+    (ap (expr_tree _ _ _ g.F.Spanned.place g.C.Spanned.place g.K.Spanned.place) c.in-TaggedTpl.is
+    ∙ tagged_tree _ _ _ g.F.Spanned.place g.C.Spanned.place g.K.Spanned.place c.in-TaggedTpl.span c.in-TaggedTpl.tag
+    c.in-TaggedTpl.tpl))
 
 pub unreachable-requires : goal.unreachable-requires
-unreachable-requires g c = elim c.in-Fn.is [ inl w ↦ c.requires.no_fn w.0 w.1 | inr u0 ↦ elim u0 [ inl w ↦ c.requires.no_class w.0 w.1 | inr u1 ↦ elim u1 [ inl w ↦ c.requires.no_arrow w.0 w.1 w.2 w.3 w.4 | inr u2 ↦ elim u2 [ inl w ↦ c.requires.no_update w.0 w.1 w.2 w.3 w.4 | inr u3 ↦ elim u3 [ inl w ↦ c.requires.no_yield w.0 w.1 w.2 w.3 | inr u4 ↦ elim u4 [ inl w ↦ c.requires.no_bin w.0 w.1 w.2 w.3 w.4 | inr u5 ↦ elim u5 [ inl w ↦ c.requires.no_cond w.0 w.1 w.2 w.3 w.4 | inr u6 ↦ c.requires.no_assign u6.0 u6.1 u6.2 u6.3 u6.4 ] ] ] ] ] ] ]
+unreachable-requires g c = elim c.in-Fn.is [
+  | inl w ↦ c.requires.no_fn w.0 w.1
+  | inr u0 ↦ elim u0 [
+    | inl w ↦
+        c.requires.no_class w.0 w.1
+    | inr u1 ↦ elim u1 [
+      | inl w ↦ c.requires.no_arrow w.0 w.1 w.2 w.3 w.4
+      | inr u2 ↦ elim u2 [
+        | inl w ↦ c.requires.no_update w.0 w.1 w.2 w.3 w.4
+        | inr u3 ↦ elim u3 [
+          | inl w ↦ c.requires.no_yield w.0 w.1 w.2 w.3
+          | inr u4 ↦ elim u4 [
+            | inl w ↦ c.requires.no_bin w.0 w.1 w.2 w.3 w.4
+            | inr u5 ↦ elim u5 [
+              | inl w ↦ c.requires.no_cond
+                  w.0 w.1 w.2 w.3 w.4
+              | inr u6 ↦ c.requires.no_assign u6.0 u6.1 u6.2 u6.3 u6.4
+            ]
+          ]
+        ]
+      ]
+    ]
+  ]
+]
 
 pub unreachable-unreachable : goal.unreachable-unreachable
 unreachable-unreachable g c = c.unreachable.result

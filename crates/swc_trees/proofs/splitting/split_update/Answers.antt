@@ -4,4 +4,5 @@ use Rattle.swc_trees.proofs.Splits.{split-one}
 use Rattle.swc_trees.proofs.splitting.split_update.Goals as goal
 
 pub returns : goal.returns
-returns g c = split-one c.in_ok-arg.ensures refl (λ at e. record { stands = ap (λ v. node (update c.args.op c.args.prefix) c.args.span (cons v nil)) e; view = refl })
+returns g c = split-one c.in_ok-arg.ensures refl (λ at e.
+    record { stands = ap (λ v. node (update c.args.op c.args.prefix) c.args.span (cons v nil)) e; view = refl })

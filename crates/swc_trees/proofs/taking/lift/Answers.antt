@@ -21,14 +21,17 @@ loop-part-smaller g c =
 
 pub loop-part-preserved : goal.loop-part-preserved
 loop-part-preserved g c =
-    lifting-step _ c.list.new.list.items c.in-Some.part c.in-Some.ensures.items c.number.ensures c.pop_at.ensures c.in_ok-list.ensures
+    lifting-step _ c.list.new.list.items c.in-Some.part c.in-Some.ensures.items c.number.ensures c.pop_at.ensures
+    c.in_ok-list.ensures
     c.into_inner.ensures c.in_ok-push.ensures.items c.loop-part.invariant
 
 pub returns-in_err-list-clause-left : goal.returns-in_err-list-clause-left
-returns-in_err-list-clause-left g c = next-left _ c.in-Some.part c.in-Some.ensures.items c.number.ensures c.pop_at.ensures c.loop-part.invariant
+returns-in_err-list-clause-left g c = next-left _ c.in-Some.part c.in-Some.ensures.items c.number.ensures
+    c.pop_at.ensures c.loop-part.invariant
 
 pub returns-in_err-push-clause-left : goal.returns-in_err-push-clause-left
-returns-in_err-push-clause-left g c = next-left _ c.in-Some.part c.in-Some.ensures.items c.number.ensures c.pop_at.ensures c.loop-part.invariant
+returns-in_err-push-clause-left g c = next-left _ c.in-Some.part c.in-Some.ensures.items c.number.ensures
+    c.pop_at.ensures c.loop-part.invariant
 
 pub returns-clause-left : goal.returns-clause-left
 returns-clause-left g c = lifting-left c.loop-part.invariant

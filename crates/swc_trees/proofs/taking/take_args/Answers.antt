@@ -21,7 +21,9 @@ pub returns-clause-moved : goal.returns-clause-moved
 returns-clause-moved g c =
     let boxed = boxed_tree _ _ _ g.F.Spanned.place g.C.Spanned.place g.K.Spanned.place in
     let of = expr_of g.F.Spanned.place g.C.Spanned.place g.K.Spanned.place (bare_at c.args.nodes.now) in
-    if_ok-as (λ ys. map (item_tree boxed) ys.items ≡ map (item_tree of) c.args.args.items) (λ ys. args_tree boxed ys ≡ args_tree of c.args.args) c.all.result
+    if_ok-as (λ ys. map (item_tree boxed) ys.items ≡ map (item_tree of) c.args.args.items)
+    (λ ys. args_tree boxed ys ≡ args_tree of c.args.args) c.all.result
     (λ ys e. ap (λ ts. node args no_span (trees ts)) e)
-    (piece-made (λ at ys. map (item_tree boxed) ys.items ≡ map (item_tree (expr_of g.F.Spanned.place g.C.Spanned.place g.K.Spanned.place at)) c.args.args.items)
+    (piece-made (λ at ys. map (item_tree boxed) ys.items ≡ map
+    (item_tree (expr_of g.F.Spanned.place g.C.Spanned.place g.K.Spanned.place at)) c.args.args.items)
     (args_parts c.args.args) _ c.all.result c.in_ok-parts.ensures c.in_ok-built.ensures c.all.ensures)

@@ -6,7 +6,8 @@ use Rattle.swc_trees.proofs.Rebuilt.{left-none, left-piece, piece-apart, piece-o
 use Rattle.swc_trees.proofs.taking.take_expr.Goals as goal
 
 pub take_all-requires : goal.take_all-requires
-take_all-requires g c = piece-apart (one_expr c.args.id) c.in_ok-parts.ensures (apart-from (expr_part c.args.id) c.requires)
+take_all-requires g c = piece-apart (one_expr c.args.id) c.in_ok-parts.ensures
+    (apart-from (expr_part c.args.id) c.requires)
 
 pub returns-in_err-parts-clause-left : goal.returns-in_err-parts-clause-left
 returns-in_err-parts-clause-left g c = left-none (one_expr c.args.id) (apart-from (expr_part c.args.id) c.requires)

@@ -12,7 +12,8 @@ pub returns-in_err-built-clause-left : goal.returns-in_err-built-clause-left
 returns-in_err-built-clause-left g c = left-piece c.in_ok-parts.ensures c.take_all.ensures.left
 
 pub assemble-requires : goal.assemble-requires
-assemble-requires g c = rw c.into_inner.ensures (piece-offered (prop_parts c.args.prop) c.in_ok-parts.ensures c.in_ok-built.ensures)
+assemble-requires g c = rw c.into_inner.ensures (piece-offered
+    (prop_parts c.args.prop) c.in_ok-parts.ensures c.in_ok-built.ensures)
 
 pub returns-clause-left : goal.returns-clause-left
 returns-clause-left g c = left-piece c.in_ok-parts.ensures c.in_ok-built.ensures.left
@@ -20,8 +21,11 @@ returns-clause-left g c = left-piece c.in_ok-parts.ensures c.in_ok-built.ensures
 pub returns-clause-moved : goal.returns-clause-moved
 returns-clause-moved g c =
     subst
-    (λ p. IfOk c.assemble.result (λ y. prop_or_spread_in c.args.nodes.now y ≡ prop_node_as c.args.nodes.now (bare_at c.args.nodes.now) p))
+    (λ p. IfOk c.assemble.result (λ y. prop_or_spread_in c.args.nodes.now y ≡ prop_node_as c.args.nodes.now
+    (bare_at c.args.nodes.now) p))
     c.into_inner.ensures
     (piece-made
-    (λ at y. prop_or_spread_tree _ _ _ g.F.Spanned.place g.C.Spanned.place g.K.Spanned.place y ≡ prop_of g.F.Spanned.place g.C.Spanned.place g.K.Spanned.place at c.into_inner.result)
-    (prop_parts c.into_inner.result) _ c.assemble.result (c.in_ok-parts.ensures ∙ ap prop_parts (sym c.into_inner.ensures)) c.in_ok-built.ensures c.assemble.ensures)
+    (λ at y. prop_or_spread_tree _ _ _ g.F.Spanned.place g.C.Spanned.place g.K.Spanned.place y ≡ prop_of
+    g.F.Spanned.place g.C.Spanned.place g.K.Spanned.place at c.into_inner.result)
+    (prop_parts c.into_inner.result) _ c.assemble.result
+    (c.in_ok-parts.ensures ∙ ap prop_parts (sym c.into_inner.ensures)) c.in_ok-built.ensures c.assemble.ensures)

@@ -8,6 +8,7 @@ decreases-loop-body l = length (kept_bodies l.self.reader)
 
 abbrev pub invariant-loop-body : goal.invariant-loop-body
 invariant-loop-body l = record {
-  waits : l.self.waiting.items ++ reverse (kept_bodies l.self.reader) ≡ l.fn.self.waiting.items ++ reverse (kept_bodies l.fn.self.reader);
+  waits : l.self.waiting.items ++ reverse (kept_bodies l.self.reader) ≡ l.fn.self.waiting.items ++ reverse
+      (kept_bodies l.fn.self.reader);
   read : l.self.bodies ≡ l.fn.self.bodies;
 }

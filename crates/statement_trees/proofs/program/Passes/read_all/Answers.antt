@@ -11,7 +11,8 @@ loop-next-init c = record {
   none = c.requires.none;
   within = omega arith;
   order = subst InOrder (sym c.requires.first) none_in_order;
-  before = subst (All (λ (place : Span). place.lo.0 < 0)) (sym c.requires.first) (All-nil (λ (place : Span). place.lo.0 < 0));
+  before = subst (All (λ (place : Span). place.lo.0 < 0)) (sym c.requires.first)
+      (All-nil (λ (place : Span). place.lo.0 < 0));
   left = λ place h. Contains-append_right c.args.self.now.bodies.items (places c.args.self.now.waiting.items) place h;
 }
 
@@ -35,9 +36,11 @@ loop-next-preserved c =
           c.loop-next.invariant.before (omega arith) (omega (arith, start)));
       left = λ p h. subst (λ bs. Contains (bs ++ places c.pass.new.self.waiting.items) p) read
           (subst (λ ws. Contains ((c.loop-next.self.bodies.items ++ place ∷ []) ++ places ws) p) (sym passed.waits.1)
-          (subst (λ q. Contains ((c.loop-next.self.bodies.items ++ q ∷ []) ++ places (c.pop.new.self.items ++ passed.waits.0)) p) (sym here)
+          (subst (λ q. Contains ((c.loop-next.self.bodies.items ++ q ∷ []) ++ places
+          (c.pop.new.self.items ++ passed.waits.0)) p) (sym here)
           (moved c.loop-next.self.bodies.items c.pop.new.self.items passed.waits.0 c.in-Some.next p
-          (subst (λ ws. Contains (c.loop-next.self.bodies.items ++ places ws) p) popped (c.loop-next.invariant.left p h)))));
+          (subst (λ ws. Contains (c.loop-next.self.bodies.items ++ places ws) p) popped
+          (c.loop-next.invariant.left p h)))));
     }
 
 pub returns-clause-all : goal.returns-clause-all

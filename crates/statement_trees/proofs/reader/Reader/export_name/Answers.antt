@@ -5,7 +5,4 @@ use Rattle.statement_trees.proofs.reader.Reader.export_name.Goals as goal
 pub returns : goal.returns
 returns c =
     let keeps = name_keeps program_model c.parse_module_export_name.ensures in
-    record {
-      context = keeps.0;
-      lower = lower_effort _ _ _ keeps.1;
-    }
+    record { context = keeps.0; lower = lower_effort _ _ _ keeps.1 }

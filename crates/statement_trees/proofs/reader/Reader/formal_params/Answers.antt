@@ -5,7 +5,4 @@ use Rattle.statement_trees.proofs.reader.Reader.formal_params.Goals as goal
 pub returns : goal.returns
 returns c =
     let keeps = params_keep program_model c.parse_formal_params_id.ensures in
-    record {
-      context = keeps.0;
-      lower = lower_effort _ _ _ keeps.1;
-    }
+    record { context = keeps.0; lower = lower_effort _ _ _ keeps.1 }

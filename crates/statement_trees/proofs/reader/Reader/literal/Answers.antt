@@ -5,7 +5,4 @@ use Rattle.statement_trees.proofs.reader.Reader.literal.Goals as goal
 pub returns : goal.returns
 returns c =
     let keeps = literal_keeps program_model c.parse_lit.ensures in
-    record {
-      context = keeps.0;
-      lower = lower_effort _ _ _ keeps.1;
-    }
+    record { context = keeps.0; lower = lower_effort _ _ _ keeps.1 }

@@ -6,4 +6,7 @@ abbrev pub decreases-loop-declarators : goal.decreases-loop-declarators
 decreases-loop-declarators l = work l.self
 
 abbrev pub invariant-loop-declarators : goal.invariant-loop-declarators
-invariant-loop-declarators l = record { context : context_of l.self ≡ context_of l.fn.self; takes : Takes l.fn.self l.self }
+invariant-loop-declarators l = record {
+  context : context_of l.self ≡ context_of l.fn.self;
+  takes : Takes l.fn.self l.self;
+}

@@ -4,4 +4,5 @@ use Rattle.swc_bodies.proofs.Steps.{begun-block}
 use Rattle.swc_bodies.proofs.token_bodies.TokenBodiesBodies.block.Goals as goal
 
 pub returns-clause-faithful : goal.returns-clause-faithful
-returns-clause-faithful g c = c.take_body.ensures.faithful block_first (begun-block (current c.args.input.now) c.requires)
+returns-clause-faithful g c = c.take_body.ensures.faithful block_first
+    (begun-block (current c.args.input.now) c.requires)

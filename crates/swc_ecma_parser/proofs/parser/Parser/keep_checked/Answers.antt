@@ -5,11 +5,13 @@ use Rattle.swc_ecma_parser.proofs.{Finished.checked-holds, Moving.apart-kept}
 use Rattle.swc_ecma_parser.proofs.parser.Parser.keep_checked.Goals as goal
 
 pub check_answer-answer-requires : goal.check_answer-answer-requires
-check_answer-answer-requires g c = apart-kept g.T.Take.parts (nodes_of c.args.self.now) c.args.start c.args.answer c.requires
+check_answer-answer-requires g c = apart-kept g.T.Take.parts
+    (nodes_of c.args.self.now) c.args.start c.args.answer c.requires
 
 pub keep-answer-requires : goal.keep-answer-requires
 keep-answer-requires g c =
-    checked-holds g.I.Tokens.model _ _ _ (λ x. Apart c.args.start (nodes_of c.args.self.now) (g.T.Take.parts x)) c.args.answer
+    checked-holds g.I.Tokens.model _ _ _ (λ x. Apart c.args.start (nodes_of c.args.self.now) (g.T.Take.parts x))
+    c.args.answer
     c.check_answer-answer.result c.check_answer-answer.ensures c.requires
 
 pub returns : goal.returns

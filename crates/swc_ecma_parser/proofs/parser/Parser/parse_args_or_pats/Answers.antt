@@ -11,7 +11,8 @@ use Rattle.swc_ecma_parser.proofs.{Placed.list-placed, Calling.promised, Calling
 use Rattle.swc_ecma_parser.proofs.parser.Parser.parse_args_or_pats.Goals as goal
 
 pub returns-in_err-start : goal.returns-in_err-start
-returns-in_err-start g c = let p = err_from_is_err_and c.from_residual.result c.from_residual.ensures.1 in rw (p.1, p.2) (record { promised = promised-again c.in_err-start.ensures.again refl })
+returns-in_err-start g c = let p = err_from_is_err_and c.from_residual.result c.from_residual.ensures.1 in
+    rw (p.1, p.2) (record { promised = promised-again c.in_err-start.ensures.again refl })
 
 pub returns : goal.returns
 returns g c =
@@ -21,12 +22,26 @@ returns g c =
     let read = c.parse_arguments-answer.ensures in
     let ns = c.parse_arguments-answer.new.p.nodes in
     record {
-      promised = promised c.parse_arguments-answer.new.p.input (nodes_of c.move_out-answer.new.self) (commas_of c.move_out-answer.new.self) c.with_comma-answer.result c.finish.result c.in_ok-start.ensures.runs moved.runs
+      promised = promised c.parse_arguments-answer.new.p.input (nodes_of c.move_out-answer.new.self)
+          (commas_of c.move_out-answer.new.self) c.with_comma-answer.result c.finish.result c.in_ok-start.ensures.runs
+          moved.runs
           done.answer (done.buffer ∙ moved.buffer) done.nodes done.commas done.fails
-          (meets-as g.I.Tokens.model g.B.Bodies.is_faithful g.B.BodyForms.forms g.met.B.Bodies.lawful boxed leaves-list (list-placed g.B.BodyForms.forms) args-stops _ c.with_comma-answer.result _
-          (moved-by g.I.Tokens.model g.B.Bodies.is_faithful (run g.B.BodyForms.forms (at (Arguments false))) ns args_at (bare_list ns) boxed items_and_comma _ _ c.parse_arguments-answer.result c.with_comma-answer.result read.reads
-          (list-bare ns) (moved-list ns _ c.last_comma-comma.result c.parse_arguments-answer.result c.move_out-answer.result c.with_comma-answer.result c.last_comma-comma.ensures moved.moved c.with_comma-answer.ensures)))
-          (recalled g.I.Tokens.model g.B.Bodies.is_faithful g.B.BodyForms.forms g.met.B.Bodies.lawful (Arguments false) items_and_comma ns (args_at ns) (bare_list ns) (boxed) (λ l. args_parts l.items)
-          _ _ c.parse_arguments-answer.result c.with_comma-answer.result _ _ read.reads (list-bare ns) (λ l. args-commas (tree_at ns) l.items) (moved-list ns _ c.last_comma-comma.result c.parse_arguments-answer.result c.move_out-answer.result c.with_comma-answer.result c.last_comma-comma.ensures moved.moved c.with_comma-answer.ensures) (recalled-list ns _ _ c.last_comma-comma.result c.parse_arguments-answer.result c.move_out-answer.result c.with_comma-answer.result moved.commas c.with_comma-answer.ensures))
-          (cut-back (nodes_of c.move_out-answer.new.self) read.grows (rw (sym c.in_ok-start.ensures.start) moved.nodes));
+          (meets-as g.I.Tokens.model g.B.Bodies.is_faithful g.B.BodyForms.forms g.met.B.Bodies.lawful boxed leaves-list
+          (list-placed g.B.BodyForms.forms) args-stops _ c.with_comma-answer.result _
+          (moved-by g.I.Tokens.model g.B.Bodies.is_faithful (run g.B.BodyForms.forms (at (Arguments false))) ns args_at
+          (bare_list ns) boxed items_and_comma _ _ c.parse_arguments-answer.result c.with_comma-answer.result
+          read.reads
+          (list-bare ns) (moved-list ns _ c.last_comma-comma.result c.parse_arguments-answer.result
+          c.move_out-answer.result c.with_comma-answer.result c.last_comma-comma.ensures moved.moved
+          c.with_comma-answer.ensures)))
+          (recalled g.I.Tokens.model g.B.Bodies.is_faithful g.B.BodyForms.forms g.met.B.Bodies.lawful
+          (Arguments false) items_and_comma ns (args_at ns) (bare_list ns) (boxed) (λ l. args_parts l.items)
+          _ _ c.parse_arguments-answer.result c.with_comma-answer.result _ _ read.reads (list-bare ns)
+          (λ l. args-commas (tree_at ns) l.items) (moved-list ns _ c.last_comma-comma.result
+          c.parse_arguments-answer.result c.move_out-answer.result c.with_comma-answer.result
+          c.last_comma-comma.ensures moved.moved c.with_comma-answer.ensures)
+          (recalled-list ns _ _ c.last_comma-comma.result c.parse_arguments-answer.result c.move_out-answer.result
+          c.with_comma-answer.result moved.commas c.with_comma-answer.ensures))
+          (cut-back (nodes_of c.move_out-answer.new.self) read.grows
+          (rw (sym c.in_ok-start.ensures.start) moved.nodes));
     }

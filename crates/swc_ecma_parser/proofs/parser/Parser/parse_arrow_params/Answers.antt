@@ -24,12 +24,17 @@ returns-clause-promised g c =
     let ns = c.parse_arrow_params-answer.new.p.nodes in
     let answer = moved.checked in
     let reads =
-    heads-boxes-checked g.I.Tokens.model g.B.Bodies.is_faithful (heads_items g.B.BodyForms.forms) ns _ _ _ c.parse_arrow_params-answer.result answer read.reads
+    heads-boxes-checked g.I.Tokens.model g.B.Bodies.is_faithful
+    (heads_items g.B.BodyForms.forms) ns _ _ _ c.parse_arrow_params-answer.result answer read.reads
     moved.checks in
-    promised moved.at (nodes_of c.move_out_checked.new.self) (commas_of c.move_out_checked.new.self) c.move_out_checked.result c.move_out_checked.result c.in_ok-start.ensures.runs refl
+    promised moved.at (nodes_of c.move_out_checked.new.self)
+    (commas_of c.move_out_checked.new.self) c.move_out_checked.result c.move_out_checked.result
+    c.in_ok-start.ensures.runs refl
     refl moved.out.buffer refl refl moved.out.fails
-    (meets-heads g.I.Tokens.model g.B.Bodies.is_faithful g.B.BodyForms.forms g.met.B.Bodies.lawful ns _ _ answer c.move_out_checked.result reads moved.out.moved)
-    (heads-recalled g.I.Tokens.model g.B.Bodies.is_faithful g.B.BodyForms.forms g.met.B.Bodies.lawful ns _ _ answer c.move_out_checked.result reads moved.out.moved _ _ moved.out.commas)
+    (meets-heads g.I.Tokens.model g.B.Bodies.is_faithful g.B.BodyForms.forms g.met.B.Bodies.lawful ns _ _ answer
+    c.move_out_checked.result reads moved.out.moved)
+    (heads-recalled g.I.Tokens.model g.B.Bodies.is_faithful g.B.BodyForms.forms g.met.B.Bodies.lawful ns _ _ answer
+    c.move_out_checked.result reads moved.out.moved _ _ moved.out.commas)
     (cut-back (nodes_of c.move_out_checked.new.self) read.grows (rw (sym c.in_ok-start.ensures.start) moved.out.nodes))
 
 pub returns-clause-binds : goal.returns-clause-binds

@@ -14,7 +14,8 @@ returns-in_err-start-clause-promised g c =
 
 pub returns-in_err-start-clause-binds : goal.returns-in_err-start-clause-binds
 returns-in_err-start-clause-binds g c = λ runs. bound-kept g.I.Tokens.model g.B.BodyForms.forms
-    (pats_tree (pat_at (nodes_of c.args.self.now))) (buffer_of c.args.self.now) c.from_residual.result (buffer_of c.args.self.now)
+    (pats_tree (pat_at (nodes_of c.args.self.now))) (buffer_of c.args.self.now) c.from_residual.result
+    (buffer_of c.args.self.now)
     ((returns-in_err-start-clause-promised g c).sound runs)
 
 pub returns-clause-promised : goal.returns-clause-promised
@@ -25,19 +26,26 @@ returns-clause-promised g c =
     let ns = nodes_of c.keep_checked.new.self in
     let answer = kept.checked in
     let reads =
-    heads-checked g.I.Tokens.model g.B.Bodies.is_faithful (heads_items g.B.BodyForms.forms) ms _ _ _ c.parse_arrow_params-answer.result answer read.reads
+    heads-checked g.I.Tokens.model g.B.Bodies.is_faithful
+    (heads_items g.B.BodyForms.forms) ms _ _ _ c.parse_arrow_params-answer.result answer read.reads
     kept.checks in
-    let from = checked-holds g.I.Tokens.model _ _ _ (λ x. Apart c.in_ok-start.start ms (pats_parts x)) c.parse_arrow_params-answer.result answer kept.checks
+    let from = checked-holds g.I.Tokens.model _ _ _ (λ x. Apart c.in_ok-start.start ms (pats_parts x))
+    c.parse_arrow_params-answer.result answer kept.checks
     (rw (c.in_ok-start.ensures.start) read.from) in
-    promised kept.at ns (commas_of c.keep_checked.new.self) c.keep_checked.result c.keep_checked.result c.in_ok-start.ensures.runs refl
+    promised kept.at ns (commas_of c.keep_checked.new.self) c.keep_checked.result c.keep_checked.result
+    c.in_ok-start.ensures.runs refl
     refl kept.buffer refl refl kept.fails
-    (meets-kept g.I.Tokens.model g.B.Bodies.is_faithful g.B.BodyForms.forms g.met.B.Bodies.lawful ms ns c.in_ok-start.start _ _ answer c.keep_checked.result
+    (meets-kept g.I.Tokens.model g.B.Bodies.is_faithful g.B.BodyForms.forms g.met.B.Bodies.lawful ms ns
+    c.in_ok-start.start _ _ answer c.keep_checked.result
     reads kept.kept kept.nodes)
-    (kept-recalled g.I.Tokens.model g.B.Bodies.is_faithful g.B.BodyForms.forms g.met.B.Bodies.lawful ms ns c.in_ok-start.start _ _ answer c.keep_checked.result
+    (kept-recalled g.I.Tokens.model g.B.Bodies.is_faithful g.B.BodyForms.forms g.met.B.Bodies.lawful ms ns
+    c.in_ok-start.start _ _ answer c.keep_checked.result
     reads kept.kept kept.nodes _ _ kept.commas)
-    (kept-parts pats_parts ns _ answer c.keep_checked.result read.grows (rw (sym c.in_ok-start.ensures.start) from) kept.kept (rw (sym c.in_ok-start.ensures.start) kept.nodes))
+    (kept-parts pats_parts ns _ answer c.keep_checked.result read.grows
+    (rw (sym c.in_ok-start.ensures.start) from) kept.kept (rw (sym c.in_ok-start.ensures.start) kept.nodes))
 
 pub returns-clause-binds : goal.returns-clause-binds
 returns-clause-binds g c = λ runs. bound-kept g.I.Tokens.model g.B.BodyForms.forms
-    (pats_tree (pat_at (nodes_of c.keep_checked.new.self))) (buffer_of c.args.self.now) c.keep_checked.result (buffer_of c.keep_checked.new.self)
+    (pats_tree (pat_at (nodes_of c.keep_checked.new.self))) (buffer_of c.args.self.now) c.keep_checked.result
+    (buffer_of c.keep_checked.new.self)
     ((returns-clause-promised g c).sound runs)

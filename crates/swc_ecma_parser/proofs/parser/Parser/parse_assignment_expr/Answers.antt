@@ -4,10 +4,13 @@ use Rattle.swc_ecma_parser.proofs.{Calling.promised-again, Left.expr-left, Top.a
 use Rattle.swc_ecma_parser.proofs.parser.Parser.parse_assignment_expr.Goals as goal
 
 pub returns-in_err-start : goal.returns-in_err-start
-returns-in_err-start g c = let p = err_from_is_err_and c.from_residual.result c.from_residual.ensures.1 in rw (p.1, p.2) (record { promised = promised-again c.in_err-start.ensures.again refl })
+returns-in_err-start g c = let p = err_from_is_err_and c.from_residual.result c.from_residual.ensures.1 in
+    rw (p.1, p.2) (record { promised = promised-again c.in_err-start.ensures.again refl })
 
 pub returns : goal.returns
 returns g c = record {
-  promised = promised-boxed g.met.B.Bodies.lawful assign-stops c.in_ok-start.ensures.runs c.in_ok-start.ensures.start c.parse_assignment_expr-answer.ensures
-      c.move_out_checked.ensures (λ e. refl) (λ e. refl) (expr-left (tree_at c.parse_assignment_expr-answer.new.p.nodes));
+  promised = promised-boxed g.met.B.Bodies.lawful assign-stops c.in_ok-start.ensures.runs c.in_ok-start.ensures.start
+      c.parse_assignment_expr-answer.ensures
+      c.move_out_checked.ensures (λ e. refl) (λ e. refl)
+      (expr-left (tree_at c.parse_assignment_expr-answer.new.p.nodes));
 }

@@ -17,19 +17,25 @@ returns g c =
     let answer = moved.checked in
     let hook = g.B.BodyForms.forms in
     let reads =
-    head-boxes-checked g.I.Tokens.model g.B.Bodies.is_faithful hook c.args.is_await ns _ _ _ c.parse_for_head-answer.result answer read.produces.reads
+    head-boxes-checked g.I.Tokens.model g.B.Bodies.is_faithful hook c.args.is_await ns _ _ _
+    c.parse_for_head-answer.result answer read.produces.reads
     moved.checks in
     let which =
-    head-told g.I.Tokens.model g.B.Bodies.is_faithful hook c.args.is_await ns _ _ _ c.parse_for_head-answer.result answer read.produces.reads
+    head-told g.I.Tokens.model g.B.Bodies.is_faithful hook c.args.is_await ns _ _ _ c.parse_for_head-answer.result
+    answer read.produces.reads
     moved.checks read.which in
     let laws = g.met.B.Bodies.lawful in
     let boxes = head-moved ns _ answer c.move_out_checked.result moved.out.moved in
     let by = head-bare hook c.args.is_await in
     promised-head moved.at (nodes_of c.move_out_checked.new.self)
-    (commas_of c.move_out_checked.new.self) c.move_out_checked.result c.move_out_checked.result c.in_ok-start.ensures.runs refl
+    (commas_of c.move_out_checked.new.self) c.move_out_checked.result c.move_out_checked.result
+    c.in_ok-start.ensures.runs refl
     refl moved.out.buffer refl refl moved.out.fails
-    (head-promised g.I.Tokens.model g.B.Bodies.is_faithful hook laws c.args.is_await _ _ by _ ns _ _ answer c.move_out_checked.result
+    (head-promised g.I.Tokens.model g.B.Bodies.is_faithful hook laws c.args.is_await _ _ by _ ns _ _ answer
+    c.move_out_checked.result
     reads boxes which)
-    (head-recalled g.I.Tokens.model g.B.Bodies.is_faithful hook laws c.args.is_await _ _ by _ ns _ _ answer c.move_out_checked.result
+    (head-recalled g.I.Tokens.model g.B.Bodies.is_faithful hook laws c.args.is_await _ _ by _ ns _ _ answer
+    c.move_out_checked.result
     reads boxes _ _ moved.out.commas)
-    (cut-back (nodes_of c.move_out_checked.new.self) read.produces.grows (rw (sym c.in_ok-start.ensures.start) moved.out.nodes))
+    (cut-back (nodes_of c.move_out_checked.new.self) read.produces.grows
+    (rw (sym c.in_ok-start.ensures.start) moved.out.nodes))

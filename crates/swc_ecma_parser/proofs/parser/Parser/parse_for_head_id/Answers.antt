@@ -19,12 +19,15 @@ returns g c =
     let answer = kept.checked in
     let hook = g.B.BodyForms.forms in
     let reads =
-    head-checked g.I.Tokens.model g.B.Bodies.is_faithful hook c.args.is_await ms _ _ _ c.parse_for_head-answer.result answer read.produces.reads
+    head-checked g.I.Tokens.model g.B.Bodies.is_faithful hook c.args.is_await ms _ _ _ c.parse_for_head-answer.result
+    answer read.produces.reads
     kept.checks in
     let which =
-    head-told g.I.Tokens.model g.B.Bodies.is_faithful hook c.args.is_await ms _ _ _ c.parse_for_head-answer.result answer read.produces.reads
+    head-told g.I.Tokens.model g.B.Bodies.is_faithful hook c.args.is_await ms _ _ _ c.parse_for_head-answer.result
+    answer read.produces.reads
     kept.checks read.which in
-    let from = checked-holds g.I.Tokens.model _ _ _ (λ x. Apart c.in_ok-start.start ms (for_head_parts x)) c.parse_for_head-answer.result answer
+    let from = checked-holds g.I.Tokens.model _ _ _ (λ x. Apart c.in_ok-start.start ms (for_head_parts x))
+    c.parse_for_head-answer.result answer
     kept.checks (rw (c.in_ok-start.ensures.start) read.produces.from) in
     let laws = g.met.B.Bodies.lawful in
     let numbers = head-kept ms ns _ c.in_ok-start.start answer c.keep_checked.result kept.kept kept.nodes in
@@ -32,9 +35,12 @@ returns g c =
     promised-head kept.at ns
     (commas_of c.keep_checked.new.self) c.keep_checked.result c.keep_checked.result c.in_ok-start.ensures.runs refl
     refl kept.buffer refl refl kept.fails
-    (head-promised g.I.Tokens.model g.B.Bodies.is_faithful hook laws c.args.is_await _ _ by (for_head_at ns) ms _ _ answer c.keep_checked.result
+    (head-promised g.I.Tokens.model g.B.Bodies.is_faithful hook laws c.args.is_await _ _ by
+    (for_head_at ns) ms _ _ answer c.keep_checked.result
     reads numbers which)
-    (head-recalled g.I.Tokens.model g.B.Bodies.is_faithful hook laws c.args.is_await _ _ by (for_head_at ns) ms _ _ answer c.keep_checked.result
+    (head-recalled g.I.Tokens.model g.B.Bodies.is_faithful hook laws c.args.is_await _ _ by
+    (for_head_at ns) ms _ _ answer c.keep_checked.result
     reads numbers _ _ kept.commas)
-    (kept-parts for_head_parts ns _ answer c.keep_checked.result read.produces.grows (rw (sym c.in_ok-start.ensures.start) from) kept.kept
+    (kept-parts for_head_parts ns _ answer c.keep_checked.result read.produces.grows
+    (rw (sym c.in_ok-start.ensures.start) from) kept.kept
     (rw (sym c.in_ok-start.ensures.start) kept.nodes))

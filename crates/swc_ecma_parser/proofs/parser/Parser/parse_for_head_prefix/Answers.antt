@@ -26,18 +26,24 @@ returns g c =
     let hook = g.B.BodyForms.forms in
     let laws = g.met.B.Bodies.lawful in
     let bare = λ (e : ExprId). bare_at ns e.0 in
-    let looked = expr-boxes-checked g.I.Tokens.model g.B.Bodies.is_faithful (own_head_expr hook) ns _ _ _ c.parse_head_expr-answer.result answer read.reads
+    let looked = expr-boxes-checked g.I.Tokens.model g.B.Bodies.is_faithful
+    (own_head_expr hook) ns _ _ _ c.parse_head_expr-answer.result answer read.reads
     moved.checks in
-    let reads = moved-parses g.I.Tokens.model g.B.Bodies.is_faithful (checked_prefix hook) ns tree_of bare boxed _ _ answer
+    let reads = moved-parses g.I.Tokens.model g.B.Bodies.is_faithful
+    (checked_prefix hook) ns tree_of bare boxed _ _ answer
     c.move_out_checked.result looked (λ e. refl) moved.out.moved in
     record {
       promised = promised moved.at (nodes_of c.move_out_checked.new.self)
-          (commas_of c.move_out_checked.new.self) c.move_out_checked.result c.move_out_checked.result c.in_ok-start.ensures.runs refl refl moved.out.buffer refl refl moved.out.fails
+          (commas_of c.move_out_checked.new.self) c.move_out_checked.result c.move_out_checked.result
+          c.in_ok-start.ensures.runs refl refl moved.out.buffer refl refl moved.out.fails
           (meets-prefix g.I.Tokens.model g.B.Bodies.is_faithful hook laws boxed _ c.move_out_checked.result _ reads)
-          (recalled-by g.I.Tokens.model g.B.Bodies.is_faithful _ (checked_prefix hook) (prefix-marked hook laws) unmarked ns
+          (recalled-by g.I.Tokens.model g.B.Bodies.is_faithful _ (checked_prefix hook)
+          (prefix-marked hook laws) unmarked ns
           (tree_of ns) bare boxed one_expr _ _ answer c.move_out_checked.result _ _ looked (λ e. refl) (λ e. refl)
           moved.out.moved moved.out.commas)
-          (cut-back (nodes_of c.move_out_checked.new.self) read.grows (rw (sym c.in_ok-start.ensures.start) moved.out.nodes));
-      words = words-of c.args.self.now c.move_out_checked.new.self (prefix-words g.I.Tokens.model g.B.Bodies.is_faithful hook boxed _ c.move_out_checked.result _ reads)
+          (cut-back (nodes_of c.move_out_checked.new.self) read.grows
+          (rw (sym c.in_ok-start.ensures.start) moved.out.nodes));
+      words = words-of c.args.self.now c.move_out_checked.new.self
+          (prefix-words g.I.Tokens.model g.B.Bodies.is_faithful hook boxed _ c.move_out_checked.result _ reads)
           refl moved.out.buffer;
     }

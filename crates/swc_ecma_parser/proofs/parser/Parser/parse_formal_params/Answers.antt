@@ -17,12 +17,16 @@ returns g c =
     let answer = moved.checked in
     let hook = g.B.BodyForms.forms in
     let reads =
-    params-checked g.I.Tokens.model g.B.Bodies.is_faithful hook ns _ _ _ c.parse_formal_params-answer.result answer read.reads moved.checks in
+    params-checked g.I.Tokens.model g.B.Bodies.is_faithful hook ns _ _ _ c.parse_formal_params-answer.result answer
+    read.reads moved.checks in
     let alone =
-    params-alone g.I.Tokens.model g.B.Bodies.is_faithful hook ns _ _ _ c.parse_formal_params-answer.result answer read.reads read.each moved.checks in
+    params-alone g.I.Tokens.model g.B.Bodies.is_faithful hook ns _ _ _ c.parse_formal_params-answer.result answer
+    read.reads read.each moved.checks in
     promised-params moved.at (nodes_of c.move_out_checked.new.self) (commas_of c.move_out_checked.new.self)
     c.move_out_checked.result c.move_out_checked.result c.in_ok-start.ensures.runs refl
     refl moved.out.buffer refl refl moved.out.fails
-    (meets-params g.I.Tokens.model g.B.Bodies.is_faithful hook g.met.B.Bodies.lawful _ _ (derives-bare hook) _ ns _ _ _ _
-    answer c.move_out_checked.result reads alone (params-moved ns _ answer c.move_out_checked.result moved.out.moved) moved.out.commas)
+    (meets-params g.I.Tokens.model g.B.Bodies.is_faithful hook g.met.B.Bodies.lawful _ _
+    (derives-bare hook) _ ns _ _ _ _
+    answer c.move_out_checked.result reads alone (params-moved ns _ answer c.move_out_checked.result moved.out.moved)
+    moved.out.commas)
     (cut-back (nodes_of c.move_out_checked.new.self) read.grows (rw (sym c.in_ok-start.ensures.start) moved.out.nodes))

@@ -19,16 +19,21 @@ returns g c =
     let answer = kept.checked in
     let hook = g.B.BodyForms.forms in
     let reads =
-    params-checked g.I.Tokens.model g.B.Bodies.is_faithful hook ms _ _ _ c.parse_formal_params-answer.result answer read.reads kept.checks in
+    params-checked g.I.Tokens.model g.B.Bodies.is_faithful hook ms _ _ _ c.parse_formal_params-answer.result answer
+    read.reads kept.checks in
     let alone =
-    params-alone g.I.Tokens.model g.B.Bodies.is_faithful hook ms _ _ _ c.parse_formal_params-answer.result answer read.reads read.each kept.checks in
-    let from = checked-holds g.I.Tokens.model _ _ _ (λ x. Apart c.in_ok-start.start ms (flat param_parts x.items)) c.parse_formal_params-answer.result answer
+    params-alone g.I.Tokens.model g.B.Bodies.is_faithful hook ms _ _ _ c.parse_formal_params-answer.result answer
+    read.reads read.each kept.checks in
+    let from = checked-holds g.I.Tokens.model _ _ _ (λ x. Apart c.in_ok-start.start ms (flat param_parts x.items))
+    c.parse_formal_params-answer.result answer
     kept.checks (rw (c.in_ok-start.ensures.start) (params-apart ms _ c.parse_formal_params-answer.result read.from)) in
     promised-params kept.at ns (commas_of c.keep_checked.new.self)
     c.keep_checked.result c.keep_checked.result c.in_ok-start.ensures.runs refl
     refl kept.buffer refl refl kept.fails
-    (meets-params g.I.Tokens.model g.B.Bodies.is_faithful hook g.met.B.Bodies.lawful _ _ (derives-marked hook) _ ms _ _ _ _
+    (meets-params g.I.Tokens.model g.B.Bodies.is_faithful hook g.met.B.Bodies.lawful _ _
+    (derives-marked hook) _ ms _ _ _ _
     answer c.keep_checked.result reads alone
     (params-kept ms ns _ c.in_ok-start.start answer c.keep_checked.result kept.kept kept.nodes) kept.commas)
-    (kept-parts (λ ps. flat param_parts ps.items) ns _ answer c.keep_checked.result read.grows (rw (sym c.in_ok-start.ensures.start) from) kept.kept
+    (kept-parts (λ ps. flat param_parts ps.items) ns _ answer c.keep_checked.result read.grows
+    (rw (sym c.in_ok-start.ensures.start) from) kept.kept
     (rw (sym c.in_ok-start.ensures.start) kept.nodes))

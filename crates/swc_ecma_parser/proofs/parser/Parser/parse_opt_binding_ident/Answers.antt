@@ -3,11 +3,13 @@ use Rattle.swc_ecma_parser.proofs.Calling.{called, called-again}
 use Rattle.swc_ecma_parser.proofs.parser.Parser.parse_opt_binding_ident.Goals as goal
 
 pub returns-in_err-begin : goal.returns-in_err-begin
-returns-in_err-begin g c = let p = err_from_is_err_and c.from_residual.result c.from_residual.ensures.1 in rw (p.1, p.2) (called-again c.in_err-begin.ensures.again)
+returns-in_err-begin g c = let p = err_from_is_err_and c.from_residual.result c.from_residual.ensures.1 in
+    rw (p.1, p.2) (called-again c.in_err-begin.ensures.again)
 
 pub returns : goal.returns
 returns g c =
     let done = c.finish.ensures in
     let answered = c.parse_opt_binding_ident-answer.ensures in
-    called c.parse_opt_binding_ident-answer.result c.finish.result c.in_ok-begin.ensures.runs refl done.answer done.buffer done.nodes done.commas done.fails
+    called c.parse_opt_binding_ident-answer.result c.finish.result c.in_ok-begin.ensures.runs refl done.answer
+    done.buffer done.nodes done.commas done.fails
     (record { names = answered.optional; read = answered.read })

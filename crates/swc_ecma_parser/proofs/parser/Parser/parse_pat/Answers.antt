@@ -18,7 +18,8 @@ returns-in_err-start-clause-binds g c = λ runs. bound-pat g.I.Tokens.model g.B.
 
 pub returns-clause-promised : goal.returns-clause-promised
 returns-clause-promised g c =
-    promised-boxed g.met.B.Bodies.lawful pat-stops c.in_ok-start.ensures.runs c.in_ok-start.ensures.start c.parse_pat-answer.ensures
+    promised-boxed g.met.B.Bodies.lawful pat-stops c.in_ok-start.ensures.runs c.in_ok-start.ensures.start
+    c.parse_pat-answer.ensures
     c.move_out_checked.ensures (λ p. refl) (λ p. refl) (pat-left (tree_at c.parse_pat-answer.new.p.nodes))
 
 pub returns-clause-binds : goal.returns-clause-binds

@@ -17,10 +17,12 @@ returns-in_err-start-clause-binds g c = λ runs. bound-marked g.I.Tokens.model g
 
 pub returns-clause-promised : goal.returns-clause-promised
 returns-clause-promised g c =
-    promised-numbered g.met.B.Bodies.lawful pat-stops c.in_ok-start.ensures.runs c.in_ok-start.ensures.start c.parse_pat-answer.ensures
+    promised-numbered g.met.B.Bodies.lawful pat-stops c.in_ok-start.ensures.runs c.in_ok-start.ensures.start
+    c.parse_pat-answer.ensures
     c.keep_checked.ensures (λ p. refl) (pat-left (tree_at c.parse_pat-answer.new.p.nodes))
 
 pub returns-clause-binds : goal.returns-clause-binds
 returns-clause-binds g c = λ runs. bound-marked g.I.Tokens.model g.B.BodyForms.forms
-    (pat_at (nodes_of c.keep_checked.new.self)) (buffer_of c.args.self.now) c.keep_checked.result (buffer_of c.keep_checked.new.self)
+    (pat_at (nodes_of c.keep_checked.new.self)) (buffer_of c.args.self.now) c.keep_checked.result
+    (buffer_of c.keep_checked.new.self)
     ((returns-clause-promised g c).sound runs)

@@ -6,12 +6,14 @@ use Rattle.swc_ecma_parser.proofs.{Calling.promised-again, Top.key-stops, Wholes
 use Rattle.swc_ecma_parser.proofs.parser.Parser.parse_prop_name.Goals as goal
 
 pub returns-in_err-start : goal.returns-in_err-start
-returns-in_err-start g c = let p = err_from_is_err_and c.from_residual.result c.from_residual.ensures.1 in rw (p.1, p.2) (record { promised = promised-again c.in_err-start.ensures.again refl })
+returns-in_err-start g c = let p = err_from_is_err_and c.from_residual.result c.from_residual.ensures.1 in
+    rw (p.1, p.2) (record { promised = promised-again c.in_err-start.ensures.again refl })
 
 pub returns : goal.returns
 returns g c =
     let ns = c.parse_prop_name-answer.new.p.nodes in
     record {
       promised = promised-piece g.met.B.Bodies.lawful key-stops c.in_ok-start.ensures.runs c.in_ok-start.ensures.start
-          c.parse_prop_name-answer.ensures c.hand_out.ensures (unmarked-key (tree_of ns) (λ e. bare_at ns e.0) (λ e. refl)) (key-commas (tree_at ns));
+          c.parse_prop_name-answer.ensures c.hand_out.ensures
+          (unmarked-key (tree_of ns) (λ e. bare_at ns e.0) (λ e. refl)) (key-commas (tree_at ns));
     }

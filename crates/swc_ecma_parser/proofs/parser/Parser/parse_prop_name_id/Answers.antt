@@ -23,12 +23,19 @@ returns g c =
     let ns = nodes_of c.keep-answer.new.self in
     let answer = c.parse_prop_name-answer.result in
     record {
-      promised = promised c.parse_prop_name-answer.new.p.input ns (commas_of c.keep-answer.new.self) c.keep-answer.result c.finish.result c.in_ok-start.ensures.runs kept.runs
+      promised = promised c.parse_prop_name-answer.new.p.input ns
+          (commas_of c.keep-answer.new.self) c.keep-answer.result c.finish.result c.in_ok-start.ensures.runs kept.runs
           done.answer (done.buffer ∙ kept.buffer) done.nodes done.commas done.fails
-          (meets-by-number g.I.Tokens.model g.B.Bodies.is_faithful g.B.BodyForms.forms g.met.B.Bodies.lawful (key_at ns) key-stops _ c.keep-answer.result _
-          (kept-parses g.I.Tokens.model g.B.Bodies.is_faithful (run g.B.BodyForms.forms (at Key)) key_at ms ns c.in_ok-start.start _ _ answer c.keep-answer.result read.reads kept.answer kept.nodes))
-          (recalled g.I.Tokens.model g.B.Bodies.is_faithful g.B.BodyForms.forms g.met.B.Bodies.lawful Key (λ t. t) ms (key_at ms) (key_at ms) (key_at ns) key_parts
+          (meets-by-number g.I.Tokens.model g.B.Bodies.is_faithful g.B.BodyForms.forms g.met.B.Bodies.lawful
+          (key_at ns) key-stops _ c.keep-answer.result _
+          (kept-parses g.I.Tokens.model g.B.Bodies.is_faithful
+          (run g.B.BodyForms.forms (at Key)) key_at ms ns c.in_ok-start.start _ _ answer c.keep-answer.result
+          read.reads kept.answer kept.nodes))
+          (recalled g.I.Tokens.model g.B.Bodies.is_faithful g.B.BodyForms.forms g.met.B.Bodies.lawful Key (λ t. t) ms
+          (key_at ms) (key_at ms) (key_at ns) key_parts
           _ _ answer c.keep-answer.result _ _ read.reads (λ k. refl) (λ k. key-commas (tree_at ms) k)
-          (kept-moved key_at ms ns _ c.in_ok-start.start answer c.keep-answer.result kept.answer kept.nodes) kept.commas)
-          (kept-parts key_parts ns _ answer c.keep-answer.result read.grows read.from kept.answer (rw (sym c.in_ok-start.ensures.start) kept.nodes));
+          (kept-moved key_at ms ns _ c.in_ok-start.start answer c.keep-answer.result kept.answer kept.nodes)
+          kept.commas)
+          (kept-parts key_parts ns _ answer c.keep-answer.result read.grows read.from kept.answer
+          (rw (sym c.in_ok-start.ensures.start) kept.nodes));
     }

@@ -42,7 +42,8 @@ returns-in-Ok-clause-judges g c =
     let same = tree-put g.I.Tokens.model p p c.put_expr.new.nodes c.mark.new.nodes c.in-Ok.ensures.grows marked
     c.args.pat_type c.args.expr c.in-Ok.id c.in-Ok.ensures.made in
     subst (λ t. JudgesBy g.I.Tokens.model (verdict_as (context g.I.Tokens.model (buffer_of p)).strict c.args.pat_type t)
-    (buffer_of p) c.reparse_expr_as_pat.result c.reparse_expr_as_pat.new.p.input) same c.reparse_expr_as_pat.ensures.judges
+    (buffer_of p) c.reparse_expr_as_pat.result c.reparse_expr_as_pat.new.p.input) same
+    c.reparse_expr_as_pat.ensures.judges
 
 pub returns-in-Err-clause-judges : goal.returns-in-Err-clause-judges
 returns-in-Err-clause-judges g c = λ n. absurd (n (ap (λ e. e.kind) c.out_of_memory.ensures))

@@ -44,8 +44,10 @@ returns-in-Ok-clause-judges g c =
     subst (λ k. Marks (marks_of p) k c.put_args.new.nodes c.mark.new.nodes) c.len-start.ensures c.mark.ensures in
     let same = items-put g.I.Tokens.model p p c.put_args.new.nodes c.mark.new.nodes c.in-Ok.ensures.grows marked
     c.args.items c.args.trailing_comma c.in-Ok.items c.in-Ok.ensures.apart c.in-Ok.ensures.moved in
-    subst (λ ts. JudgesParams g.I.Tokens.model (params_verdict c.args.trailing_comma ts) (names_bound (context g.I.Tokens.model (buffer_of p)) (want_items ts))
-    (buffer_of p) c.parse_paren_items_as_params.result c.parse_paren_items_as_params.new.p.input) same c.parse_paren_items_as_params.ensures.judges
+    subst (λ ts. JudgesParams g.I.Tokens.model (params_verdict c.args.trailing_comma ts)
+    (names_bound (context g.I.Tokens.model (buffer_of p)) (want_items ts))
+    (buffer_of p) c.parse_paren_items_as_params.result c.parse_paren_items_as_params.new.p.input) same
+    c.parse_paren_items_as_params.ensures.judges
 
 pub returns-in-Err-clause-judges : goal.returns-in-Err-clause-judges
 returns-in-Err-clause-judges g c = λ n. absurd (n (ap (λ e. e.kind) c.out_of_memory.ensures))

@@ -27,7 +27,8 @@ returns-in-Ok g c =
     done.answer (done.buffer ∙ moved.buffer) done.nodes done.commas done.fails
     (meets-refinement g.I.Tokens.model
     (is_valid (tree_by g.B.Fun.Spanned.place g.B.Class.Spanned.place g.B.Block.Spanned.place e))
-    (pattern_of g.I.Tokens.model c.args.pat_type e p) (want_as c.args.pat_type (marked_expr p e)) pat_at one_pat unmarked
+    (pattern_of g.I.Tokens.model c.args.pat_type e p) (want_as c.args.pat_type (marked_expr p e)) pat_at one_pat
+    unmarked
     (pat_tree _ _ _ g.B.Fun.Spanned.place g.B.Class.Spanned.place g.B.Block.Spanned.place)
     p c.recast_expr-answer.new.self c.recast_expr-answer.result c.lift_out-answer.result made.recasts moved.moved)
     (records-moved _ _ _ _ c.recast_expr-answer.result c.lift_out-answer.result made.judges moved.moved)

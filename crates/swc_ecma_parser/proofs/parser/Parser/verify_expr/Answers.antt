@@ -19,9 +19,12 @@ returns-in-Ok g c =
     done.answer (done.buffer ∙ moved.buffer) done.nodes done.commas done.fails
     (meets-verification g.I.Tokens.model given
     (tree_by g.B.Fun.Spanned.place g.B.Class.Spanned.place g.B.Block.Spanned.place)
-    (buffer_of p) (buffer_of q) (last_position (buffer_of q)) c.look_through-answer.result c.lift_out-answer.result made.looks.0
-    (moved-given _ (tree_by g.B.Fun.Spanned.place g.B.Class.Spanned.place g.B.Block.Spanned.place) given (count (nodes_of p))
+    (buffer_of p) (buffer_of q) (last_position (buffer_of q)) c.look_through-answer.result c.lift_out-answer.result
+    made.looks.0
+    (moved-given _ (tree_by g.B.Fun.Spanned.place g.B.Class.Spanned.place g.B.Block.Spanned.place) given
+    (count (nodes_of p))
     (nodes_of q) c.look_through-answer.result c.lift_out-answer.result
-    (bare-boxed g.B.Fun.Spanned.place g.B.Class.Spanned.place g.B.Block.Spanned.place c.args.expr) made.looks.1 moved.moved))
+    (bare-boxed g.B.Fun.Spanned.place g.B.Class.Spanned.place g.B.Block.Spanned.place c.args.expr) made.looks.1
+    moved.moved))
     (moved.commas ∙ made.commas)
     (cut-back (nodes_of c.lift_out-answer.new.self) made.grows (rw (sym c.in-Ok.ensures.start) moved.nodes))

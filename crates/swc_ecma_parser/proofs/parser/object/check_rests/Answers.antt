@@ -7,14 +7,17 @@ use Rattle.swc_ecma_parser.proofs.parser.object.check_rests.Goals as goal
 
 pub loop-prop-init : goal.loop-prop-init
 loop-prop-init g c = (
-  seen_none (pat_prop_tree _ _ _ g.F.Spanned.place g.C.Spanned.place g.K.Spanned.place) g.met.I.Tokens.laws _ c.deref-prop-items.result.now,
-  noted-none g.I.Tokens.model (pat_prop_tree _ _ _ g.F.Spanned.place g.C.Spanned.place g.K.Spanned.place) _ c.deref-prop-items.result.now,
+  seen_none (pat_prop_tree _ _ _ g.F.Spanned.place g.C.Spanned.place g.K.Spanned.place) g.met.I.Tokens.laws _
+      c.deref-prop-items.result.now,
+  noted-none g.I.Tokens.model (pat_prop_tree _ _ _ g.F.Spanned.place g.C.Spanned.place g.K.Spanned.place) _
+      c.deref-prop-items.result.now,
 )
 
 pub returns-in_err-check_earlier_rest-clause-checks : goal.returns-in_err-check_earlier_rest-clause-checks
 returns-in_err-check_earlier_rest-clause-checks g c =
     let p = err_from_is_err_and c.from_residual.result c.from_residual.ensures.1 in rw (p.1, p.2)
-    (λ sure. unheard_memory (forgoes_later c.loop-prop.invariant.0.checks.leads c.in_err-check_earlier_rest.ensures.checks))
+    (λ sure. unheard_memory (forgoes_later c.loop-prop.invariant.0.checks.leads
+    c.in_err-check_earlier_rest.ensures.checks))
 
 pub returns-in_err-check_earlier_rest-clause-judges : goal.returns-in_err-check_earlier_rest-clause-judges
 returns-in_err-check_earlier_rest-clause-judges g c =
@@ -23,22 +26,29 @@ returns-in_err-check_earlier_rest-clause-judges g c =
 
 pub loop-prop-preserved : goal.loop-prop-preserved
 loop-prop-preserved g c = (
-  seen_more (pat_prop_tree _ _ _ g.F.Spanned.place g.C.Spanned.place g.K.Spanned.place) c.deref-prop-items.result.now c.loop-prop.prop-index
+  seen_more (pat_prop_tree _ _ _ g.F.Spanned.place g.C.Spanned.place g.K.Spanned.place) c.deref-prop-items.result.now
+      c.loop-prop.prop-index
       c.prop-item.result c.rest_of-last.result c.loop-prop-test.true c.prop-item.is c.loop-prop.invariant.0
       c.in_ok-check_earlier_rest.ensures.checks c.rest_of-last.ensures.rest c.rest_of-last.ensures.name,
-  noted-more g.I.Tokens.model (pat_prop_tree _ _ _ g.F.Spanned.place g.C.Spanned.place g.K.Spanned.place) c.deref-prop-items.result.now c.loop-prop.prop-index
-      c.prop-item.result c.loop-prop-test.true c.prop-item.is c.loop-prop.invariant.0.checks.leads c.loop-prop.invariant.1
+  noted-more g.I.Tokens.model (pat_prop_tree _ _ _ g.F.Spanned.place g.C.Spanned.place g.K.Spanned.place)
+      c.deref-prop-items.result.now c.loop-prop.prop-index
+      c.prop-item.result c.loop-prop-test.true c.prop-item.is c.loop-prop.invariant.0.checks.leads
+      c.loop-prop.invariant.1
       c.in_ok-check_earlier_rest.ensures.notes c.rest_of-last.ensures.is,
 )
 
 pub returns-clause-checks : goal.returns-clause-checks
 returns-clause-checks g c =
-    seen_all (pat_prop_tree _ _ _ g.F.Spanned.place g.C.Spanned.place g.K.Spanned.place) c.deref-prop-items.result.now c.args.props.now.items
-    c.loop-prop.prop-index _ _ c.check_last_rest.result c.deref-prop-items.ensures.value (let h = c.loop-prop-test.false in omega arith)
+    seen_all (pat_prop_tree _ _ _ g.F.Spanned.place g.C.Spanned.place g.K.Spanned.place) c.deref-prop-items.result.now
+    c.args.props.now.items
+    c.loop-prop.prop-index _ _ c.check_last_rest.result c.deref-prop-items.ensures.value
+    (let h = c.loop-prop-test.false in omega arith)
     c.loop-prop.invariant.0 c.check_last_rest.ensures.checks
 
 pub returns-clause-judges : goal.returns-clause-judges
 returns-clause-judges g c =
-    noted-all g.I.Tokens.model (pat_prop_tree _ _ _ g.F.Spanned.place g.C.Spanned.place g.K.Spanned.place) c.deref-prop-items.result.now c.args.props.now.items
-    c.loop-prop.prop-index _ _ _ _ c.check_last_rest.result c.deref-prop-items.ensures.value (let h = c.loop-prop-test.false in omega arith)
+    noted-all g.I.Tokens.model (pat_prop_tree _ _ _ g.F.Spanned.place g.C.Spanned.place g.K.Spanned.place)
+    c.deref-prop-items.result.now c.args.props.now.items
+    c.loop-prop.prop-index _ _ _ _ c.check_last_rest.result c.deref-prop-items.ensures.value
+    (let h = c.loop-prop-test.false in omega arith)
     c.loop-prop.invariant.0.checks.leads c.loop-prop.invariant.1 c.check_last_rest.ensures.judges

@@ -9,7 +9,8 @@ returns-then-is_silent-clause-read g c = ([], Read-same g.met.I.Tokens.laws c.ar
 pub returns-in-Ok-clause-recorded : goal.returns-in-Ok-clause-recorded
 returns-in-Ok-clause-recorded g c = λ loud.
     recorded_by g.I.Tokens.model c.args.self.now c.has_cur.new.self c.emit_here.new.self c.args.error c.emit_here.result
-    c.has_cur.ensures.looked c.emit_here.ensures.read c.emit_here.ensures.errors c.emit_here.ensures.waiting c.in-Ok.ensures.lives c.emit_here.ensures.lives
+    c.has_cur.ensures.looked c.emit_here.ensures.read c.emit_here.ensures.errors c.emit_here.ensures.waiting
+    c.in-Ok.ensures.lives c.emit_here.ensures.lives
 
 pub returns-in-Ok-clause-read : goal.returns-in-Ok-clause-read
 returns-in-Ok-clause-read g c =
@@ -18,7 +19,8 @@ returns-in-Ok-clause-read g c =
 
 pub returns-in-Ok-clause-refused : goal.returns-in-Ok-clause-refused
 returns-in-Ok-clause-refused g c =
-    no_memory_by g.I.Tokens.model c.args.self.now c.emit_here.new.self (last_position c.emit_here.new.self) c.emit_here.result
+    no_memory_by g.I.Tokens.model c.args.self.now c.emit_here.new.self
+    (last_position c.emit_here.new.self) c.emit_here.result
     (read_by g.I.Tokens.model g.met.I.Tokens.laws c.args.self.now c.has_cur.new.self c.emit_here.new.self
     (error_token (current c.has_cur.new.self)) c.has_cur.ensures.looked c.emit_here.ensures.read)
     c.emit_here.ensures.refused

@@ -7,10 +7,15 @@ use Rattle.swc_input.proofs.buffer.Buffer.require_cur.Goals as goal
 
 pub returns-clause-refused : goal.returns-clause-refused
 returns-clause-refused g c =
-    unfit_by g.I.Tokens.model c.args.self.now c.had_line_break_before_cur.new.self c.refuse.new.self (λ here. unfit (current here) (last_position here) Eof) c.refuse.result
+    unfit_by g.I.Tokens.model c.args.self.now c.had_line_break_before_cur.new.self c.refuse.new.self
+    (λ here. unfit (current here) (last_position here) Eof) c.refuse.result
     c.had_line_break_before_cur.ensures.looked c.refuse.ensures.read c.refuse.ensures.lives c.refuse.ensures.same
-    (c.refuse.ensures.answer ∙ ap (λ e. refusal (current c.had_line_break_before_cur.new.self) (g.I.Tokens.model.state (source c.had_line_break_before_cur.new.self)).failed (last_position c.had_line_break_before_cur.new.self) e) c.unfit-error.ensures)
+    (c.refuse.ensures.answer ∙ ap (λ e. refusal (current c.had_line_break_before_cur.new.self)
+    (g.I.Tokens.model.state (source c.had_line_break_before_cur.new.self)).failed
+    (last_position c.had_line_break_before_cur.new.self) e) c.unfit-error.ensures)
     (elim c.else-knows_cur.branch [
-      | else-knows_cur-via-then-knows_cur+else-not-is_error w ↦ unfit-error (current c.had_line_break_before_cur.new.self) w.is_error.result w.is_error.ensures w.if-not-is_error.false
-      | else-knows_cur-via-else-knows_cur w ↦ unfit-unknown (current c.had_line_break_before_cur.new.self) c.knows_cur.result c.knows_cur.ensures.1 w.if-knows_cur.false
+      | else-knows_cur-via-then-knows_cur+else-not-is_error w ↦ unfit-error
+          (current c.had_line_break_before_cur.new.self) w.is_error.result w.is_error.ensures w.if-not-is_error.false
+      | else-knows_cur-via-else-knows_cur w ↦ unfit-unknown
+          (current c.had_line_break_before_cur.new.self) c.knows_cur.result c.knows_cur.ensures.1 w.if-knows_cur.false
     ])

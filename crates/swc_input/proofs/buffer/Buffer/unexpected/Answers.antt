@@ -6,6 +6,9 @@ use Rattle.swc_input.proofs.buffer.Buffer.unexpected.Goals as goal
 
 pub returns : goal.returns
 returns g c =
-    refused_by g.I.Tokens.model c.args.self.now c.had_line_break_before_cur.new.self c.refuse.new.self (λ here. unfit (current here) (last_position here) c.args.kind) c.refuse.result
+    refused_by g.I.Tokens.model c.args.self.now c.had_line_break_before_cur.new.self c.refuse.new.self
+    (λ here. unfit (current here) (last_position here) c.args.kind) c.refuse.result
     c.had_line_break_before_cur.ensures.looked c.refuse.ensures.read c.refuse.ensures.lives c.refuse.ensures.same
-    (c.refuse.ensures.answer ∙ ap (λ e. refusal (current c.had_line_break_before_cur.new.self) (g.I.Tokens.model.state (source c.had_line_break_before_cur.new.self)).failed (last_position c.had_line_break_before_cur.new.self) e) c.unfit-error.ensures)
+    (c.refuse.ensures.answer ∙ ap (λ e. refusal (current c.had_line_break_before_cur.new.self)
+    (g.I.Tokens.model.state (source c.had_line_break_before_cur.new.self)).failed
+    (last_position c.had_line_break_before_cur.new.self) e) c.unfit-error.ensures)

@@ -4,7 +4,8 @@ use Rattle.swc_nodes.proofs.nodes.Nodes.end.Goals as goal
 
 pub loop-operand-smaller : goal.loop-operand-smaller
 loop-operand-smaller g c =
-    (last-leads _ c.in-Some.operand (sym c.last_operand.ensures ∙ c.in-Some.is) c.get-node.ensures c.loop-operand.invariant.from.within).below
+    (last-leads _ c.in-Some.operand (sym c.last_operand.ensures ∙ c.in-Some.is) c.get-node.ensures
+    c.loop-operand.invariant.from.within).below
 
 pub loop-operand-preserved : goal.loop-operand-preserved
 loop-operand-preserved g c =

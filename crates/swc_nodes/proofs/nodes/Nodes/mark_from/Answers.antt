@@ -14,7 +14,8 @@ invariant_of-self g c =
       in_order = marked_ordered m c.args.from ns _ e;
       in_ranges = settled-firsts g.F.Spanned.place g.C.Spanned.place g.K.Spanned.place ns.nodes.items _ ns.settled.items
           (ap length e ∙ same-length (marked_node m) c.args.from ns.nodes.items)
-          (marked_firsts g.F.Spanned.place g.C.Spanned.place g.K.Spanned.place m c.args.from ns.nodes.items _ e ns.in_order)
+          (marked_firsts g.F.Spanned.place g.C.Spanned.place g.K.Spanned.place m c.args.from ns.nodes.items _ e
+          ns.in_order)
           ns.in_ranges;
     }
 

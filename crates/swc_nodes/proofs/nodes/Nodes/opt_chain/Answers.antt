@@ -3,4 +3,5 @@ use Rattle.swc_nodes.proofs.nodes.Nodes.opt_chain.Goals as goal
 
 pub returns-clause-made : goal.returns-clause-made
 returns-clause-made g c =
-    chain-made c.args.span c.args.optional c.args.base c.in_ok-base.base c.in_ok-base.ensures.ok c.requires.place c.requires.apart c.in_ok-push.ensures.added
+    chain-made c.args.span c.args.optional c.args.base c.in_ok-base.base c.in_ok-base.ensures.ok c.requires.place
+    c.requires.apart c.in_ok-push.ensures.added

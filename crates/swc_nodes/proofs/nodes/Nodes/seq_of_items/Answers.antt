@@ -6,5 +6,6 @@ seq_expr-requires-clause-apart g c = held-apart c.in_ok-exprs.exprs c.args.items
 
 pub returns-clause-made : goal.returns-clause-made
 returns-clause-made g c =
-    held-made c.args.self.now c.seq_expr.new.self c.seq_expr.result c.in_ok-exprs.exprs c.args.items c.in_ok-exprs.ensures
+    held-made c.args.self.now c.seq_expr.new.self c.seq_expr.result c.in_ok-exprs.exprs c.args.items
+    c.in_ok-exprs.ensures
     c.seq_expr.ensures.made

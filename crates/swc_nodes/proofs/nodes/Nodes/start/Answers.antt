@@ -4,7 +4,8 @@ use Rattle.swc_nodes.proofs.nodes.Nodes.start.Goals as goal
 
 pub loop-operand-smaller : goal.loop-operand-smaller
 loop-operand-smaller g c =
-    (left-leads _ c.in-Some.operand (sym c.left_operand.ensures ∙ c.in-Some.is) c.get-node.ensures c.loop-operand.invariant.from.within).below
+    (left-leads _ c.in-Some.operand (sym c.left_operand.ensures ∙ c.in-Some.is) c.get-node.ensures
+    c.loop-operand.invariant.from.within).below
 
 pub loop-operand-preserved : goal.loop-operand-preserved
 loop-operand-preserved g c =

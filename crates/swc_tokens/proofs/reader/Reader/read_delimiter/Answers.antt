@@ -15,12 +15,14 @@ returns-then-is_next-clause-spells c = Spells_substitution _ _ (c.is_next.ensure
 -- a backquote is there
 pub invariant_of-self-2-clause-within : goal.invariant_of-self-2-clause-within
 invariant_of-self-2-clause-within c =
-    let none : ¬ StandAt c.args.self.now.text.now c.args.self.now.at 36 123 = λ is. let yes = c.is_next.ensures.1 is in cc in
+    let none : ¬ StandAt c.args.self.now.text.now c.args.self.now.at 36 123 = λ is. let yes =
+    c.is_next.ensures.1 is in cc in
     let inside = slice_get_within c.args.self.now.text.now c.args.self.now.at 96 (closing _ _ c.requires none) in
     omega (arith, inside)
 
 -- it is taken
 pub returns-clause-spells : goal.returns-clause-spells
 returns-clause-spells c =
-    let none : ¬ StandAt c.args.self.now.text.now c.args.self.now.at 36 123 = λ is. let yes = c.is_next.ensures.1 is in cc in
+    let none : ¬ StandAt c.args.self.now.text.now c.args.self.now.at 36 123 = λ is. let yes =
+    c.is_next.ensures.1 is in cc in
     Spells_backquote _ _ (closing _ _ c.requires none)

@@ -9,11 +9,11 @@ returns-in-Some-Substitution c =
 
 -- a `{` was open
 pub returns-in-Some-Brace : goal.returns-in-Some-Brace
-returns-in-Some-Brace c =
-    Turns_close_brace _ _ (rw c.in-Some-Brace.field-0-is at c.in-Some-Brace.ensures.items)
+returns-in-Some-Brace c = Turns_close_brace _ _ (rw c.in-Some-Brace.field-0-is at c.in-Some-Brace.ensures.items)
 
 -- nothing was open
 pub returns-in-None : goal.returns-in-None
 returns-in-None c =
-    let none : length c.args.self.now.brackets.items ≡ 0 = omega (arith, c.args.self.now.brackets.ok.0, c.in-None.ensures.cases.0) in
+    let none : length c.args.self.now.brackets.items ≡ 0 =
+    omega (arith, c.args.self.now.brackets.ok.0, c.in-None.ensures.cases.0) in
     Turns_close_outside _ _ c.in-None.ensures.items none

@@ -5,7 +5,8 @@ use Rattle.swc_ecma_parser.proofs.{Calling.promised-again, Top.prop-stops, Whole
 use Rattle.swc_ecma_parser.proofs.parser.object.ParserParseObjectBoxExprOf.parse_object_prop.Goals as goal
 
 pub returns-in_err-start : goal.returns-in_err-start
-returns-in_err-start g c = let p = err_from_is_err_and c.from_residual.result c.from_residual.ensures.1 in rw (p.1, p.2) (promised-again c.in_err-start.ensures.again refl)
+returns-in_err-start g c = let p = err_from_is_err_and c.from_residual.result c.from_residual.ensures.1 in
+    rw (p.1, p.2) (promised-again c.in_err-start.ensures.again refl)
 
 pub returns : goal.returns
 returns g c =

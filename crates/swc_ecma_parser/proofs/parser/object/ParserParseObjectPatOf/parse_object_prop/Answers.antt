@@ -12,7 +12,8 @@ use Rattle.swc_ecma_parser.proofs.parser.object.ParserParseObjectPatOf.parse_obj
 
 pub returns-in_err-start : goal.returns-in_err-start
 returns-in_err-start g c =
-    let p = err_from_is_err_and c.from_residual.result c.from_residual.ensures.1 in rw (p.1, p.2) (pat-prop-again c.in_err-start.ensures.again refl)
+    let p = err_from_is_err_and c.from_residual.result c.from_residual.ensures.1 in
+    rw (p.1, p.2) (pat-prop-again c.in_err-start.ensures.again refl)
 
 pub returns : goal.returns
 returns g c =
@@ -23,17 +24,22 @@ returns g c =
     let ns = c.parse_object_pat_prop-answer.new.p.nodes in
     let boxed = pat_prop_tree _ _ _ g.B.Fun.Spanned.place g.B.Class.Spanned.place g.B.Block.Spanned.place in
     let by_bare = pat_prop_of g.B.Fun.Spanned.place g.B.Class.Spanned.place g.B.Block.Spanned.place (bare_at ns) in
-    let bares = λ (x : PatPropNode). unmarked-pat-prop g.B.Fun.Spanned.place g.B.Class.Spanned.place g.B.Block.Spanned.place (tree_at ns) x in
+    let bares = λ (x : PatPropNode). unmarked-pat-prop g.B.Fun.Spanned.place g.B.Class.Spanned.place
+    g.B.Block.Spanned.place (tree_at ns) x in
     let moved = c.hand_out.ensures in
     let read = c.parse_object_pat_prop-answer.ensures in
     let answer = c.parse_object_pat_prop-answer.result in
-    let parsed = moved-parses model sure (pat_prop_item forms) ns pat_prop_at by_bare boxed _ _ answer c.hand_out.result read.reads bares moved.moved in
+    let parsed = moved-parses model sure (pat_prop_item forms) ns pat_prop_at by_bare boxed _ _ answer c.hand_out.result
+    read.reads bares moved.moved in
     promised-pat-prop c.parse_object_pat_prop-answer.new.p.input c.hand_out.result refl moved.buffer
-    (promised c.parse_object_pat_prop-answer.new.p.input (nodes_of c.hand_out.new.self) (commas_of c.hand_out.new.self) c.hand_out.result c.hand_out.result c.in_ok-start.ensures.runs refl
+    (promised c.parse_object_pat_prop-answer.new.p.input (nodes_of c.hand_out.new.self)
+    (commas_of c.hand_out.new.self) c.hand_out.result c.hand_out.result c.in_ok-start.ensures.runs refl
     refl moved.buffer refl refl moved.fails
     (meets-pat-prop forms laws model sure boxed _ c.hand_out.result _ parsed)
-    (recalled-by model sure (PropOrRest (Reads forms)) (pat_prop_item forms) (either-sound forms laws) unmarked ns (pat_prop_at ns) by_bare boxed pat_prop_parts
+    (recalled-by model sure (PropOrRest (Reads forms)) (pat_prop_item forms) (either-sound forms laws) unmarked ns
+    (pat_prop_at ns) by_bare boxed pat_prop_parts
     _ _ answer c.hand_out.result _ _ read.reads bares
-    (λ x. pat-prop-commas g.B.Fun.Spanned.place g.B.Class.Spanned.place g.B.Block.Spanned.place (tree_at ns) x) moved.moved moved.commas)
+    (λ x. pat-prop-commas g.B.Fun.Spanned.place g.B.Class.Spanned.place g.B.Block.Spanned.place (tree_at ns) x)
+    moved.moved moved.commas)
     (cut-back (nodes_of c.hand_out.new.self) read.grows (rw (sym c.in_ok-start.ensures.start) moved.nodes)))
     (rest-answered forms laws model sure boxed _ c.hand_out.result _ parsed)
