@@ -18,10 +18,10 @@ use Rattle.swc_grammar.proofs.{Answers.both, Complete.last, Head.level-run, Knot
 use Rattle.swc_steps.proofs.Lists.{calls, bind_same, binds}
 use Rattle.swc_steps.proofs.{Rules.operand_splits, Rules.async_name_picked, Keys.then_calls, Steps.Inner.inner_is}
 use Rattle.swc_steps.specs.{Args.args_inside, Keys.expected, Lists.eaten, Parsing.begins_async, Readers.named_expr, Readers.operand}
-use Rattle.swc_arrows.specs.Heads.{head_kind}
+use Rattle.swc_arrows.specs.Starts.{start_kind}
 use Rattle.swc_arrows.specs.Readers.{others, base_behind, arrow_behind, name_ok, name_behind, name_arrow, is_of_alone, async_param, async_of, async_behind, async_arrow, list_rest, list_head, arrow_on_line}
-use Rattle.swc_arrows.specs.declared.heads.HeadKind.TheVariants as head
-use Rattle.swc_arrows.proofs.HeadKinds.{Picks, head_picks}
+use Rattle.swc_arrows.specs.declared.covered-params.StartKind.TheVariants as head
+use Rattle.swc_arrows.proofs.StartKinds.{Picks, head_picks}
 
 no_name : (a b d : Bool) → (a && b) ≡ false → (a && (b && d)) ≡ false
 no_name true true d h = absurd cc
@@ -57,7 +57,7 @@ module _ {F C K : Type 0} (hook : Hook F C K) (x : Scope) (ts : List TokenAndSpa
       (level-run hook x ts (neither (begins_async_name x ts) (begins_async_list ts) m l)
       ∙ ap (λ y. run hook (at (Level 1)) y ts) (inner_is x begins.head))
 
-  pub assign_others : head_kind x.context ts ≡ head.Other → run hook (at Assign) x ts ≡ others hook x ts
+  pub assign_others : start_kind x.context ts ≡ head.Other → run hook (at Assign) x ts ≡ others hook x ts
   assign_others e =
       let k = head_picks x ts head.Other e in
       assigned_level k.arrow k.paren (no_name (at_token is_async (first ts)) (is_bindable_here x (second ts))
@@ -117,7 +117,7 @@ module _ {F C K : Type 0} (hook : Hook F C K) (x : Scope) where
   name_token t b s us y a = absurd cc
 
 module _ {F C K : Type 0} (hook : Hook F C K) (x : Scope) where
-  pub assign_name : (ts : List TokenAndSpan) → BeginsAssign x ts → head_kind x.context ts ≡ head.Name
+  pub assign_name : (ts : List TokenAndSpan) → BeginsAssign x ts → start_kind x.context ts ≡ head.Name
       → run hook (at Assign) x ts ≡ name_arrow hook x ts
   assign_name [] begins e = absurd cc
   assign_name (t ∷ us) begins e =
@@ -125,7 +125,7 @@ module _ {F C K : Type 0} (hook : Hook F C K) (x : Scope) where
 
   -- ---- a list in parentheses
 
-  pub assign_list : (ts : List TokenAndSpan) → BeginsAssign x ts → head_kind x.context ts ≡ head.List false
+  pub assign_list : (ts : List TokenAndSpan) → BeginsAssign x ts → start_kind x.context ts ≡ head.List false
       → run hook (at Assign) x ts ≡ list_head hook false x ts
   unfolding list_head list_rest args_inside
   assign_list [] begins e = absurd cc
@@ -166,7 +166,7 @@ module _ {F C K : Type 0} (hook : Hook F C K) (x : Scope) where
   async_token (token.Word (written.Ident w)) s h = async_spelled (written.Ident w) s h
   async_token t s h = absurd cc
 
-  pub assign_async_list : (ts : List TokenAndSpan) → BeginsAssign x ts → head_kind x.context ts ≡ head.List true
+  pub assign_async_list : (ts : List TokenAndSpan) → BeginsAssign x ts → start_kind x.context ts ≡ head.List true
       → run hook (at Assign) x ts ≡ list_head hook true x ts
   unfolding list_head word
   assign_async_list [] begins e = absurd cc
@@ -181,7 +181,7 @@ module _ {F C K : Type 0} (hook : Hook F C K) (x : Scope) where
       >>= (λ q. list_rest hook (Some (ident_e p.0.at p.0.text)) p.0.at x q.1))) (async_token t.token t.span a)
 
   -- either
-  pub assign_listed : (b : Bool) (ts : List TokenAndSpan) → BeginsAssign x ts → head_kind x.context ts ≡ head.List b
+  pub assign_listed : (b : Bool) (ts : List TokenAndSpan) → BeginsAssign x ts → start_kind x.context ts ≡ head.List b
       → run hook (at Assign) x ts ≡ list_head hook b x ts
   assign_listed true ts begins e = assign_async_list ts begins e
   assign_listed false ts begins e = assign_list ts begins e
@@ -443,7 +443,7 @@ module _ {F C K : Type 0} (hook : Hook F C K) (x : Scope) where
       and_false false = refl
   for_await t b s us begins k e h = absurd cc
 
-  pub assign_async_name : (ts : List TokenAndSpan) → BeginsAssign x ts → head_kind x.context ts ≡ head.AsyncName
+  pub assign_async_name : (ts : List TokenAndSpan) → BeginsAssign x ts → start_kind x.context ts ≡ head.AsyncName
       → run hook (at Assign) x ts ≡ async_arrow hook x ts
   assign_async_name [] begins e = absurd cc
   assign_async_name (t ∷ us) begins e =

@@ -6,7 +6,7 @@ pub mod BodyLaws
 pub mod Closes
 pub mod Dooms
 pub mod Ends
-pub mod HeadKinds
+pub mod StartKinds
 pub mod HeadLaws
 pub mod ListLaws
 pub mod ListReads

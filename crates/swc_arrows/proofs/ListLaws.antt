@@ -9,21 +9,21 @@ use Rattle.swc_ast.specs.{declared.expr.ExprOrSpread.ExprOrSpread, declared.span
 use Rattle.swc_bodies.specs.Readings.{Hook, LawfulHook}
 use Rattle.swc_grammar.specs.Arrows.{is_arrow, is_block, is_sign}
 use Rattle.swc_grammar.specs.Clean.{Out, first, sym as at, run, exec, plan, parens, asyncs, links, updates, climb, assigns, behind_base, arrow_tail, async_arrow_tail}
-use Rattle.swc_grammar.specs.Cover.{binding, as_elements, as_params, heads_ok}
+use Rattle.swc_grammar.specs.Cover.{binding, as_elements, as_params, arrow_params_ok}
 use Rattle.swc_grammar.specs.Rule.{gives, take, check, peek, read, given, sees, ◌>>=◌ as ◌▸◌}
 use Rattle.swc_grammar.specs.Symbols.{Args, ArrowBody, Assign, Side}
 use Rattle.swc_grammar.specs.{Names.Spelling, Names.spelling, Scope.Scope, Scope.inner, Tokens.with_in, Words.◌>>=◌}
 use Rattle.swc_grammar.proofs.{Complete.last, Knot.knot}
-use Rattle.swc_cover.specs.{Fits.Binding, Fits.elems_fit, Heads.names_ok, Items.want_items, Refining.items_at, Refining.takes_heads as takes}
+use Rattle.swc_cover.specs.{Fits.Binding, Fits.elems_fit, ReservedNames.names_ok, Items.want_items, Refining.items_at, Refining.takes_arrow_params as takes}
 use Rattle.swc_cover.proofs.{Refines.items-all, Ties.as-elems-is, Bound.params-are, Clear.clear-items}
 use Rattle.swc_nodes.specs.GrowingNodes.{first_start, last_end, Apart}
 use Rattle.swc_nodes.specs.{NodeParts.args_parts, declared.node.ExprId.ExprId, declared.nodes.Nodes.Nodes}
 use Rattle.swc_steps.proofs.{Args.inside_args, Building.apart-down, Endings.read-valid, Keys.then_calls, Steps.Inner.inner_is}
 use Rattle.swc_steps.specs.Args.{args_inside, paren_closed, paren_of, paren_from}
 use Rattle.swc_steps.specs.{Parsing.args_at, declared.tokens.Listed.Listed, Keys.expected}
-use Rattle.swc_arrows.specs.Readers.{arrow_behind, arrow_end, heads_closed, heads_refined, takes_params, async_call, base_behind, is_callee, list_behind, list_closed, spelling_of}
+use Rattle.swc_arrows.specs.Readers.{arrow_behind, arrow_end, params_closed, params_refined, takes_params, async_call, base_behind, is_callee, list_behind, list_closed, spelling_of}
 use Rattle.swc_arrows.proofs.Closes.{closed_clean}
-use Rattle.swc_arrows.proofs.ListReads.{closed_arrow, closed_base, heads_splits, line_here, line_breaks, arrow_takes}
+use Rattle.swc_arrows.proofs.ListReads.{closed_arrow, closed_base, params_splits, line_here, line_breaks, arrow_takes}
 
 -- what items in parentheses are, where none of them was refused
 pub record Refines {F C K : Type 0} (es : Tree F C K) : Type 0 where
@@ -44,8 +44,8 @@ module _ {F C K : Type 0} (hook : Hook F C K) (x : Scope) where
   ends s a ps = take (λ t. check (not t.had_line_break) (check (is_arrow t.token) (read (ArrowBody a) x (λ b.
       peek (λ t. is_block b && is_sign t.token) (gives (arrow_e (to s (span_of b)) a b ps))))))
 
-  abbrev heads : Span → Bool → Option (Trees F C K) → Side F C K Assign
-  heads s a o = given o ▸ (λ ps. check (heads_ok x.context ps) (ends s a ps))
+  abbrev covered-params : Span → Bool → Option (Trees F C K) → Side F C K Assign
+  covered-params s a o = given o ▸ (λ ps. check (arrow_params_ok x.context ps) (ends s a ps))
 
   -- the body, and what is after it
   body_ends : (s : Span) (a : Bool) (ps : Trees F C K) (us : List TokenAndSpan)
@@ -74,22 +74,23 @@ module _ {F C K : Type 0} (hook : Hook F C K) (x : Scope) where
   none_turned true o = refl
   none_turned false o = refl
 
-  heads_told : (s : Span) (a : Bool) (ps : Trees F C K) (t : TokenAndSpan) (us : List TokenAndSpan)
-      → exec hook (run hook) None (plan (heads s a (Some ps))) (t ∷ us)
-      ≡ told (heads_ok x.context ps) t.had_line_break (is_arrow t.token) (arrow_behind hook s.lo a true ps x us)
-  heads_told s a ps t us = ap (told (heads_ok x.context ps) t.had_line_break (is_arrow t.token)) (body_ends s a ps us)
+  params_told : (s : Span) (a : Bool) (ps : Trees F C K) (t : TokenAndSpan) (us : List TokenAndSpan)
+      → exec hook (run hook) None (plan (covered-params s a (Some ps))) (t ∷ us)
+      ≡ told (arrow_params_ok x.context ps) t.had_line_break (is_arrow t.token) (arrow_behind hook s.lo a true ps x us)
+  params_told s a ps t us = ap (told (arrow_params_ok x.context ps) t.had_line_break (is_arrow t.token))
+      (body_ends s a ps us)
 
   closed_turned : (o : Option (Tree F C K)) (s : Span) (es : Tree F C K) (t : TokenAndSpan) (us : List TokenAndSpan)
       → is_arrow t.token ≡ true → (m b : Bool) → takes_params x.context es ≡ m → t.had_line_break ≡ b
-      → heads_closed hook o s es x (t ∷ us)
+      → params_closed hook o s es x (t ∷ us)
       ≡ turned m b (arrow_behind hook s.lo (is_some o) true (want_items (items_of es)) x us)
   closed_turned o s es t us a m true k e =
-      heads_splits hook o s es x (t ∷ us)
-      ∙ ap (λ r. r >>= (λ p. expected is_arrow x p.1 >>= (λ q. heads_refined hook o s es x q.1))) (line_breaks x
+      params_splits hook o s es x (t ∷ us)
+      ∙ ap (λ r. r >>= (λ p. expected is_arrow x p.1 >>= (λ q. params_refined hook o s es x q.1))) (line_breaks x
       (t ∷ us) e)
   closed_turned o s es t us a m false k e =
-      heads_splits hook o s es x (t ∷ us)
-      ∙ ap (λ r. r >>= (λ p. expected is_arrow x p.1 >>= (λ q. heads_refined hook o s es x q.1))) (line_here x
+      params_splits hook o s es x (t ∷ us)
+      ∙ ap (λ r. r >>= (λ p. expected is_arrow x p.1 >>= (λ q. params_refined hook o s es x q.1))) (line_here x
       (t ∷ us) e)
       ∙ arrow_takes hook o s es x t us a
       ∙ ap (λ b. if b then arrow_behind hook s.lo (is_some o) true (want_items (items_of es)) x us else None) k
@@ -98,27 +99,27 @@ module _ {F C K : Type 0} (hook : Hook F C K) (x : Scope) where
   commute : (o : Option (Tree F C K)) (s : Span) (es : Tree F C K) (t : TokenAndSpan) (us : List TokenAndSpan)
       → is_arrow t.token ≡ true → (fit names : Bool) → elems_fit Binding (comma_of es) (items_of es) ≡ fit
       → Refines es → names_ok x.context (want_items (items_of es)) ≡ names
-      → exec hook (run hook) None (plan (heads s (is_some o) (as_params es))) (t ∷ us)
-      ≡ heads_closed hook o s es x (t ∷ us)
+      → exec hook (run hook) None (plan (covered-params s (is_some o) (as_params es))) (t ∷ us)
+      ≡ params_closed hook o s es x (t ∷ us)
   commute o s es t us a false names f r n =
       let none : as_params es ≡ None = r.params ∙ ap (λ b. if b then Some (want_items (items_of es)) else None) f in
       let not_taken : takes_params x.context es ≡ false =
       ap (λ b. b && names_ok x.context (want_items (items_of es))) (clear-items (comma_of es) (items_of es) r.valid
       ∙ f) in
-      ap (λ v. exec hook (run hook) None (plan (heads s (is_some o) v)) (t ∷ us)) none
+      ap (λ v. exec hook (run hook) None (plan (covered-params s (is_some o) v)) (t ∷ us)) none
       ∙ none_turned t.had_line_break (arrow_behind hook s.lo (is_some o) true (want_items (items_of es)) x us)
       ∙ sym (closed_turned o s es t us a false t.had_line_break not_taken refl)
   commute o s es t us a true names f r n =
       let ps : Trees F C K = want_items (items_of es) in
       let is : as_params es ≡ Some ps = r.params ∙ ap (λ b. if b then Some ps else None) f in
-      let names_same : heads_ok x.context ps ≡ names =
+      let names_same : arrow_params_ok x.context ps ≡ names =
       ap (takes x.context) (sym is) ∙ params-are x.context (comma_of es) (items_of es) ps r.params
       ∙ ap (λ b. b && names_ok x.context ps) f ∙ n in
       let taken : takes_params x.context es ≡ names =
       ap (λ b. b && names_ok x.context ps) (clear-items (comma_of es) (items_of es) r.valid ∙ f) ∙ n in
       let goes : Out (Tree F C K) = arrow_behind hook s.lo (is_some o) true ps x us in
-      ap (λ v. exec hook (run hook) None (plan (heads s (is_some o) v)) (t ∷ us)) is
-      ∙ heads_told s (is_some o) ps t us
+      ap (λ v. exec hook (run hook) None (plan (covered-params s (is_some o) v)) (t ∷ us)) is
+      ∙ params_told s (is_some o) ps t us
       ∙ ap (λ v. told v t.had_line_break (is_arrow t.token) goes) names_same
       ∙ ap (λ v. told names t.had_line_break v goes) a
       ∙ told_turned names t.had_line_break goes
@@ -170,23 +171,25 @@ module _ {F C K : Type 0} (hook : Hook F C K) (x : Scope) where
 
   -- ---- either
 
-  paren_heads : (s : Span) (es : Tree F C K) (t : TokenAndSpan) (us : List TokenAndSpan) → is_arrow t.token ≡ true
-      → run hook (parens s es) x (t ∷ us) ≡ exec hook (run hook) None (plan (heads s false (as_params es))) (t ∷ us)
-  paren_heads s es t us h = knot hook (parens s es) x (t ∷ us) ∙ rw h (by_params (as_params es))
+  paren_params : (s : Span) (es : Tree F C K) (t : TokenAndSpan) (us : List TokenAndSpan) → is_arrow t.token ≡ true
+      → run hook (parens s es) x (t ∷ us) ≡ exec hook (run hook) None (plan (covered-params s false (as_params es)))
+      (t ∷ us)
+  paren_params s es t us h = knot hook (parens s es) x (t ∷ us) ∙ rw h (by_params (as_params es))
     where
       by_params : (o : Option (Trees F C K)) → exec hook (run hook) (Some 2) (plan (given o ▸ (λ ps.
-          check (heads_ok x.context ps) (arrow_tail x (listed None (to s (span_of es)) ps))))) (t ∷ us)
-          ≡ exec hook (run hook) None (plan (heads s false o)) (t ∷ us)
+          check (arrow_params_ok x.context ps) (arrow_tail x (listed None (to s (span_of es)) ps))))) (t ∷ us)
+          ≡ exec hook (run hook) None (plan (covered-params s false o)) (t ∷ us)
       by_params None = refl
       by_params (Some ps) = refl
 
-  async_heads : (n : Spelling) (es : Tree F C K) (t : TokenAndSpan) (us : List TokenAndSpan) → is_arrow t.token ≡ true
-      → run hook (asyncs n es) x (t ∷ us) ≡ exec hook (run hook) None (plan (heads n.at true (as_params es))) (t ∷ us)
-  async_heads n es t us h = knot hook (asyncs n es) x (t ∷ us) ∙ rw h (by_params (as_params es))
+  async_params : (n : Spelling) (es : Tree F C K) (t : TokenAndSpan) (us : List TokenAndSpan) → is_arrow t.token ≡ true
+      → run hook (asyncs n es) x (t ∷ us) ≡ exec hook (run hook) None (plan (covered-params n.at true (as_params es)))
+      (t ∷ us)
+  async_params n es t us h = knot hook (asyncs n es) x (t ∷ us) ∙ rw h (by_params (as_params es))
     where
       by_params : (o : Option (Trees F C K)) → exec hook (run hook) (Some 2) (plan (given o ▸ (λ ps.
-          check (heads_ok x.context ps) (async_arrow_tail x n (listed None n.at ps))))) (t ∷ us)
-          ≡ exec hook (run hook) None (plan (heads n.at true o)) (t ∷ us)
+          check (arrow_params_ok x.context ps) (async_arrow_tail x n (listed None n.at ps))))) (t ∷ us)
+          ≡ exec hook (run hook) None (plan (covered-params n.at true o)) (t ∷ us)
       by_params None = refl
       by_params (Some ps) = refl
 
@@ -202,7 +205,7 @@ module _ {F C K : Type 0} (hook : Hook F C K) (x : Scope) where
       by_arrow : (b : Bool) → is_arrow t.token ≡ b
           → list_behind hook None s es x (t ∷ us) ≡ list_closed hook lo hi None s es x (t ∷ us)
       by_arrow true h =
-          paren_heads s es t us h
+          paren_params s es t us h
           ∙ commute None s es t us h (elems_fit Binding (comma_of es) (items_of es))
           (names_ok x.context (want_items (items_of es))) refl r refl
           ∙ sym (closed_arrow hook lo hi None s es x (t ∷ us) h)
@@ -221,7 +224,7 @@ module _ {F C K : Type 0} (hook : Hook F C K) (x : Scope) where
       by_arrow : (b : Bool) → is_arrow t.token ≡ b → list_behind hook (Some (ident_e n.at n.text)) n.at es x (t ∷ us)
           ≡ list_closed hook lo hi (Some (ident_e n.at n.text)) n.at es x (t ∷ us)
       by_arrow true h =
-          async_heads n es t us h
+          async_params n es t us h
           ∙ commute (Some (ident_e n.at n.text)) n.at es t us h (elems_fit Binding (comma_of es) (items_of es))
           (names_ok x.context (want_items (items_of es))) refl r refl
           ∙ sym (closed_arrow hook lo hi (Some (ident_e n.at n.text)) n.at es x (t ∷ us) h)

@@ -16,7 +16,7 @@ use Rattle.swc_steps.specs.{Keys.expected, declared.productions.Productions.Prod
 use Rattle.swc_steps.proofs.Steps.{Reader, less, unheard_after}
 use Rattle.swc_steps.proofs.Steps.Tokens.{on_then}
 use Rattle.swc_arrows.specs.Answers.{beginning_of, beginning_behind, callee_at}
-use Rattle.swc_arrows.specs.Readers.{list_head, list_rest, list_closed, heads_closed, heads_refined, base_closed, base_behind, on_line}
+use Rattle.swc_arrows.specs.Readers.{list_head, list_rest, list_closed, params_closed, params_refined, base_closed, base_behind, on_line}
 use Rattle.swc_arrows.specs.declared.names.Beginning.{Beginning}
 use Rattle.swc_arrows.proofs.HeadLaws.{expected_is}
 
@@ -49,20 +49,20 @@ module _ {F C K : Type 0} (hook : Hook F C K) where
 
   -- ---- and after it
 
-  pub heads_splits : (o : Option (Tree F C K)) (s : Span) (es : Tree F C K) (x : Scope) (ts : List TokenAndSpan)
-      → heads_closed hook o s es x ts
-      ≡ (on_line x ts >>= (λ p. expected is_arrow x p.1 >>= (λ q. heads_refined hook o s es x q.1)))
-  unfolding heads_closed
-  heads_splits o s es x ts = refl
+  pub params_splits : (o : Option (Tree F C K)) (s : Span) (es : Tree F C K) (x : Scope) (ts : List TokenAndSpan)
+      → params_closed hook o s es x ts
+      ≡ (on_line x ts >>= (λ p. expected is_arrow x p.1 >>= (λ q. params_refined hook o s es x q.1)))
+  unfolding params_closed
+  params_splits o s es x ts = refl
 
   pub arrow_takes : (o : Option (Tree F C K)) (s : Span) (es : Tree F C K) (x : Scope) (t : TokenAndSpan)
       (ts : List TokenAndSpan) → is_arrow t.token ≡ true
-      → (expected is_arrow x (t ∷ ts) >>= (λ q. heads_refined hook o s es x q.1)) ≡ heads_refined hook o s es x ts
-  arrow_takes o s es x t ts h = ap (λ r. r >>= (λ q. heads_refined hook o s es x q.1)) (expected_is is_arrow x t ts h)
+      → (expected is_arrow x (t ∷ ts) >>= (λ q. params_refined hook o s es x q.1)) ≡ params_refined hook o s es x ts
+  arrow_takes o s es x t ts h = ap (λ r. r >>= (λ q. params_refined hook o s es x q.1)) (expected_is is_arrow x t ts h)
 
   pub closed_arrow : (lo hi : BytePos) (o : Option (Tree F C K)) (s : Span) (es : Tree F C K) (x : Scope)
       (ts : List TokenAndSpan) → at_token is_arrow (first ts) ≡ true
-      → list_closed hook lo hi o s es x ts ≡ heads_closed hook o s es x ts
+      → list_closed hook lo hi o s es x ts ≡ params_closed hook o s es x ts
   unfolding list_closed
   closed_arrow lo hi o s es x ts h = rw h refl
 

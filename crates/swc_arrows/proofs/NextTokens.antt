@@ -7,8 +7,8 @@ use Rattle.swc_input.specs.{declared.buffer.Buffer.Buffer, declared.token.Token.
 use Rattle.swc_grammar.specs.{Clean.first, Clean.second, Words.rest}
 use Rattle.swc_steps.specs.Parsing.{seen, seen_of, Told}
 use Rattle.swc_steps.proofs.Ahead.{told_here, told_behind}
-use Rattle.swc_arrows.specs.Heads.{first_kind, next_token, next_kind, head_by, head_kind}
-use Rattle.swc_arrows.specs.{declared.heads.FirstKind.FirstKind, declared.heads.NextKind.NextKind, declared.heads.NextKind.NextKind as next_is, declared.heads.HeadKind.HeadKind}
+use Rattle.swc_arrows.specs.Starts.{first_kind, next_token, next_kind, head_by, start_kind}
+use Rattle.swc_arrows.specs.{declared.covered-params.FirstKind.FirstKind, declared.covered-params.NextKind.NextKind, declared.covered-params.NextKind.NextKind as next_is, declared.covered-params.StartKind.StartKind}
 
 pub second_rest : (ts : List TokenAndSpan) → second ts ≡ first (rest ts)
 second_rest [] = refl
@@ -99,9 +99,9 @@ module _ {S : Type 0} {model : Model S} (laws : Laws model) where
 
   -- ---- both tokens
 
-  pub told_head : (x : Context) {b d : Buffer S} (f : FirstKind) (k : NextKind) (h : HeadKind)
+  pub told_head : (x : Context) {b d : Buffer S} (f : FirstKind) (k : NextKind) (h : StartKind)
       → f ≡ first_kind x (seen b) → h ≡ head_by f k → Told model (λ ts. next_kind x (second ts)) k b d
-      → Told model (head_kind x) h b d
+      → Told model (start_kind x) h b d
   told_head x {b} {d} f k h e i t = record {
     laws = t.laws;
     still = t.still;
@@ -114,8 +114,8 @@ module _ {S : Type 0} {model : Model S} (laws : Laws model) where
   }
 
   -- by the first alone
-  pub told_first : (x : Context) (b : Buffer S) (f : FirstKind) (h : HeadKind) → f ≡ first_kind x (seen b)
-      → ((k : NextKind) → head_by f k ≡ h) → Told model (head_kind x) h b b
+  pub told_first : (x : Context) (b : Buffer S) (f : FirstKind) (h : StartKind) → f ≡ first_kind x (seen b)
+      → ((k : NextKind) → head_by f k ≡ h) → Told model (start_kind x) h b b
   told_first x b f h e i =
       told_here laws b h (λ ts at.
       ap (λ v. head_by v (next_kind x (second ts))) (ap (first_kind x) at ∙ sym e) ∙ i (next_kind x (second ts)))

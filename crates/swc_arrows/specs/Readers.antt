@@ -9,7 +9,7 @@ use Rattle.swc_grammar.specs.Arrows.{is_arrow, is_block, is_sign, is_of}
 use Rattle.swc_grammar.specs.Clean.{Out, first, second, sym, run, links, updates, climb, assigns, parens, asyncs}
 use Rattle.swc_grammar.specs.Names.{Spelling, spelling, may_refer, may_bind}
 use Rattle.swc_grammar.specs.{Scope.Scope, Symbols.Level, Symbols.ArrowBody, Tokens.is_lparen, Words.◌>>=◌, Words.word}
-use Rattle.swc_cover.specs.{Clear.is_clear, Faults.params_verdict, Heads.names_ok, Items.want_items}
+use Rattle.swc_cover.specs.{Clear.is_clear, Faults.params_verdict, ReservedNames.names_ok, Items.want_items}
 use Rattle.swc_steps.specs.Args.{args_inside, paren_closed, paren_from, paren_of}
 use Rattle.swc_steps.specs.{Keys.expected, Parsing.breaks_at, Parsing.by_hook}
 
@@ -197,17 +197,17 @@ module _ {F C K : Type 0} (hook : Hook F C K) where
   -- The same as the code goes it, which refines the list at once where `=>` is after it. Where the list holds
   -- nothing that was refused, that is what is above; the first of its items begins, and the last one ends, at other
   -- positions than their places say, where it does.
-  abbrev pub heads_refined : Option (Tree F C K) → Span → Tree F C K → Scope → List TokenAndSpan → Out (Tree F C K)
-  heads_refined o s es c ts =
+  abbrev pub params_refined : Option (Tree F C K) → Span → Tree F C K → Scope → List TokenAndSpan → Out (Tree F C K)
+  params_refined o s es c ts =
       if takes_params c.context es then arrow_behind s.lo (is_some o) true (want_items (items_of es)) c ts else None
 
-  unfoldable pub heads_closed : Option (Tree F C K) → Span → Tree F C K → Scope → List TokenAndSpan → Out (Tree F C K)
-  heads_closed o s es c ts = on_line c ts >>= (λ p. expected is_arrow c p.1 >>= (λ q. heads_refined o s es c q.1))
+  unfoldable pub params_closed : Option (Tree F C K) → Span → Tree F C K → Scope → List TokenAndSpan → Out (Tree F C K)
+  params_closed o s es c ts = on_line c ts >>= (λ p. expected is_arrow c p.1 >>= (λ q. params_refined o s es c q.1))
 
   unfoldable pub list_closed : BytePos → BytePos → Option (Tree F C K) → Span → Tree F C K → Scope
       → List TokenAndSpan → Out (Tree F C K)
   list_closed lo hi o s es c ts =
-      if at_token is_arrow (first ts) then heads_closed o s es c ts else
+      if at_token is_arrow (first ts) then params_closed o s es c ts else
       (base_closed lo hi o s es c ts >>= (λ p. base_behind p.0 c p.1))
 
   -- and from its parenthesis on, or from `async` on

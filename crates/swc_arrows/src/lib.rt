@@ -2,6 +2,6 @@
 #![tactic(auto)]
 
 pub mod bodies;
-pub mod heads;
 pub mod lists;
 pub mod names;
+pub mod starts;

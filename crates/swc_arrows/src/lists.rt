@@ -9,7 +9,7 @@ ghost use Rattle.swc_nodes.specs.NodeParts.{args_parts, one_expr};
 ghost use Rattle.swc_patterns.specs.Answers.{Leaves};
 ghost use Rattle.swc_steps.specs.Parsing.{seen, args_at, itself, tree_of, ContinuesAlone, GoesOn, Heard};
 ghost use Rattle.swc_arrows.specs.Answers.{beginning_of, beginning_behind, callee_at, callee_parts, list_start_at, list_start_of, list_start_behind, IsArrow, IsBase};
-ghost use Rattle.swc_arrows.specs.Readers.{async_call, base_closed, base_look, heads_closed, is_callee, list_closed, list_head, list_opening, on_line};
+ghost use Rattle.swc_arrows.specs.Readers.{async_call, base_closed, base_look, params_closed, is_callee, list_closed, list_head, list_opening, on_line};
 
 use crate::names::{ArrowHead, Beginning};
 use swc_ast::expr::ExprOrSpread;
@@ -90,7 +90,7 @@ pub fn close_list<I: Tokens, B: Bodies<I>>(
 {
     look(&mut p.input)?;
     if is_sign(&p.input, Sign::Arrow) {
-        return parse_heads(p, start, list);
+        return parse_params(p, start, list);
     }
     let base = close_base(p, start, list)?;
     Ok(Beginning::Base(base))
@@ -116,7 +116,7 @@ fn close_base<I: Tokens, B: Bodies<I>>(
 }
 
 /// The list as the parameters of an arrow function, after which `=>` is current.
-fn parse_heads<I: Tokens, B: Bodies<I>>(
+fn parse_params<I: Tokens, B: Bodies<I>>(
     p: &mut Productions<I, B>,
     start: ListStart,
     list: Listed<ExprOrSpread<ExprId>>,
@@ -125,7 +125,7 @@ fn parse_heads<I: Tokens, B: Bodies<I>>(
     requires apart { Apart 0 p.old.nodes (callee_parts start.callee ++ args_parts list.items) }
     ensures rewrites { (k : ℕ) → k ≤ count p.old.nodes
         → Apart k p.old.nodes (callee_parts start.callee ++ args_parts list.items)
-        → Rewrites I.model B.is_faithful beginning_of (heads_closed B.forms (callee_at p.old.nodes start.callee)
+        → Rewrites I.model B.is_faithful beginning_of (params_closed B.forms (callee_at p.old.nodes start.callee)
         start.at (args_at p.old.nodes list)) (beginning_behind B.forms) k p.old result p.new }
     ensures arrow { IfOk result (λ b. IsArrow b) }
 {

@@ -4,11 +4,11 @@ use Rattle.std.specs.Prelude.{if◌then◌else◌}
 use Rattle.swc_context.specs.{Reserved.strict_binding_words, Texts.is_one_of, declared.context.Context.Context, declared.span.Span.Span}
 use Rattle.swc_ast.specs.Tree.{array_with, object_with, hole, ident, rest, default, binding_prop, key_value, Tree, node, Trees, nil, cons}
 use Rattle.swc_ast.specs.Trees.{is_ident}
-use Rattle.swc_grammar.specs.Cover.{binding, as_elements, heads_ok}
+use Rattle.swc_grammar.specs.Cover.{binding, as_elements, arrow_params_ok}
 use Rattle.swc_grammar.specs.Patterns.{binds_names, all_bind_names, prop_binds_names, props_bind_names, any}
 use Rattle.swc_grammar.proofs.Meets.{all-meet}
-use Rattle.swc_cover.specs.Heads.{reserved_spans, all_reserved, prop_reserved, props_reserved, has_none, names_ok}
-use Rattle.swc_cover.specs.{Fits.Binding, Fits.elems_fit, Refining.takes_heads, Refining.params_ok}
+use Rattle.swc_cover.specs.ReservedNames.{reserved_spans, all_reserved, prop_reserved, props_reserved, has_none, names_ok}
+use Rattle.swc_cover.specs.{Fits.Binding, Fits.elems_fit, Refining.takes_arrow_params, Refining.params_ok}
 
 both-left : (a b : Bool) → (a && b) ≡ true → a ≡ true
 both-left true b h = refl
@@ -67,13 +67,14 @@ module _ {F C K : Type 0} where
         (props-free ps (both-right (prop_binds_names any p) (props_bind_names any ps) h))
         ∙ sym (none-both (prop_reserved p) (props_reserved ps))
 
-  heads-by : (m : Bool) (ps : Trees F C K) → all_bind_names any ps ≡ true →
+  params-by : (m : Bool) (ps : Trees F C K) → all_bind_names any ps ≡ true →
       all_bind_names (λ name. not (m && is_one_of name strict_binding_words)) ps ≡ (not m || has_none (all_reserved ps))
-  heads-by true ps h = all-free ps h
-  heads-by false ps h = h
+  params-by true ps h = all-free ps h
+  params-by false ps h = h
 
-  pub heads-are : (c : Context) (ps : Trees F C K) → all_bind_names any ps ≡ true → heads_ok c ps ≡ names_ok c ps
-  heads-are c ps h = heads-by (c.module && c.strict) ps h
+  pub arrow-params-are : (c : Context) (ps : Trees F C K) → all_bind_names any ps ≡ true
+      → arrow_params_ok c ps ≡ names_ok c ps
+  arrow-params-are c ps h = params-by (c.module && c.strict) ps h
 
   -- outside strict code any name may be bound
   pub names-lax : (c : Context) (ps : Trees F C K) → not c.strict ≡ true → names_ok c ps ≡ true
@@ -96,5 +97,5 @@ module _ {F C K : Type 0} where
     where
       by-fit : (b : Bool) → as_elements binding comma ts ≡ (if b then Some us else None) →
           params_ok c comma ts ≡ (b && names_ok c us)
-      by-fit true h = ap (takes_heads c) h ∙ heads-are c us (all-meet comma ts us h)
-      by-fit false h = ap (takes_heads c) h
+      by-fit true h = ap (takes_arrow_params c) h ∙ arrow-params-are c us (all-meet comma ts us h)
+      by-fit false h = ap (takes_arrow_params c) h

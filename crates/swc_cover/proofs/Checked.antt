@@ -5,7 +5,7 @@ use Rattle.swc_context.specs.{declared.error.Error.Error, declared.error.SyntaxE
 use Rattle.swc_input.specs.{Buffer.context, Recording.no_memory, Source.Model, Source.Laws, declared.buffer.Buffer.Buffer}
 use Rattle.swc_cover.proofs.Quiet.{kept-clean}
 use Rattle.swc_cover.specs.Faults.{Verdict, clean, Recorded}
-use Rattle.swc_cover.specs.{Heads.has_none, Refining.ChecksWhole, Refining.Unfitting, declared.faults.Fault.Fault}
+use Rattle.swc_cover.specs.{ReservedNames.has_none, Refining.ChecksWhole, Refining.Unfitting, declared.faults.Fault.Fault}
 use Rattle.swc_steps.proofs.Steps.{check_passes, checks_and, forgoes_here, forgoes_refuses, refuses_later, more_recorded, loud_after}
 use Rattle.swc_steps.proofs.{Ahead.is_some_none, Steps.Consumed.leads_then}
 use Rattle.swc_steps.specs.Parsing.{Checks, Forgoes, Leads, Loud, Refuses, recorded}

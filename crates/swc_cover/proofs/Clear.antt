@@ -7,7 +7,7 @@ use Rattle.swc_ast.specs.{Tree.Tree, Tree.Trees, Trees.is_valid, Trees.are_valid
 use Rattle.swc_grammar.specs.Clean.{no_error}
 use Rattle.swc_cover.proofs.{Quiet.params-quiet, Quiet.quiet-params, Typed.quiet-as, Typed.fits-quietly}
 use Rattle.swc_cover.specs.Faults.{Verdict, Recorded, clean, params_verdict}
-use Rattle.swc_cover.specs.{Clear.is_clear, Fits.Binding, Fits.elems_fit, Heads.has_none, Heads.names_ok, PatTypes.fits_as, PatTypes.verdict_as, declared.faults.Fault.Fault, declared.pat_type.PatType.PatType}
+use Rattle.swc_cover.specs.{Clear.is_clear, Fits.Binding, Fits.elems_fit, ReservedNames.has_none, ReservedNames.names_ok, PatTypes.fits_as, PatTypes.verdict_as, declared.faults.Fault.Fault, declared.pat_type.PatType.PatType}
 use Rattle.swc_steps.specs.Parsing.{Checks, seen_of}
 use Rattle.swc_steps.proofs.Steps.{checks_and}
 
@@ -55,10 +55,10 @@ pub stays-then : (o p q : Option TokenAndSpan) → (at_token no_error (seen_of o
 stays-then o p q h k n = let e = h n in k (ap (λ v. at_token no_error (seen_of v)) e ∙ n) ∙ e
 
 -- items, and then the names that they bind
-pub heads-then : {S : Type 0} {model : Model S} {F C K : Type 0} {ok : Bool} {b c d : Buffer S}
+pub params-then : {S : Type 0} {model : Model S} {F C K : Type 0} {ok : Bool} {b c d : Buffer S}
     (ps : Trees F C K) → Checks model ok b c → Checks model (names_ok (context model c) ps) c d
     → Checks model (ok && names_ok (context model b) ps) b d
-heads-then {model = model} {ok = ok} {b} {c} {d} ps h k =
+params-then {model = model} {ok = ok} {b} {c} {d} ps h k =
     checks_and ok (names_ok (context model b) ps) h
     (subst (λ v. Checks model (names_ok v ps) c d) h.leads.read.context k)
 

@@ -8,7 +8,7 @@ use Rattle.swc_input.specs.Source.{Model, Source, with_module_error}
 use Rattle.swc_input.specs.{Recording.Refused, Recordings.NotesAll, declared.buffer.Buffer.Buffer}
 use Rattle.swc_ast.specs.Tree.{Trees}
 use Rattle.swc_cover.specs.Noting.{errors_of, kind_is, name_error, names_bound, with_module_errors, JudgesBy, refusal_of, NotesParams, NotesStrict}
-use Rattle.swc_cover.specs.{Faults.Recorded as Found, Faults.Verdict, Heads.all_reserved, declared.faults.Fault.Fault}
+use Rattle.swc_cover.specs.{Faults.Recorded as Found, Faults.Verdict, ReservedNames.all_reserved, declared.faults.Fault.Fault}
 
 -- ---- the faults up to a place in a list
 

@@ -8,8 +8,8 @@ use Rattle.swc_ast.specs.{Trees.is_valid, Trees.are_valid, declared.expr.ExprOrS
 use Rattle.swc_grammar.specs.Cover.{binding, as_elements}
 use Rattle.swc_cover.proofs.Formed.{Formed, AllFormed, part-formed, items-formed}
 use Rattle.swc_cover.proofs.{Bound.params-are, Checked.whole-then, Fitting.chain-in, Ties.pattern-is, Ties.as-elems-is}
-use Rattle.swc_cover.specs.Refining.{ChecksWhole, Unfitting, Refined, RefinedItems, fits_at, items_at, pats_at, items_floor, params_ok, takes_heads}
-use Rattle.swc_cover.specs.{Fits.Binding, Fits.elems_fit, Heads.names_ok, Items.want_items, Items.AllMade, Moving.KeptTo, PatTypes.want_as, declared.pat_type.PatType.PatType}
+use Rattle.swc_cover.specs.Refining.{ChecksWhole, Unfitting, Refined, RefinedItems, fits_at, items_at, pats_at, items_floor, params_ok, takes_arrow_params}
+use Rattle.swc_cover.specs.{Fits.Binding, Fits.elems_fit, ReservedNames.names_ok, Items.want_items, Items.AllMade, Moving.KeptTo, PatTypes.want_as, declared.pat_type.PatType.PatType}
 use Rattle.swc_nodes.specs.NodeParts.{expr_part, pat_part, flat, item_parts}
 use Rattle.swc_nodes.specs.GrowingNodes.{count, seat_at, tree_at, first_at, Apart, From, Made}
 use Rattle.swc_nodes.specs.{declared.node.ExprId.ExprId, declared.node.PatId.PatId, declared.nodes.Nodes.Nodes}
@@ -59,7 +59,7 @@ module _ {S F C K : Type 0} {fg : Ghosts F} {cg : Ghosts C} {kg : Ghosts K} {mod
   items-unfit {b} {c} {e} {ns} comma xs a u = record {
     refuses = u.refuses;
     unfit = λ n.
-        ap (takes_heads (context model b)) (as-elems-is Binding comma array (items_at ns xs) (items-all xs a)
+        ap (takes_arrow_params (context model b)) (as-elems-is Binding comma array (items_at ns xs) (items-all xs a)
         ∙ ap (λ v. if v then Some (want_items (items_at ns xs)) else None) (u.unfit n));
   }
 

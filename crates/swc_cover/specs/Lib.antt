@@ -9,6 +9,6 @@ pub mod Faults
 pub mod Wanted
 pub mod Fits
 pub mod PatTypes
-pub mod Heads
+pub mod ReservedNames
 pub mod Clear
 pub mod Refining

@@ -7,7 +7,7 @@ use Rattle.swc_input.specs.Recordings.{Judges, NotesAll, RefusesAfter}
 use Rattle.swc_input.specs.Source.{Model, Source, with_module_error}
 use Rattle.swc_input.specs.declared.buffer.Buffer.{Buffer}
 use Rattle.swc_ast.specs.Tree.{Trees}
-use Rattle.swc_cover.specs.{Faults.Verdict, Heads.all_reserved, declared.faults.Fault.Fault, declared.faults.FaultKind.FaultKind, declared.faults.FaultKind.FaultKind as fault}
+use Rattle.swc_cover.specs.{Faults.Verdict, ReservedNames.all_reserved, declared.faults.Fault.Fault, declared.faults.FaultKind.FaultKind, declared.faults.FaultKind.FaultKind as fault}
 
 -- as what a fault is recorded
 abbrev pub kind_is : FaultKind → SyntaxError

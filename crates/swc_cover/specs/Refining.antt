@@ -5,7 +5,7 @@ use Rattle.swc_input.specs.{Buffer.context, Source.Model, declared.buffer.Buffer
 use Rattle.swc_ast.specs.{Parts.item_trees, Tree.Trees, Tree.trees, Trees.is_valid, Trees.are_valid, declared.expr.ExprOrSpread.ExprOrSpread, declared.spanned.Spanned.Ghosts}
 use Rattle.swc_cover.specs.PatTypes.{fits_as, want_as, pattern_as}
 use Rattle.swc_cover.specs.{Fits.Binding, Fits.elems_fit, Items.want_items, Items.AllMade, Moving.KeptTo, declared.pat_type.PatType.PatType}
-use Rattle.swc_grammar.specs.Cover.{binding, as_elements, heads_ok}
+use Rattle.swc_grammar.specs.Cover.{binding, as_elements, arrow_params_ok}
 use Rattle.swc_nodes.specs.NodeParts.{pat_part, flat, item_parts}
 use Rattle.swc_nodes.specs.GrowingNodes.{count, seat_at, tree_at, first_at, Made}
 use Rattle.swc_nodes.specs.{NumberedTrees.floor, declared.node.ExprId.ExprId, declared.node.PatId.PatId, declared.nodes.Nodes.Nodes}
@@ -26,12 +26,12 @@ module _ {S : Type 0} (model : Model S) where
     pub unfit : e.kind ≢ OutOfMemory → well ≡ false
 
 -- whether the items in parentheses are parameters, with a comma after them or not, and bind what they may
-abbrev pub takes_heads : {F C K : Type 0} → Context → Option (Trees F C K) → Bool
-takes_heads c None = false
-takes_heads c (Some ps) = heads_ok c ps
+abbrev pub takes_arrow_params : {F C K : Type 0} → Context → Option (Trees F C K) → Bool
+takes_arrow_params c None = false
+takes_arrow_params c (Some ps) = arrow_params_ok c ps
 
 abbrev pub params_ok : {F C K : Type 0} → Context → Option Span → Trees F C K → Bool
-params_ok c comma ts = takes_heads c (as_elements binding comma ts)
+params_ok c comma ts = takes_arrow_params c (as_elements binding comma ts)
 
 module _ {F C K : Type 0} {fg : Ghosts F} {cg : Ghosts C} {kg : Ghosts K} where
   abbrev pub items_at : Nodes F C K fg cg kg → List (ExprOrSpread ExprId) → Trees F C K

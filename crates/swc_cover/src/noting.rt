@@ -4,7 +4,7 @@ ghost use Rattle.swc_context.specs.declared.error.SyntaxError.TheVariants.{OutOf
 ghost use Rattle.swc_ast.specs.Trees.{is_valid, are_valid};
 ghost use Rattle.swc_cover.specs.Noting.{errors_of, kind_is, JudgesBy};
 ghost use Rattle.swc_cover.specs.Refining.{ChecksWhole, Unfitting, items_at};
-ghost use Rattle.swc_cover.specs.{Faults.params_verdict, Fits.Binding, Fits.elems_fit, Heads.has_none, PatTypes.fits_as, PatTypes.verdict_as, Clear.is_clear};
+ghost use Rattle.swc_cover.specs.{Faults.params_verdict, Fits.Binding, Fits.elems_fit, ReservedNames.has_none, PatTypes.fits_as, PatTypes.verdict_as, Clear.is_clear};
 ghost use Rattle.swc_input.specs.Buffer.{context, current, to_come};
 ghost use Rattle.swc_input.specs.{Kinds.at_token, Recordings.NotesAll};
 ghost use Rattle.swc_grammar.specs.Clean.{no_error};

@@ -3,7 +3,7 @@
 ghost use Rattle.std.specs.Prelude.{◌≡◌, ◌++◌, ◌≤◌, not, ◌||◌, map, IfOk, OnOk};
 ghost use Rattle.swc_ast.specs.Tree.{trees};
 ghost use Rattle.swc_cover.specs.Below.{PatElemFrom, PatPropFrom, PatElemsBelow, PatPropsBelow, PatPartFrom};
-ghost use Rattle.swc_cover.specs.Heads.{name_spans, reserved_spans, all_reserved, prop_reserved, props_reserved, has_none, names_ok};
+ghost use Rattle.swc_cover.specs.ReservedNames.{name_spans, reserved_spans, all_reserved, prop_reserved, props_reserved, has_none, names_ok};
 ghost use Rattle.swc_cover.specs.Noting.{name_error, names_bound, NotesStrict};
 ghost use Rattle.swc_input.specs.Buffer.{context, to_come};
 ghost use Rattle.swc_nodes.specs.NodeParts.{pat_part, one_pat, flat};

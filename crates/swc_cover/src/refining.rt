@@ -4,7 +4,7 @@ ghost use Rattle.std.specs.Prelude.{◌≡◌, ◌≢◌, ◌≤◌, ◌&&◌, t
 ghost use Rattle.swc_context.specs.declared.error.SyntaxError.TheVariants.{OutOfMemory};
 ghost use Rattle.swc_cover.specs.Noting.{names_bound, JudgesBy, JudgesParams};
 ghost use Rattle.swc_cover.specs.Refining.{Refined, Unrefined, RefinedItems, UnrefinedItems, items_at, pats_at};
-ghost use Rattle.swc_cover.specs.{Clear.is_clear, Faults.params_verdict, Heads.names_ok, Items.want_items, PatTypes.verdict_as};
+ghost use Rattle.swc_cover.specs.{Clear.is_clear, Faults.params_verdict, ReservedNames.names_ok, Items.want_items, PatTypes.verdict_as};
 ghost use Rattle.swc_grammar.specs.Clean.{no_error};
 ghost use Rattle.swc_input.specs.Kinds.{at_token};
 ghost use Rattle.swc_input.specs.Buffer.{context, current, to_come};

@@ -10,14 +10,14 @@ use Rattle.swc_ast.specs.Tree.{Tree, node, Trees, nil, cons, erase, erase_all, n
 use Rattle.swc_ast.specs.Trees.{items_of, listed, unmarked, unmarked_kind, all_unmarked}
 use Rattle.swc_ast.specs.{Pedantic.none_left, declared.function.Param.Param, declared.pat.Pat.Pat, declared.spanned.Spanned.Ghosts}
 use Rattle.swc_bodies.specs.Readings.{Hook}
-use Rattle.swc_grammar.specs.{Clean.first, Patterns.all_bind_names, Reads.Reads, Reads.ReadsUnmarked, Scope.Scope, Symbols.Heads, Symbols.Params, Tokens.is_lparen, Tokens.is_rparen, Words.rest}
+use Rattle.swc_grammar.specs.{Clean.first, Patterns.all_bind_names, Reads.Reads, Reads.ReadsUnmarked, Scope.Scope, Symbols.ArrowParams, Symbols.Params, Tokens.is_lparen, Tokens.is_rparen, Words.rest}
 use Rattle.swc_grammar.proofs.MarkedBinds.{all-same-binds}
 use Rattle.swc_laws.specs.Bound.{Spelled, is_free_name, is_kept_name}
-use Rattle.swc_laws.proofs.{ConverseLaw.converse-heads, CoverLaw.heads-cover, PedanticTrees.all-covers-erased}
+use Rattle.swc_laws.proofs.{ConverseLaw.converse-params, CoverLaw.params-cover, PedanticTrees.all-covers-erased}
 use Rattle.swc_steps.specs.Parsing.{scope, scope_of}
 use Rattle.swc_ecma_parser.specs.BothWays.{ConverseLaw, CoverLaw, Fresh, Left, Same, StandsBefore, faults, patterns, param_patterns}
 use Rattle.swc_ecma_parser.specs.Calls.{buffer_of, has_failed, with_bound}
-use Rattle.swc_ecma_parser.specs.Promise.{Finished, Promised, PromisedParams, ReadsAs, ClosedBy, covers_done, heads_in_boxes, items_done, only_items, params_in_boxes}
+use Rattle.swc_ecma_parser.specs.Promise.{Finished, Promised, PromisedParams, ReadsAs, ClosedBy, covers_done, arrow_params_in_boxes, items_done, only_items, params_in_boxes}
 use Rattle.swc_ecma_parser.specs.{WholeList.plain_list, WholeList.IsHeeded, declared.parser.Parser.Parser}
 use Rattle.swc_ecma_parser.proofs.WholeList.{fresh-known, fresh-loud}
 
@@ -81,7 +81,7 @@ module _ {H F C K : Type 0} {fg : Ghosts F} {cg : Ghosts C} {kg : Ghosts K} wher
       (w : Vec (Param (Pat F C K)) Global) (b : Parser TokensInput H F C K fg cg kg)
       (hs : Tree F C K) (ys : List TokenAndSpan) → faults b ≡ []
       → erase_all (all_unmarked (items_of hs)) ≡ erase_all (param_patterns fg cg kg w)
-      → MatchResult r (λ v. (heads_in_boxes.tree p.productions.nodes v ≡ only_items hs) × Left p ys
+      → MatchResult r (λ v. (arrow_params_in_boxes.tree p.productions.nodes v ≡ only_items hs) × Left p ys
       × (faults p ≡ faults b))
       (λ e. e.kind ≡ OutOfMemory)
       → MatchResult r (λ v. Same fg cg kg v w × Left p ys × (faults p ≡ [])) (λ e. e.kind ≡ OutOfMemory)
@@ -94,7 +94,7 @@ module _ {H F C K : Type 0} {fg : Ghosts F} {cg : Ghosts C} {kg : Ghosts K} (sur
     (x : Syntax) (ts : List TokenAndSpan) where
   abbrev Heading : Result (Vec (Pat F C K) Global) Error → Parser TokensInput H F C K fg cg kg
       → Parser TokensInput H F C K fg cg kg → Type 0
-  Heading r a b = Promised listed_model sure hook heads_in_boxes Heads a r b
+  Heading r a b = Promised listed_model sure hook arrow_params_in_boxes ArrowParams a r b
 
   abbrev Forming : Result (Vec (Param (Pat F C K)) Global) Error → Parser TokensInput H F C K fg cg kg
       → Parser TokensInput H F C K fg cg kg → Type 0
@@ -102,18 +102,19 @@ module _ {H F C K : Type 0} {fg : Ghosts F} {cg : Ghosts C} {kg : Ghosts K} (sur
 
   -- ---- what was read as an arrow's parameters
 
-  heads-read : {p : Parser TokensInput H F C K fg cg kg} (v : Vec (Pat F C K) Global) → Fresh (Heading (Ok v)) c x ts p
-      → IsHeeded c x → faults p ≡ [] → (ys : List TokenAndSpan) → Left p ys
-      → Finished covers_done (ReadsAs only_items hook Heads) (scope_of (view c) x) ts ys
-      (heads_in_boxes.tree p.productions.nodes v)
-  heads-read {p} v f heeded none ys left =
+  arrow-params-read : {p : Parser TokensInput H F C K fg cg kg} (v : Vec (Pat F C K) Global)
+      → Fresh (Heading (Ok v)) c x ts p → IsHeeded c x → faults p ≡ [] → (ys : List TokenAndSpan) → Left p ys
+      → Finished covers_done (ReadsAs only_items hook ArrowParams) (scope_of (view c) x) ts ys
+      (arrow_params_in_boxes.tree p.productions.nodes v)
+  arrow-params-read {p} v f heeded none ys left =
       let d = f.call.sound f.runs (f.loud heeded) (none ∙ sym f.clean) in
       let k = Known-after listed_laws (buffer_of f.start) (buffer_of p) d.consumed ts d.read.took f.left in
       let same : k.0 ≡ ys = known-once listed_model (buffer_of p) k.0 ys k.1 left in
       let whole : ts ≡ d.consumed ++ ys = k.2 ∙ ap (λ l. d.consumed ++ l) same in
       let got = d.front ys (Known-Future listed_laws (buffer_of p) ys left) in
       let D : Scope → List TokenAndSpan → Type 0 =
-      λ s l. Finished covers_done (ReadsAs only_items hook Heads) s l ys (heads_in_boxes.tree p.productions.nodes v) in
+      λ s l. Finished covers_done (ReadsAs only_items hook ArrowParams) s l ys
+      (arrow_params_in_boxes.tree p.productions.nodes v) in
       subst (λ s. D s ts) f.stands (subst (λ l. D (scope listed_model (buffer_of f.start)) l) (sym whole) got)
 
   pub cover-law : {p q : Parser TokensInput H F C K fg cg kg} (r : Result (Vec (Pat F C K) Global) Error)
@@ -121,14 +122,14 @@ module _ {H F C K : Type 0} {fg : Ghosts F} {cg : Ghosts C} {kg : Ghosts K} (sur
       → Fresh (Heading r) c x ts p → Fresh (Forming s) c x (rest ts) q → CoverLaw sure c x ts r p s q
   cover-law (Err e) s f g = λ heeded y strict sp. tt
   cover-law {p} {q} (Ok v) s f g = λ heeded y strict sp. λ none kept ys left.
-      let d = heads-read v f heeded none ys left in
+      let d = arrow-params-read v f heeded none ys left in
       let read = d.read in
       let items : all_unmarked (items_of read.marked) ≡ patterns fg cg kg v =
       sym (kept-items read.marked) ∙ ap items_of read.same in
       let names = is_kept_name c in
       let free : all_bind_names names (items_of read.marked) ≡ true =
       sym (all-same-binds names (items_of read.marked)) ∙ ap (all_bind_names names) items ∙ kept in
-      let (a, ms, at, h, k) = heads-cover hook (scope_of (view c) x) strict ts ys sp read.marked read.read free in
+      let (a, ms, at, h, k) = params-cover hook (scope_of (view c) x) strict ts ys sp read.marked read.read free in
       let bare : ReadsUnmarked hook Params (scope listed_model (buffer_of g.start)) ms ys (unmarked k.tree) = record {
         marked = k.tree;
         read = subst (λ z. Reads hook Params z ms ys k.tree) (sym g.stands) k.read;
@@ -183,18 +184,18 @@ module _ {H F C K : Type 0} {fg : Ghosts F} {cg : Ghosts C} {kg : Ghosts K} (sur
       let names : all_bind_names is_free_name (items_of d.marked) ≡ true =
       sym (all-same-binds is_free_name (items_of d.marked)) ∙ ap (all_bind_names is_free_name) items ∙ free in
       let here = subst (λ l. Reads hook Params (scope_of (view c) x) l ys d.marked) (ap rest at) d.read in
-      let (hs, read, same) = converse-heads hook (scope_of (view c) x) a ms ys d.marked h here names in
-      let whole : Reads hook Heads (scope_of (view c) x) ts ys hs =
-      subst (λ l. Reads hook Heads (scope_of (view c) x) l ys hs) (sym at) read in
+      let (hs, read, same) = converse-params hook (scope_of (view c) x) a ms ys d.marked h here names in
+      let whole : Reads hook ArrowParams (scope_of (view c) x) ts ys hs =
+      subst (λ l. Reads hook ArrowParams (scope_of (view c) x) l ys hs) (sym at) read in
       let alike = bare-same (items_of hs) (items_of d.marked) same ∙ ap erase_all items in
-      let kept : Finished covers_done (ReadsAs only_items hook Heads) (scope listed_model (buffer_of f.start)) ts ys
+      let kept : Finished covers_done (ReadsAs only_items hook ArrowParams)
+      (scope listed_model (buffer_of f.start)) ts ys
       (only_items hs) =
       record {
         read = record {
           marked = hs;
-          read = subst (λ z. Reads hook Heads z ts ys hs) (sym f.stands) whole;
-          same =
-              refl;
+          read = subst (λ z. Reads hook ArrowParams z ts ys hs) (sym f.stands) whole;
+          same = refl;
         };
         covers = subst (λ z. covers_done z (only_items hs) ≡ true) (sym f.stands)
             (ap (λ b. not x.pedantic || b)
@@ -214,8 +215,7 @@ module _ {H F C K : Type 0} {fg : Ghosts F} {cg : Ghosts C} {kg : Ghosts K} wher
       (input : TokensInput) (ts : List TokenAndSpan) (c : Context) (x : Syntax) (v : EsVersion)
       (o : Parser TokensInput H F C K fg cg kg)
       → listed_state input ≡ new_state ts c x v → buffer_of o ≡ buffer.fresh input (last_position (buffer_of o))
-      → has_failed o ≡ false
-      → p ≡ with_bound n o → P p q → Fresh P c x (plain_list ts) q
+      → has_failed o ≡ false → p ≡ with_bound n o → P p q → Fresh P c x (plain_list ts) q
   fresh {p = p} input ts c x v o is unread ran bounded call =
       let at = last_position (buffer_of o) in
       let new : buffer_of p ≡ buffer.fresh input at = ap (λ r. buffer_of r) bounded ∙ unread in

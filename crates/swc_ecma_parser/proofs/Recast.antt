@@ -7,7 +7,7 @@ use Rattle.swc_input.specs.{Buffer.context, Source.Model}
 use Rattle.swc_ast.specs.Tree.{Tree, node, Trees, args, no_span}
 use Rattle.swc_ast.specs.Trees.{is_valid, are_valid, items_of}
 use Rattle.swc_ast.specs.{Parts.args_tree, declared.expr.Expr.Expr, declared.expr.ExprOrSpread.ExprOrSpread, declared.spanned.Spanned.Ghosts}
-use Rattle.swc_grammar.specs.Cover.{binding, as_elements, heads_ok}
+use Rattle.swc_grammar.specs.Cover.{binding, as_elements, arrow_params_ok}
 use Rattle.swc_grammar.proofs.Marks.{same-valid}
 use Rattle.swc_nodes.specs.Marking.{Marker, Marks, marked_by, all_marked_by}
 use Rattle.swc_nodes.specs.NodeParts.{Part, expr_part, one_pat, pat_part, args_parts}
@@ -16,14 +16,14 @@ use Rattle.swc_nodes.specs.{Lists.pats_parts, declared.node.ExprId.ExprId, decla
 use Rattle.swc_nodes.proofs.Marked.{items, apart-marked, marks-apart, marks-from, unmarked-marked, all-unmarked-marked}
 use Rattle.swc_nodes.proofs.{Chains.chain-down, Chains.floor-above, Held.apart-from, Held.from-down, Standing.cut_kept, Standing.grows-count}
 use Rattle.swc_cover.specs.PatTypes.{fits_as, pattern_as, want_as}
-use Rattle.swc_cover.specs.Refining.{Refined, Unrefined, RefinedItems, UnrefinedItems, items_at, items_floor, params_ok, pats_at, takes_heads}
+use Rattle.swc_cover.specs.Refining.{Refined, Unrefined, RefinedItems, UnrefinedItems, items_at, items_floor, params_ok, pats_at, takes_arrow_params}
 use Rattle.swc_cover.specs.{Items.want_items, Moving.KeptTo, Fits.Binding, Fits.elems_fit, declared.pat_type.PatType.PatType}
 use Rattle.swc_cover.proofs.{Refines.expr-formed, Ties.pattern-is}
 use Rattle.swc_patterns.specs.Answers.{pat_at}
 use Rattle.swc_steps.specs.declared.productions.Productions.{Productions}
 use Rattle.swc_trees.specs.Moving.{boxed_in}
 use Rattle.swc_ecma_parser.specs.Calls.{buffer_of, nodes_of, tree_by}
-use Rattle.swc_ecma_parser.specs.Refinement.{Recast, Recasts, Unrecast, boxed_items, heads_among, marked_expr, marked_items, marks_of, params_of, pattern_of}
+use Rattle.swc_ecma_parser.specs.Refinement.{Recast, Recasts, Unrecast, boxed_items, params_among, marked_expr, marked_items, marks_of, params_of, pattern_of}
 use Rattle.swc_ecma_parser.specs.declared.parser.Parser.{Parser}
 
 -- ---- expressions that hold no `Invalid`
@@ -47,14 +47,15 @@ from-if : {A : Type 0} (b : Bool) (x y : A) → (if b then Some x else None) ≡
 from-if true x y h = cc
 from-if false x y h = absurd cc
 
-heads-some : {F C K : Type 0} (c : Context) (o : Option (Trees F C K)) → is_some (heads_among c o) ≡ takes_heads c o
-heads-some c None = refl
-heads-some c (Some ps) = some-if (heads_ok c ps) ps
+params-some : {F C K : Type 0} (c : Context) (o : Option (Trees F C K))
+    → is_some (params_among c o) ≡ takes_arrow_params c o
+params-some c None = refl
+params-some c (Some ps) = some-if (arrow_params_ok c ps) ps
 
-heads-are : {F C K : Type 0} (c : Context) (o : Option (Trees F C K)) (ps : Trees F C K)
-    → heads_among c o ≡ Some ps → o ≡ Some ps
-heads-are c None ps h = absurd cc
-heads-are c (Some qs) ps h = ap (λ v. Some v) (sym (from-if (heads_ok c qs) qs ps h))
+arrow-params-are : {F C K : Type 0} (c : Context) (o : Option (Trees F C K)) (ps : Trees F C K)
+    → params_among c o ≡ Some ps → o ≡ Some ps
+arrow-params-are c None ps h = absurd cc
+arrow-params-are c (Some qs) ps h = ap (λ v. Some v) (sym (from-if (arrow_params_ok c qs) qs ps h))
 
 module _ {F C K : Type 0} {fg : Ghosts F} {cg : Ghosts C} {kg : Ghosts K} where
   -- nodes that there were stay while others are put after them, marked and changed
@@ -170,9 +171,9 @@ module _ {S H F C K : Type 0} {fg : Ghosts F} {cg : Ghosts C} {kg : Ghosts K} (m
         items (marks_of p) (tree_at ms) (tree_at ls) ids.items (apart-marked marks apart)
         ∙ ap (λ t. all_marked_by (marks_of p) (items_of t)) same
 
-    heads-put : is_some (params_of model xs.items comma p) ≡ params_ok where_read comma (items_at ls ids.items)
-    heads-put =
-        heads-some where_read (as_elements binding comma (marked_items p xs.items))
+    params-put : is_some (params_of model xs.items comma p) ≡ params_ok where_read comma (items_at ls ids.items)
+    params-put =
+        params-some where_read (as_elements binding comma (marked_items p xs.items))
         ∙ ap (λ ts. params_ok where_read comma ts) (sym items-put)
 
     pub recast-items : (pats : Vec PatId Global) → RefinedItems model ids.items comma asked pats.items q.productions
@@ -184,9 +185,9 @@ module _ {S H F C K : Type 0} {fg : Ghosts F} {cg : Ghosts C} {kg : Ghosts K} (m
         record {
           checks = record {
             leads = h.leads;
-            passes = λ w. h.passes (sym heads-put ∙ w);
+            passes = λ w. h.passes (sym params-put ∙ w);
             notes = λ v w l. h.notes (ap (λ ts. are_valid ts) items-put
-                ∙ marked-all-valid (marks_of p) (boxed_items fg.place cg.place kg.place xs.items) v) (sym heads-put
+                ∙ marked-all-valid (marks_of p) (boxed_items fg.place cg.place kg.place xs.items) v) (sym params-put
                 ∙ w) l;
           };
           kept = kept-through grows marks floor-put r.kept;
@@ -195,7 +196,7 @@ module _ {S H F C K : Type 0} {fg : Ghosts F} {cg : Ghosts C} {kg : Ghosts K} (m
           is = λ m w.
               from-if (elems_fit Binding comma (items_at ls ids.items)) (pats_at (nodes_of q) pats.items) m
               (sym (ap (λ ts. as_elements binding comma ts) (sym items-put) ∙ r.params)
-              ∙ heads-are where_read (as_elements binding comma (marked_items p xs.items)) m w)
+              ∙ arrow-params-are where_read (as_elements binding comma (marked_items p xs.items)) m w)
               ∙ r.made.stands ∙ ap (λ ts. want_items ts) items-put;
         }
 
@@ -204,7 +205,7 @@ module _ {S H F C K : Type 0} {fg : Ghosts F} {cg : Ghosts C} {kg : Ghosts K} (m
         (params_of model xs.items comma p) (want_items (marked_items p xs.items))
         (λ ns v. pats_at ns v.items) pats_parts p x q
     unrecast-items x r = record {
-      refuses = record { refuses = r.refuses.refuses; unfit = λ n. heads-put ∙ r.refuses.unfit n };
+      refuses = record { refuses = r.refuses.refuses; unfit = λ n. params-put ∙ r.refuses.unfit n };
       kept = kept-through grows marks floor-put r.kept;
     }
 

@@ -7,10 +7,10 @@ use Rattle.swc_input.specs.{Buffer.Known, Buffer.source, Kinds.at_token, Listed.
 use Rattle.swc_ast.specs.Tree.{Trees, erase_all, trees}
 use Rattle.swc_ast.specs.{TreeOf.pat_tree, declared.function.Param.Param, declared.pat.Pat.Pat, declared.spanned.Spanned.Ghosts}
 use Rattle.swc_bodies.specs.Readings.{Hook}
-use Rattle.swc_grammar.specs.{Clean.first, Patterns.all_bind_names, Symbols.Heads, Tokens.is_lparen, Tokens.is_rparen}
+use Rattle.swc_grammar.specs.{Clean.first, Patterns.all_bind_names, Symbols.ArrowParams, Tokens.is_lparen, Tokens.is_rparen}
 use Rattle.swc_laws.specs.Bound.{Spelled, is_free_name, is_kept_name}
 use Rattle.swc_steps.specs.Parsing.{scope, scope_of, Loud}
-use Rattle.swc_ecma_parser.specs.Promise.{Promised, PromisedParams, heads_in_boxes, params_in_boxes, pats_of}
+use Rattle.swc_ecma_parser.specs.Promise.{Promised, PromisedParams, arrow_params_in_boxes, params_in_boxes, pats_of}
 use Rattle.swc_ecma_parser.specs.{Calls.buffer_of, Calls.has_failed, WholeList.IsHeeded, declared.parser.Parser.Parser}
 
 module _ {F C K : Type 0} where
@@ -49,7 +49,7 @@ module _ {H F C K : Type 0} {fg : Ghosts F} {cg : Ghosts C} {kg : Ghosts K} wher
   abbrev pub ReadsArrow : Bool → Hook F C K → Context → Syntax → List TokenAndSpan
       → Result (Vec (Pat F C K) Global) Error → Parser TokensInput H F C K fg cg kg → Type 0
   ReadsArrow sure hook c x ts read q =
-      Fresh (λ a b. Promised listed_model sure hook heads_in_boxes Heads a read b) c x ts q
+      Fresh (λ a b. Promised listed_model sure hook arrow_params_in_boxes ArrowParams a read b) c x ts q
 
   abbrev pub ReadsFormal : Bool → Hook F C K → Context → Syntax → List TokenAndSpan
       → Result (Vec (Param (Pat F C K)) Global) Error → Parser TokensInput H F C K fg cg kg → Type 0

@@ -5,7 +5,7 @@ pub mod Dues
 pub mod Faults
 pub mod Finishing
 pub mod ForHeads
-pub mod Heads
+pub mod ArrowParams
 pub mod Places
 pub mod Promise
 pub mod Refinement

@@ -18,7 +18,7 @@ use Rattle.swc_bodies.specs.Readings.{Hook, Reading}
 use Rattle.swc_grammar.specs.Scope.{Scope}
 use Rattle.swc_grammar.specs.Clean.{first, no_link, no_arrow}
 use Rattle.swc_grammar.specs.Patterns.{any, binds_names, all_bind_names, prop_binds_names}
-use Rattle.swc_grammar.specs.Symbols.{Symbol, Expr, Exprs, Assign, Level, Unary, Lhs, Left, Base, Arguments, Args, ArgsTail, Primary, Literal, Template, Parts, Elements, ElementsTail, Item, Props, PropsTail, Prop, Key, AfterKey, Shell, Pat, Element, Rest, PatElements, PatElementsTail, PatProps, PatPropsTail, PatProp, Params, ParamsTail, Heads, ArrowBody}
+use Rattle.swc_grammar.specs.Symbols.{Symbol, Expr, Exprs, Assign, Level, Unary, Lhs, Left, Base, Arguments, Args, ArgsTail, Primary, Literal, Template, Parts, Elements, ElementsTail, Item, Props, PropsTail, Prop, Key, AfterKey, Shell, Pat, Element, Rest, PatElements, PatElementsTail, PatProps, PatPropsTail, PatProp, Params, ParamsTail, ArrowParams, ArrowBody}
 use Rattle.swc_grammar.specs.Reads.{Reads, ReadsUnmarked, Stops}
 use Rattle.swc_grammar.specs.Names.{Spelling, NameKind, Reference, ReadsName}
 use Rattle.swc_grammar.specs.Tokens.{ends_prop, is_rparen, may_be_reference}
@@ -65,7 +65,7 @@ EndsAt (Arguments i) ys = Unit {0}
 EndsAt (Template is_tagged) ys = Unit {0}
 EndsAt Pat ys = Unit {0}
 EndsAt Rest ys = Unit {0}
-EndsAt Heads ys = Unit {0}
+EndsAt ArrowParams ys = Unit {0}
 EndsAt Prop ys = at_token ends_prop (first ys) ≡ true
 EndsAt Expr ys = Stops Expr ys
 EndsAt Assign ys = Stops Assign ys
@@ -136,8 +136,7 @@ module _ {S T A : Type 0} (model : Model S) (derives : Derivation A) (view : T �
     pub read : Read model b consumed c
     pub alone : stops [] → (u : A) → derives (scope model b) consumed [] u → u ≡ t
     pub before : (ys : List TokenAndSpan) → Future model c ys → stops ys → (u : A)
-        → derives (scope model b) (consumed ++ ys) ys u
-        → u ≡ t
+        → derives (scope model b) (consumed ++ ys) ys u → u ≡ t
 
   -- Where no fault was recorded, nothing is derived from the tokens consumed but the answer.
   abbrev pub OneTree : (List TokenAndSpan → Type 0) → Buffer S → Result T Error → Buffer S → Type 0
@@ -295,9 +294,9 @@ list_in_boxes {fg = fg} {cg = cg} {kg = kg} = record {
 }
 
 -- the parameters of an arrow function in boxes, without the place of the list
-abbrev pub heads_in_boxes : {F C K : Type 0} {fg : Ghosts F} {cg : Ghosts C} {kg : Ghosts K}
+abbrev pub arrow_params_in_boxes : {F C K : Type 0} {fg : Ghosts F} {cg : Ghosts C} {kg : Ghosts K}
     → Answer (Vec (PatOf F C K) Global) F C K fg cg kg
-heads_in_boxes {F} {C} {K} {fg = fg} {cg = cg} {kg = kg} = record {
+arrow_params_in_boxes {F} {C} {K} {fg = fg} {cg = cg} {kg = kg} = record {
   tree = λ ns ps. pats_tree (pat_tree F C K fg.place cg.place kg.place) ps;
   derives = λ hook s. Finished covers_done (ReadsAs only_items hook s);
   marked = λ hook s. ReadsAs keep_items hook s;
@@ -309,8 +308,7 @@ heads_in_boxes {F} {C} {K} {fg = fg} {cg = cg} {kg = kg} = record {
 -- number, which
 -- tree it stands for and which part it is.
 abbrev pub numbered : {N F C K : Type 0} {fg : Ghosts F} {cg : Ghosts C} {kg : Ghosts K}
-    → (Nodes F C K fg cg kg → N → Tree F C K)
-    → (N → Part) → Answer N F C K fg cg kg
+    → (Nodes F C K fg cg kg → N → Tree F C K) → (N → Part) → Answer N F C K fg cg kg
 numbered tree part = record {
   tree = λ ns id. tree ns id;
   derives = λ hook s. Finished covers_done (Reads hook s);
@@ -329,8 +327,7 @@ pat_by_number = numbered pat_at pat_part
 
 -- Nodes were appended alone, in which the parts of the answer lie apart, or after a refusal none.
 abbrev pub AddsParts : {N F C K : Type 0} {fg : Ghosts F} {cg : Ghosts C} {kg : Ghosts K} → (N → List Part)
-    → Nodes F C K fg cg kg
-    → Result N Error → Nodes F C K fg cg kg → Type 0
+    → Nodes F C K fg cg kg → Result N Error → Nodes F C K fg cg kg → Type 0
 AddsParts parts ns r ms = MatchResult r (λ x. Grows ns ms × Apart (count ns) ms (parts x)) (λ e. SameNodes ns ms)
 
 -- a key by the numbers in it, and the parameters of an arrow function by theirs, without the place of the list
@@ -344,9 +341,9 @@ key_by_number = record {
   leaves = AddsParts key_parts;
 }
 
-abbrev pub heads_by_number : {F C K : Type 0} {fg : Ghosts F} {cg : Ghosts C} {kg : Ghosts K}
+abbrev pub arrow_params_by_number : {F C K : Type 0} {fg : Ghosts F} {cg : Ghosts C} {kg : Ghosts K}
     → Answer (Vec PatId Global) F C K fg cg kg
-heads_by_number = record {
+arrow_params_by_number = record {
   tree = λ ns ps. pats_tree (pat_at ns) ps;
   derives = λ hook s. Finished covers_done (ReadsAs keep_items hook s);
   marked = λ hook s. ReadsAs keep_items hook s;

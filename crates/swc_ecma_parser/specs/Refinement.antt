@@ -7,7 +7,7 @@ use Rattle.swc_input.specs.{Source.Model, declared.buffer.Buffer.Buffer}
 use Rattle.swc_ast.specs.Tree.{Tree, Trees, trees}
 use Rattle.swc_ast.specs.Trees.{is_valid, are_valid, unmarked, all_unmarked}
 use Rattle.swc_ast.specs.{Parts.item_trees, TreeOf.pat_tree, declared.expr.Expr.Expr, declared.expr.ExprOrSpread.ExprOrSpread, declared.pat.Pat.Pat, declared.spanned.Spanned.Ghosts}
-use Rattle.swc_grammar.specs.Cover.{binding, as_elements, heads_ok}
+use Rattle.swc_grammar.specs.Cover.{binding, as_elements, arrow_params_ok}
 use Rattle.swc_nodes.specs.Marking.{Marker, marked_by, all_marked_by}
 use Rattle.swc_nodes.specs.GrowingNodes.{count, Apart, SameNodes}
 use Rattle.swc_nodes.specs.{Commas.comma_at, NodeParts.Part, declared.nodes.Nodes.Nodes}
@@ -54,12 +54,12 @@ pub record PromisedRefinement {S H T A F C K : Type 0} {fg : Ghosts F} {cg : Gho
 
 -- the parameters that items in parentheses are, where a comma is after them or none, and they bind what they may
 -- in the context
-abbrev pub heads_among : {F C K : Type 0} → Context → Option (Trees F C K) → Option (Trees F C K)
-heads_among c None = None
-heads_among c (Some ps) = if heads_ok c ps then Some ps else None
+abbrev pub params_among : {F C K : Type 0} → Context → Option (Trees F C K) → Option (Trees F C K)
+params_among c None = None
+params_among c (Some ps) = if arrow_params_ok c ps then Some ps else None
 
-abbrev pub heads_as : {F C K : Type 0} → Context → Option Span → Trees F C K → Option (Trees F C K)
-heads_as c comma ts = heads_among c (as_elements binding comma ts)
+abbrev pub params_as : {F C K : Type 0} → Context → Option Span → Trees F C K → Option (Trees F C K)
+params_as c comma ts = params_among c (as_elements binding comma ts)
 
 -- the items of a list in boxes, where the hook's values lie at the places given
 abbrev pub boxed_items : {F C K : Type 0} → (F → Span) → (C → Span) → (K → Span)
@@ -85,7 +85,7 @@ module _ {S H F C K : Type 0} {fg : Ghosts F} {cg : Ghosts C} {kg : Ghosts K} wh
 
   abbrev pub params_of : Model S → List (ExprOrSpread (Box (Expr F C K) Global)) → Option Span
       → Parser S H F C K fg cg kg → Option (Trees F C K)
-  params_of model xs comma p = heads_as (context model (buffer_of p)) comma (marked_items p xs)
+  params_of model xs comma p = params_as (context model (buffer_of p)) comma (marked_items p xs)
 
   -- what is wrong of it, and of items in parentheses the names that they bind in strict code and may not
   abbrev pub verdict_of : Model S → PatType → Box (Expr F C K) Global → Parser S H F C K fg cg kg → Verdict

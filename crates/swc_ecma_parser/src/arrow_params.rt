@@ -1,7 +1,7 @@
 // The parameters of an arrow function by themselves, from their parenthesis on.
 ghost use Rattle.swc_nodes.specs.GrowingNodes.{count};
 ghost use Rattle.swc_steps.specs.Parsing.{Produces};
-ghost use Rattle.swc_ecma_parser.specs.Heads.{heads_items, heads_of, heads_at};
+ghost use Rattle.swc_ecma_parser.specs.ArrowParams.{params_items, arrow_params_of, arrow_params_at};
 
 use swc_bodies::bodies::Bodies;
 use swc_context::error::PResult;
@@ -17,7 +17,7 @@ pub(crate) fn parse_arrow_params<I: Tokens, B: Bodies<I>>(
     p: &mut Productions<I, B>,
     room: usize,
 ) -> PResult<Vec<PatId>>
-    ensures { Produces I.model B.is_faithful heads_of heads_at (heads_items B.forms) (count p.old.nodes)
+    ensures { Produces I.model B.is_faithful arrow_params_of arrow_params_at (params_items B.forms) (count p.old.nodes)
         p.old result p.new }
 {
     let list = parse_arguments(p, room, false)?;

@@ -44,7 +44,7 @@ module _ {F C K : Type 0} (hook : Hook F C K) where
   name_arrow = refl
 
   -- (a, [b], {c = 1}) => d
-  heads_arrow : answer hook script
+  params_arrow : answer hook script
       (open_at 0 1 ∷ a 1 2 ∷ comma_at 2 3 ∷ bracket_at 4 5 ∷ b 5 6 ∷ unbracket_at 6 7 ∷ comma_at 7 8 ∷ brace_at 9 10
       ∷ c 10 11
       ∷ equals_at 12 13 ∷ one 14 15 ∷ unbrace_at 15 16 ∷ close_at 16 17 ∷ to_at 18 20 ∷ d 21 22 ∷ [])
@@ -56,7 +56,7 @@ module _ {F C K : Type 0} (hook : Hook F C K) where
         [],
       )
   unfolding answer
-  heads_arrow = refl
+  params_arrow = refl
 
   -- () => a, and in a script (await) => a and (eval) => a
   no_params : (t : Tree F C K) × (answer hook script (open_at 0 1 ∷ close_at 1 2 ∷ to_at 3 5 ∷ a 6 7 ∷ [])

@@ -145,7 +145,7 @@ module _ {F C K : Type 0} (hook : Hook F C K) where
   eval_module = refl
 
   -- async (a, [b]) => a
-  heads_arrow : answer hook script
+  params_arrow : answer hook script
       (async ∷ open_at 6 7 ∷ a 7 8 ∷ comma_at 8 9 ∷ bracket_at 10 11 ∷ b 11 12 ∷ unbracket_at 12 13 ∷ close_at 13 14
       ∷ to_at 15 17 ∷ a 18 19 ∷ [])
       ≡ Some (
@@ -154,7 +154,7 @@ module _ {F C K : Type 0} (hook : Hook F C K) where
         [],
       )
   unfolding answer
-  heads_arrow = refl
+  params_arrow = refl
 
   -- async ({a = 1}) => a, async (...a) => a, async () => await a
   cover_arrow : (t : Tree F C K) × (answer hook script

@@ -21,9 +21,9 @@ use Rattle.swc_ast.specs.Trees.{new_e, items_of, trees_append, to}
 use Rattle.swc_bodies.specs.Readings.{Hook, is_async}
 use Rattle.swc_grammar.specs.Scope.{Scope, at_head, inner}
 use Rattle.swc_grammar.specs.Tokens.{with_in, is_lparen, is_lbracket, tk}
-use Rattle.swc_grammar.specs.Symbols.{Symbol, Expr, Exprs, Assign, Level, Unary, Lhs, Left, Arguments, Args, ArgsTail, Primary, Literal, Template, Parts, Base, Elements, ElementsTail, Item, Props, PropsTail, Prop, Key, AfterKey, Shell, Answer, Side, Heads, ArrowBody, Pat, Element, Rest, PatElements, PatElementsTail, PatProps, PatPropsTail, PatProp, Params, ParamsTail}
+use Rattle.swc_grammar.specs.Symbols.{Symbol, Expr, Exprs, Assign, Level, Unary, Lhs, Left, Arguments, Args, ArgsTail, Primary, Literal, Template, Parts, Base, Elements, ElementsTail, Item, Props, PropsTail, Prop, Key, AfterKey, Shell, Answer, Side, ArrowParams, ArrowBody, Pat, Element, Rest, PatElements, PatElementsTail, PatProps, PatPropsTail, PatProp, Params, ParamsTail}
 use Rattle.swc_grammar.specs.Parts.{any_name, lit_of, update_here, assign_here, operator_here}
-use Rattle.swc_grammar.specs.Grammar.{Production, lit, unary-left, unary-op, exp-unary, left-base, member-name, heads, member-private, member-computed, call, lhs-left, new-bare, left-new, chain-name, chain-private, chain-computed, chain-call, tagged-tpl, arguments, template, exp-op, shell-block, level-up, bin-op, assign-level, update-postfix, arrow-name, update-prefix, await-expr, await-ident, cond-expr, assign-expr, yield-alone, yield-expr, yield-star, exprs-one, exprs-more, seq-expr, assign-pattern, element-pat, element-default, pat-rest, arrow-heads, arrow-async-name, private-in, arrow-async-heads}
+use Rattle.swc_grammar.specs.Grammar.{Production, lit, unary-left, unary-op, exp-unary, left-base, member-name, covered-params, member-private, member-computed, call, lhs-left, new-bare, left-new, chain-name, chain-private, chain-computed, chain-call, tagged-tpl, arguments, template, exp-op, shell-block, level-up, bin-op, assign-level, update-postfix, arrow-name, update-prefix, await-expr, await-ident, cond-expr, assign-expr, yield-alone, yield-expr, yield-star, exprs-one, exprs-more, seq-expr, assign-pattern, element-pat, element-default, pat-rest, arrow-params, arrow-async-name, private-in, arrow-async-params}
 use Rattle.swc_grammar.specs.Reads.{Reads}
 use Rattle.swc_grammar.specs.Clean.{first, sym, links, exec, constructs, no_link, call_args, args, args_tail, tpl, parts, base, updates, assigns, seqs, no_update_at, ends_unary, no_assign_at, plan, update_tail, cond_tail, assign_tail, Stop, primary, literal, elements, arrow_tail, elements_tail, item, props, props_tail, prop, key, after_key, shell, run, no_arrow, defaults, default_tail, pick, pat, pat_elements, pat_tail, pat_props, pattern_tail, pat_props_tail, pat_prop, params, params_tail, arrow_block, async_arrow_tail}
 use Rattle.swc_grammar.specs.Cover.{as_literal, as_params, is_pattern}
@@ -39,8 +39,8 @@ use Rattle.swc_grammar.proofs.Complete.LeftSides.{any-link, no-paren, links-take
 use Rattle.swc_grammar.proofs.Complete.Operators.{private-reads, operand-climbs, op-reads, exp-reads, signed, operand-reads, updates-end, update-link}
 use Rattle.swc_grammar.proofs.Complete.Assignments.{no-dot-expr, yielded, level-reads, assigns-end, question-ends, question-bound, assign-token, target-apart, assign-no-arrow, equals-plain, pattern-apart, target-no-pattern}
 use Rattle.swc_grammar.proofs.Complete.Patterns.{picked-pat, picked-pat-elements, picked-pat-tail, picked-pat-props, picked-pat-props-tail, picked-pat-prop, picked-params, picked-params-tail, ready-pat, ready-pat-elements, ready-pat-tail, ready-pat-props, ready-pat-props-tail, ready-pat-prop, ready-params, ready-params-tail, element-reads, no-equals}
-use Rattle.swc_grammar.proofs.Complete.Arrows.{here-arrow, line-arrow, body-bound, heads-reads, picked-body, ready-body}
-use Rattle.swc_grammar.proofs.Complete.Asyncs.{async-heads-parts, lparen-next, lparen-here, async-heads-reads}
+use Rattle.swc_grammar.proofs.Complete.Arrows.{here-arrow, line-arrow, body-bound, params-reads, picked-body, ready-body}
+use Rattle.swc_grammar.proofs.Complete.Asyncs.{async-params-parts, lparen-next, lparen-here, async-params-reads}
 use Rattle.swc_grammar.proofs.{Good.good, Answers.both, Answers.only, Firsts.begins, Firsts.update-first, Knot.knot, Levels.bound-above}
 pub use Rattle.swc_grammar.proofs.Complete.Stops.{stops-assign, stops-expr, stops-unary, stops-level, stops-element, stops-pat-prop}
 pub use Rattle.swc_grammar.proofs.Complete.Sides.{last, picks, picks-as}
@@ -266,29 +266,29 @@ module _ {F C K : Type 0} (hook : Hook F C K) where
       (λ e j. ready-given _ _ (as_literal c.context.strict l) _ (λ y k. (refl, λ r. (stop, tt)))))
   claim-by arrow-name d = yielded hook arrow-name refl d
   claim-by arrow-async-name d = yielded hook arrow-async-name refl d
-  claim-by {c = c} {ys = ys} {t = t} arrow-async-heads (ran-took {a = a} {xs = us} w) = λ stop.
-      let (n, i, (l, hs, ms, dh, k, w2)) = async-heads-parts hook c a us w in
-      lparen-next hook (λ v. run hook (sym Heads) c v ≡ Some (hs, ms) → run hook (sym Assign) c (a ∷ v)
+  claim-by {c = c} {ys = ys} {t = t} arrow-async-params (ran-took {a = a} {xs = us} w) = λ stop.
+      let (n, i, (l, hs, ms, dh, k, w2)) = async-params-parts hook c a us w in
+      lparen-next hook (λ v. run hook (sym ArrowParams) c v ≡ Some (hs, ms) → run hook (sym Assign) c (a ∷ v)
       ≡ Some (t, ys)) us
       (lparen-here hook us l (begins dh))
-      (λ s vs h. async-heads-reads hook c a s vs ms ys n hs t i h
+      (λ s vs h. async-params-reads hook c a s vs ms ys n hs t i h
       (here-arrow (first ms) (line-arrow hook (forget hook w2)))
       (side-reads hook {r = async_arrow_tail c n hs} (Some 2) w2
       (λ b x y. (refl, λ e. (λ q. (stop.0, body-bound hook c true ys stop.1), tt))))) (k tt)
-  claim-by {c = c} {ys = ys} {t = t} arrow-heads (ran-part {e = hs} {xs = xs} {ms = ms} dh k w) = λ stop.
-      starting (λ v. run hook (sym Heads) c v ≡ Some (hs, ms) → run hook (sym Assign) c v ≡ Some (t, ys))
+  claim-by {c = c} {ys = ys} {t = t} arrow-params (ran-part {e = hs} {xs = xs} {ms = ms} dh k w) = λ stop.
+      starting (λ v. run hook (sym ArrowParams) c v ≡ Some (hs, ms) → run hook (sym Assign) c v ≡ Some (t, ys))
       is_lparen xs (begins dh)
-      (λ a us h. subst (λ v. run hook (sym Heads) c (tk v a.had_line_break a.span ∷ us) ≡ Some (hs, ms)
+      (λ a us h. subst (λ v. run hook (sym ArrowParams) c (tk v a.had_line_break a.span ∷ us) ≡ Some (hs, ms)
       → run hook (sym Assign) c (tk v a.had_line_break a.span ∷ us) ≡ Some (t, ys)) (sym_path (lparen-is a.token h))
-      (λ i. heads-reads hook c a.had_line_break a.span us ms ys hs t i
+      (λ i. params-reads hook c a.had_line_break a.span us ms ys hs t i
       (here-arrow (first ms) (line-arrow hook (forget hook w)))
       (side-reads hook {r = arrow_tail c hs} (Some 2) w
       (λ b x y. (refl, λ e. (λ n. (stop.0, body-bound hook c false ys stop.1), tt)))))) (k tt)
   claim-by {s = ArrowBody is_async} {c = c} {xs = xs} {ys = ys} p d = λ stop.
       picks hook (ArrowBody is_async) c xs p (arrow_block is_async c xs) refl (picked-body hook p (forget hook d))
       (side-reads hook (Some 15) d (ready-body hook {c = c} ys stop p))
-  claim-by {c = c} {xs = xs} {ys = ys} heads d = λ stop.
-      picks hook Heads c xs (heads {c = c}) (pick heads) refl refl
+  claim-by {c = c} {xs = xs} {ys = ys} covered-params d = λ stop.
+      picks hook ArrowParams c xs (covered-params {c = c}) (pick covered-params) refl refl
       (side-reads hook (Some 2) d (λ a h. (
         refl,
         λ es. (

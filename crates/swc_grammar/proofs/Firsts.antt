@@ -11,7 +11,7 @@ use Rattle.swc_grammar.specs.Symbols.{Symbol, Answer, Body, Value, begins_body, 
 use Rattle.swc_grammar.specs.Names.{Spelling, may_refer, may_bind}
 use Rattle.swc_grammar.specs.Tokens.{prefix_of, is_reference, ref_ok, is_put_off, is_comma, is_rbracket, is_lbracket, is_dots, is_rbrace, is_colon, is_lparen, is_rparen, is_star, is_word, is_get, is_set, is_new, is_super, is_import, is_slash, is_update, is_await, is_yield, yield_ok, opening, is_operand_opening, is_yield_opening}
 use Rattle.swc_grammar.specs.Parts.{reference, binding, any_name, lit_of, regex_of, text_of, key_lit_of, with_place, prefix_here, update_here}
-use Rattle.swc_grammar.specs.Grammar.{Production, ident-expr, lit, paren-expr, unary-left, unary-op, exp-unary, base-primary, super-name, super-computed, super-call, import-meta, import-call, import-source, left-base, member-name, member-private, member-computed, call, args-end, args-more, args-tail-end, args-tail-more, lhs-left, new-bare, left-new, new-target, chain-name, chain-private, chain-computed, chain-call, tagged-tpl, arguments, primary-template, template, parts-end, parts-more, regex-alone, regex-slash, exp-op, primary-literal, this-expr, array-lit, elements-end, elements-hole, elements-more, tail-end, tail-more, item-expr, item-spread, fn-expr, class-expr, object-lit, props-end, props-more, props-tail-end, props-tail-more, prop-spread, prop-short, prop-cover, prop-key, prop-generator, prop-async, prop-async-generator, prop-getter, prop-setter, after-value, after-shell, shell-block, key-name, key-literal, key-computed, level-up, bin-op, private-expr, private-in, assign-level, update-postfix, update-prefix, await-expr, await-ident, cond-expr, assign-expr, yield-alone, yield-expr, yield-star, exprs-one, exprs-more, seq-expr, pat-bind, pat-array, pat-object, element-pat, element-default, pat-rest, pat-elements-end, pat-elements-hole, pat-elements-more, pat-elements-rest, pat-tail-end, pat-tail-more, pat-props-end, pat-props-more, pat-props-rest, pat-props-tail-end, pat-props-tail-more, pat-prop-key, pat-prop-short, pat-prop-default, params-end, params-more, params-rest, params-tail-end, params-tail-more, assign-pattern, heads, async-ident, async-call, arrow-async-name, arrow-async-heads, arrow-name, arrow-heads, body-block, body-expr}
+use Rattle.swc_grammar.specs.Grammar.{Production, ident-expr, lit, paren-expr, unary-left, unary-op, exp-unary, base-primary, super-name, super-computed, super-call, import-meta, import-call, import-source, left-base, member-name, member-private, member-computed, call, args-end, args-more, args-tail-end, args-tail-more, lhs-left, new-bare, left-new, new-target, chain-name, chain-private, chain-computed, chain-call, tagged-tpl, arguments, primary-template, template, parts-end, parts-more, regex-alone, regex-slash, exp-op, primary-literal, this-expr, array-lit, elements-end, elements-hole, elements-more, tail-end, tail-more, item-expr, item-spread, fn-expr, class-expr, object-lit, props-end, props-more, props-tail-end, props-tail-more, prop-spread, prop-short, prop-cover, prop-key, prop-generator, prop-async, prop-async-generator, prop-getter, prop-setter, after-value, after-shell, shell-block, key-name, key-literal, key-computed, level-up, bin-op, private-expr, private-in, assign-level, update-postfix, update-prefix, await-expr, await-ident, cond-expr, assign-expr, yield-alone, yield-expr, yield-star, exprs-one, exprs-more, seq-expr, pat-bind, pat-array, pat-object, element-pat, element-default, pat-rest, pat-elements-end, pat-elements-hole, pat-elements-more, pat-elements-rest, pat-tail-end, pat-tail-more, pat-props-end, pat-props-more, pat-props-rest, pat-props-tail-end, pat-props-tail-more, pat-prop-key, pat-prop-short, pat-prop-default, params-end, params-more, params-rest, params-tail-end, params-tail-more, assign-pattern, covered-params, async-ident, async-call, arrow-async-name, arrow-async-params, arrow-name, arrow-params, body-block, body-expr}
 use Rattle.swc_grammar.specs.Reads.{Reads, by, Follows, gave, took, held, calm, part, heard, calm-two}
 use Rattle.swc_grammar.specs.Clean.{first, is_lit, is_identifier, is_alone}
 use Rattle.swc_grammar.specs.Firsts.{is_first, starts, begins_primary, begins_left, is_left_word, begins_operand, begins_expression, begins_key, begins_prop, is_text_token, begins_pat, is_name_bound}
@@ -456,19 +456,19 @@ module _ {F C K : Type 0} where
       or-left (begins_pat c t || is_dots t) (is_rparen t) (or-right (begins_pat c t) (is_dots t) h)
   opens (params-tail-end {c = c}) = λ a h. rw (rparen-is a.token h) refl
   opens (params-tail-more {c = c}) = λ a h. rw (comma-is a.token h) refl
-  opens heads = λ a h. h
+  opens covered-params = λ a h. h
   opens (arrow-name {c = c}) = λ a. under-given _ (arrow_name c a.token a.span) _
       (λ n h. expression-operand c a.token (operand-left c a.token
       (or-left (begins_primary c a.token) (is_left_word a.token)
       (alone-first c a.token (arrow-alone c a.token a.span n h)))))
-  opens (arrow-heads {c = c}) =
+  opens (arrow-params {c = c}) =
       λ t h. expression-operand c t (operand-left c t (or-left (begins_primary c t) (is_left_word t)
       (by-first c t (rw (lparen-is t h) refl))))
   opens (arrow-async-name {c = c}) = λ a. under-given _ (async_name c a.token a.span) _
       (λ n h. expression-operand c a.token (operand-left c a.token
       (or-left (begins_primary c a.token) (is_left_word a.token)
       (async-first c a.token a.span n h))))
-  opens (arrow-async-heads {c = c}) = λ a. under-given _ (async_name c a.token a.span) _
+  opens (arrow-async-params {c = c}) = λ a. under-given _ (async_name c a.token a.span) _
       (λ n h. expression-operand c a.token (operand-left c a.token
       (or-left (begins_primary c a.token) (is_left_word a.token)
       (async-first c a.token a.span n h))))
@@ -616,13 +616,13 @@ module _ {F C K : Type 0} where
   leads params-rest = tt
   leads params-tail-end = tt
   leads params-tail-more = tt
-  leads heads = tt
+  leads covered-params = tt
   leads arrow-name = tt
-  leads arrow-heads = tt
+  leads arrow-params = tt
   leads async-ident = tt
   leads async-call = tt
   leads arrow-async-name = tt
-  leads arrow-async-heads = tt
+  leads arrow-async-params = tt
   leads body-block = tt
   leads body-expr = tt
 

@@ -13,7 +13,7 @@ use Rattle.swc_grammar.specs.Scope.{Scope}
 use Rattle.swc_grammar.specs.Rule.{Rule, gives, never, take, check, peek, peek_two, read, hear, given, ◌>>=◌}
 use Rattle.swc_grammar.specs.Symbols.{Symbol, Expr, Level, Unary, Lhs, Left, Base, Primary, Literal, Template, Parts, Prop, Key, AfterKey, Answer, Body, Value, Side}
 use Rattle.swc_grammar.specs.Parts.{reference, any_name, lit_of, regex_of, flags_ok, cooked_of, text_by, text_of, key_lit_of, prefix_here, update_here, assign_here, operator_here, binding}
-use Rattle.swc_grammar.specs.Grammar.{Production, ident-expr, lit, paren-expr, unary-left, unary-op, exp-unary, base-primary, super-name, super-computed, super-call, import-meta, import-call, import-source, left-base, member-name, member-private, member-computed, call, args-end, args-more, args-tail-end, args-tail-more, lhs-left, new-bare, left-new, new-target, chain-name, chain-private, chain-computed, chain-call, tagged-tpl, arguments, primary-template, template, parts-end, parts-more, regex-alone, regex-slash, exp-op, primary-literal, this-expr, array-lit, elements-end, elements-hole, elements-more, tail-end, tail-more, item-expr, item-spread, fn-expr, class-expr, object-lit, props-end, props-more, props-tail-end, props-tail-more, prop-spread, prop-short, prop-cover, prop-key, prop-generator, prop-async, prop-async-generator, prop-getter, prop-setter, after-value, after-shell, shell-block, key-name, key-literal, key-computed, level-up, bin-op, private-expr, private-in, assign-level, update-postfix, update-prefix, await-expr, await-ident, cond-expr, assign-expr, yield-alone, yield-expr, yield-star, exprs-one, exprs-more, seq-expr, pat-bind, pat-array, pat-object, element-pat, element-default, pat-rest, pat-elements-end, pat-elements-hole, pat-elements-more, pat-elements-rest, pat-tail-end, pat-tail-more, pat-props-end, pat-props-more, pat-props-rest, pat-props-tail-end, pat-props-tail-more, pat-prop-key, pat-prop-short, pat-prop-default, params-end, params-more, params-rest, params-tail-end, params-tail-more, async-ident, async-call, arrow-async-name, arrow-async-heads, arrow-name, arrow-heads, body-block, body-expr, assign-pattern, heads}
+use Rattle.swc_grammar.specs.Grammar.{Production, ident-expr, lit, paren-expr, unary-left, unary-op, exp-unary, base-primary, super-name, super-computed, super-call, import-meta, import-call, import-source, left-base, member-name, member-private, member-computed, call, args-end, args-more, args-tail-end, args-tail-more, lhs-left, new-bare, left-new, new-target, chain-name, chain-private, chain-computed, chain-call, tagged-tpl, arguments, primary-template, template, parts-end, parts-more, regex-alone, regex-slash, exp-op, primary-literal, this-expr, array-lit, elements-end, elements-hole, elements-more, tail-end, tail-more, item-expr, item-spread, fn-expr, class-expr, object-lit, props-end, props-more, props-tail-end, props-tail-more, prop-spread, prop-short, prop-cover, prop-key, prop-generator, prop-async, prop-async-generator, prop-getter, prop-setter, after-value, after-shell, shell-block, key-name, key-literal, key-computed, level-up, bin-op, private-expr, private-in, assign-level, update-postfix, update-prefix, await-expr, await-ident, cond-expr, assign-expr, yield-alone, yield-expr, yield-star, exprs-one, exprs-more, seq-expr, pat-bind, pat-array, pat-object, element-pat, element-default, pat-rest, pat-elements-end, pat-elements-hole, pat-elements-more, pat-elements-rest, pat-tail-end, pat-tail-more, pat-props-end, pat-props-more, pat-props-rest, pat-props-tail-end, pat-props-tail-more, pat-prop-key, pat-prop-short, pat-prop-default, params-end, params-more, params-rest, params-tail-end, params-tail-more, async-ident, async-call, arrow-async-name, arrow-async-params, arrow-name, arrow-params, body-block, body-expr, assign-pattern, covered-params}
 use Rattle.swc_grammar.specs.Reads.{Reads, by, Follows, gave, took, held, calm, part, heard, calm-two}
 use Rattle.swc_grammar.specs.Arrows.{arrow_name, async_name, async_param}
 use Rattle.swc_grammar.specs.Cover.{as_literal, as_params, binding as binding_role}
@@ -541,18 +541,18 @@ module _ {F C K : Type 0} where
   keeps params-tail-more = λ a h es g. looser (omega arith) g
   keeps (arrow-name {c = c}) = λ a. keeps-given _ (arrow_name c a.token a.span) _
       (λ n h b x y e g. leaf _ (rw g.valid refl) refl (rw g.grouped refl) (omega arith))
-  keeps arrow-heads = λ hs g a x y e d.
+  keeps arrow-params = λ hs g a x y e d.
       leaf _ (rw (d.valid, items-valid hs g.valid) refl) refl (rw (d.grouped, items-grouped hs g.grouped) refl)
       (omega arith)
   keeps (arrow-async-name {c = c}) = λ a. keeps-given _ (async_name c a.token a.span) _
       (λ m j b l. keeps-given _ (async_param c b.token b.span) _
       (λ n h x y e d. leaf _ (rw d.valid refl) refl (rw d.grouped refl) (omega arith)))
-  keeps (arrow-async-heads {c = c}) = λ b. keeps-given _ (async_name c b.token b.span) _ (λ m j hs g a x y e d.
+  keeps (arrow-async-params {c = c}) = λ b. keeps-given _ (async_name c b.token b.span) _ (λ m j hs g a x y e d.
       leaf _ (rw (d.valid, items-valid hs g.valid) refl) refl (rw (d.grouped, items-grouped hs g.grouped) refl)
       (omega arith))
   keeps body-block = λ v s. leaf _ refl refl refl (omega arith)
   keeps body-expr = λ e g. looser (omega arith) g
-  keeps heads = λ a h es g. keeps-given _ (as_params es) _
+  keeps covered-params = λ a h es g. keeps-given _ (as_params es) _
       (λ ps k w. let z = elements-kept binding_role (comma_of es) (items_of es) ps k
       (items-valid es g.valid, items-grouped es g.grouped) in
       leaf _ z.0 refl z.1 (omega arith))

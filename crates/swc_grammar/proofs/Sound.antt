@@ -13,11 +13,11 @@ use Rattle.swc_grammar.specs.Scope.{Scope, with_head, at_head, inner}
 use Rattle.swc_grammar.specs.Rule.{gives, never, take, check, peek, read, hear, sees, given, ◌>>=◌, peek_two, sees_two}
 use Rattle.swc_grammar.specs.Tokens.{with_in, binary_of, is_power, is_lparen, is_new, is_update, is_await, is_question, is_assign, is_comma, is_equals, is_in, binary_where}
 use Rattle.swc_grammar.specs.Parts.{operator_here, any_name, private_ok}
-use Rattle.swc_grammar.specs.Symbols.{Symbol, Expr, Exprs, Assign, Level, Unary, Lhs, Left, Arguments, Args, ArgsTail, Primary, Literal, Template, Parts, Base, Heads, ArrowBody, Elements, ElementsTail, Item, Props, PropsTail, Prop, Key, AfterKey, Shell, Answer, Body, Value, reading_of, Side, Pat, Element, Rest, PatElements, PatElementsTail, PatProps, PatPropsTail, PatProp, Params, ParamsTail}
-use Rattle.swc_grammar.specs.Grammar.{exp-unary, exp-op, level-up, bin-op, lhs-left, left-base, new-bare, left-new, unary-left, update-postfix, update-prefix, unary-op, assign-level, cond-expr, assign-expr, exprs-one, exprs-more, seq-expr, assign-pattern, heads, async-call, element-pat, element-default, pat-rest, arrow-async-name, arrow-async-heads, arrow-name, arrow-heads, base-primary, paren-expr, private-in}
+use Rattle.swc_grammar.specs.Symbols.{Symbol, Expr, Exprs, Assign, Level, Unary, Lhs, Left, Arguments, Args, ArgsTail, Primary, Literal, Template, Parts, Base, ArrowParams, ArrowBody, Elements, ElementsTail, Item, Props, PropsTail, Prop, Key, AfterKey, Shell, Answer, Body, Value, reading_of, Side, Pat, Element, Rest, PatElements, PatElementsTail, PatProps, PatPropsTail, PatProp, Params, ParamsTail}
+use Rattle.swc_grammar.specs.Grammar.{exp-unary, exp-op, level-up, bin-op, lhs-left, left-base, new-bare, left-new, unary-left, update-postfix, update-prefix, unary-op, assign-level, cond-expr, assign-expr, exprs-one, exprs-more, seq-expr, assign-pattern, covered-params, async-call, element-pat, element-default, pat-rest, arrow-async-name, arrow-async-params, arrow-name, arrow-params, base-primary, paren-expr, private-in}
 use Rattle.swc_grammar.specs.Reads.{Hears, Reads, by, Follows, gave, took, held, calm, part, heard, calm-two}
-use Rattle.swc_grammar.specs.Clean.{first, Call, sym, links, climb, Ans, Plan, plan, Runs, rank_of, rank, allowed, exec, constructs, Link, no_more, more, linked, link, base, constructed, constructed_with, defaults, default_tail, pat, pat_elements, pat_tail, pat_props, asyncs, async_head, pat_props_tail, pat_prop, params, params_tail, async_heads_tail, async_arrow_tail, begins_new, lhs, call_args, args, args_tail, tpl, parts, behind_base, parens, updates, assigns, seqs, second, begins_yield, no_update_at, no_error, prefix_at, update_tail, cond_tail, assign_tail, exprs_next, exprs_tail, yield_by, await_by, unary_by, operator_at, Bound, Choice, none, pick, chosen, expr, assign, unary, heads_tail, primary, literal, elements, elements_tail, item, props, props_tail, prop, key, after_key, shell, begins_async_name, begins_async_list, arrow_tail, paren_tail, turn, turned, step, run_at, measure, run, listed_head, begins_arrow, arrow_block, assigned, pattern_tail, writes_tail, pick_apart, begins_private, private_operand}
-use Rattle.swc_grammar.specs.Cover.{is_pattern, as_params, heads_ok}
+use Rattle.swc_grammar.specs.Clean.{first, Call, sym, links, climb, Ans, Plan, plan, Runs, rank_of, rank, allowed, exec, constructs, Link, no_more, more, linked, link, base, constructed, constructed_with, defaults, default_tail, pat, pat_elements, pat_tail, pat_props, asyncs, async_head, pat_props_tail, pat_prop, params, params_tail, async_params_tail, async_arrow_tail, begins_new, lhs, call_args, args, args_tail, tpl, parts, behind_base, parens, updates, assigns, seqs, second, begins_yield, no_update_at, no_error, prefix_at, update_tail, cond_tail, assign_tail, exprs_next, exprs_tail, yield_by, await_by, unary_by, operator_at, Bound, Choice, none, pick, chosen, expr, assign, unary, arrow_params_tail, primary, literal, elements, elements_tail, item, props, props_tail, prop, key, after_key, shell, begins_async_name, begins_async_list, arrow_tail, paren_tail, turn, turned, step, run_at, measure, run, listed_head, begins_arrow, arrow_block, assigned, pattern_tail, writes_tail, pick_apart, begins_private, private_operand}
+use Rattle.swc_grammar.specs.Cover.{is_pattern, as_params, arrow_params_ok}
 use Rattle.swc_grammar.specs.{Arrows.is_arrow, Arrows.async_name, Names.Spelling}
 use Rattle.swc_grammar.proofs.Answers.{then-ok, only, unless, hear-ok, choose, inj, both}
 use Rattle.swc_grammar.proofs.Levels.{lift, min-right-same, below-exp, right-low, bound-none, bound-some, bound-above}
@@ -280,12 +280,13 @@ module _ {F C K : Type 0} (hook : Hook F C K)
       last-sound (Some 15) (seqs (cons q.0 nil)) c q.1 r k ts (exprs_e (cons q.0 nil)) refl (by exprs-one (part e gave))
 
   -- a list in parentheses, and what is after it
-  heads-held : (c : Scope) (a : TokenAndSpan) (es : Tree F C K) (ps : Trees F C K) (xs ts : List TokenAndSpan)
+  params-held : (c : Scope) (a : TokenAndSpan) (es : Tree F C K) (ps : Trees F C K) (xs ts : List TokenAndSpan)
       {ys : List TokenAndSpan} {t : Tree F C K} → is_lparen a.token ≡ true → as_params es ≡ Some ps
-      → Reads hook (Args false) (with_in c) xs ts es → Follows hook Assign (check (heads_ok c.context ps)
+      → Reads hook (Args false) (with_in c) xs ts es → Follows hook Assign (check (arrow_params_ok c.context ps)
       (arrow_tail c (listed None (to a.span (span_of es)) ps))) ts ys t → Reads hook Assign c (a ∷ xs) ys t
-  heads-held c a es ps xs ts y e d (held j w) =
-      by arrow-heads (part (by heads (took (held y (part d (follows-given (as_params es) _ ps e (held j gave)))))) w)
+  params-held c a es ps xs ts y e d (held j w) =
+      by arrow-params (part (by covered-params
+      (took (held y (part d (follows-given (as_params es) _ ps e (held j gave)))))) w)
 
   -- a primary expression at the head, and what is after it
   behind-sound : (c : Scope) (l0 : Tree F C K) (xs ts : List TokenAndSpan) (r : Tree F C K × List TokenAndSpan)
@@ -320,8 +321,9 @@ module _ {F C K : Type 0} (hook : Hook F C K)
       → exec hook p (Some 2) (step (parens a.span es) c ts) ts ≡ Some r → Reads hook Assign c (a ∷ xs) r.1 r.0
   parens-sound c a es xs ts r y d h = choose (at_token is_arrow (first ts)) _ _
       (λ v. exec hook p (Some 2) v ts ≡ Some r) h
-      (λ z k. let (ps, e, g) = given-held (as_params es) _ (side-sound (Some 2) (heads_tail c a.span es) ts r k) in
-      heads-held c a es ps xs ts y e d g)
+      (λ z k. let (ps, e, g) = given-held (as_params es) _
+      (side-sound (Some 2) (arrow_params_tail c a.span es) ts r k) in
+      params-held c a es ps xs ts y e d g)
       (λ z k. paren-sound c a es xs ts r y d k)
 
   listed-sound : (c : Scope) (ts : List TokenAndSpan) (r : Tree F C K × List TokenAndSpan)
@@ -334,15 +336,15 @@ module _ {F C K : Type 0} (hook : Hook F C K)
       last-sound None (parens t.span q.0) c q.1 r k t us z refl e
 
   -- the same after `async`
-  async-heads-held : (c : Scope) (n : Spelling) (a b : TokenAndSpan) (es : Tree F C K) (ps : Trees F C K)
+  async-params-held : (c : Scope) (n : Spelling) (a b : TokenAndSpan) (es : Tree F C K) (ps : Trees F C K)
       (xs ts : List TokenAndSpan)
       {ys : List TokenAndSpan} {t : Tree F C K} → async_name c a.token a.span ≡ Some n → not b.had_line_break ≡ true
       → is_lparen b.token ≡ true → as_params es ≡ Some ps → Reads hook (Args false) (with_in c) xs ts es
-      → Follows hook Assign (check (heads_ok c.context ps) (async_arrow_tail c n (listed None n.at ps))) ts ys t
+      → Follows hook Assign (check (arrow_params_ok c.context ps) (async_arrow_tail c n (listed None n.at ps))) ts ys t
       → Reads hook Assign c (a ∷ (b ∷ xs)) ys t
-  async-heads-held c n a b es ps xs ts i l y e d (held j w) =
-      by arrow-async-heads (took (follows-given (async_name c a.token a.span) _ n i (calm (is-false b.had_line_break l)
-      (part (by heads (took (held y (part d (follows-given (as_params es) _ ps e (held j gave)))))) w))))
+  async-params-held c n a b es ps xs ts i l y e d (held j w) =
+      by arrow-async-params (took (follows-given (async_name c a.token a.span) _ n i (calm (is-false b.had_line_break l)
+      (part (by covered-params (took (held y (part d (follows-given (as_params es) _ ps e (held j gave)))))) w))))
 
   async-no-await : (t : Token) → is_async_word t ≡ true → is_await t ≡ false
   async-no-await (token.Word (word.Ident w)) h = refl
@@ -354,8 +356,8 @@ module _ {F C K : Type 0} (hook : Hook F C K)
       → exec hook p (Some 2) (step (asyncs n es) c ts) ts ≡ Some r → Reads hook Assign c (a ∷ (b ∷ xs)) r.1 r.0
   asyncs-sound c n a b es xs ts r i l y d h = choose (at_token is_arrow (first ts)) _ _
       (λ v. exec hook p (Some 2) v ts ≡ Some r) h
-      (λ z k. let (ps, e, g) = given-held (as_params es) _ (side-sound (Some 2) (async_heads_tail c n es) ts r k) in
-      async-heads-held c n a b es ps xs ts i l y e d g)
+      (λ z k. let (ps, e, g) = given-held (as_params es) _ (side-sound (Some 2) (async_params_tail c n es) ts r k) in
+      async-params-held c n a b es ps xs ts i l y e d g)
       (λ z k. let (ok, h1) = only (covers_ok c.syntax.pedantic es) k in
       behind-sound c _ (a ∷ (b ∷ xs)) ts r (async-no-await a.token (async-token c a.token a.span n i))
       (by async-call (took (follows-given (async_name c a.token a.span) _ n i (held refl (took (held l (held y
@@ -496,8 +498,7 @@ module _ {F C K : Type 0} (hook : Hook F C K)
   -- an operator below `**`, and its node at its own level, at which its left operand is read
   joins-sound : (c : Scope) (op : BinaryOp) (l e : Tree F C K) (t : TokenAndSpan) (xs ts ys : List TokenAndSpan)
       → precedence_of op ≤ 10 → binary_of c.context t.token ≡ Some op → nullish_ok op l e ≡ true
-      → logical_ok op l ≡ true
-      → Reads hook (Level (precedence_of op)) c xs (t ∷ ts) l
+      → logical_ok op l ≡ true → Reads hook (Level (precedence_of op)) c xs (t ∷ ts) l
       → Reads hook (Level (suc (min_right op))) (inner c) ts ys e
       → Reads hook (Level (precedence_of op)) c xs ys (bin_e (to (span_of l) (span_of e)) op l e)
   joins-sound c op l e t xs ts ys small at n g left right =
@@ -647,7 +648,7 @@ module _ {F C K : Type 0} (hook : Hook F C K)
   step-sound (sym PatProp) c ts r h = choice-sound (Some 4) (pat_prop c ts) ts r h
   step-sound (sym Params) c ts r h = choice-sound (Some 4) (params c ts) ts r h
   step-sound (sym ParamsTail) c ts r h = choice-sound (Some 2) (params_tail c ts) ts r h
-  step-sound (sym Heads) c ts r h = choice-sound (Some 2) (pick heads) ts r h
+  step-sound (sym ArrowParams) c ts r h = choice-sound (Some 2) (pick covered-params) ts r h
   step-sound (sym (ArrowBody is_async)) c ts r h = choice-sound (Some 15) (arrow_block is_async c ts) ts r h
   step-sound (parens s es) c ts r h = λ a xs y at d.
       parens-sound c a es xs ts r y d

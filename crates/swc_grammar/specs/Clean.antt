@@ -11,11 +11,11 @@ use Rattle.swc_ast.specs.{Targets.is_target as is_simple_target, Patterns.defaul
 use Rattle.swc_bodies.specs.Readings.{whole_span, Hook, begins, begins_function, is_class, is_brace, is_async}
 use Rattle.swc_grammar.specs.Scope.{Scope, in_context, with_head, at_head, inner}
 use Rattle.swc_grammar.specs.Rule.{Rule, gives, never, take, check, peek, peek_two, read, hear, sees, sees_two, ◌>>=◌, ◌>>◌, symbol, must, given, token as a_token, one, one_on_line, token_on_line, ahead}
-use Rattle.swc_grammar.specs.Symbols.{Symbol, Expr, Exprs, Assign, Level, Unary, Lhs, Left, Arguments, Args, ArgsTail, Primary, Literal, Template, Parts, Base, Elements, ElementsTail, Item, Props, PropsTail, Prop, Key, AfterKey, Shell, Answer, Body, Value, Pat, Element, Rest, PatElements, PatElementsTail, PatProps, PatPropsTail, PatProp, Params, ParamsTail, Heads, ArrowBody, reading_of, Side}
+use Rattle.swc_grammar.specs.Symbols.{Symbol, Expr, Exprs, Assign, Level, Unary, Lhs, Left, Arguments, Args, ArgsTail, Primary, Literal, Template, Parts, Base, Elements, ElementsTail, Item, Props, PropsTail, Prop, Key, AfterKey, Shell, Answer, Body, Value, Pat, Element, Rest, PatElements, PatElementsTail, PatProps, PatPropsTail, PatProp, Params, ParamsTail, ArrowParams, ArrowBody, reading_of, Side}
 use Rattle.swc_grammar.specs.Arrows.{is_arrow, is_arrow_word, is_block, is_sign, async_name, is_bindable, before_of}
-use Rattle.swc_grammar.specs.Grammar.{heads, arrow-name, body-block, body-expr, arrow-async-name, async-ident, async-call, Production, ident-expr, lit, paren-expr, unary-op, private-expr, update-prefix, await-expr, await-ident, yield-alone, yield-expr, yield-star, member-name, member-private, member-computed, call, args-end, args-more, args-tail-end, args-tail-more, new-target, chain-name, chain-private, chain-computed, chain-call, tagged-tpl, arguments, primary-template, template, parts-end, parts-more, regex-alone, regex-slash, base-primary, super-name, super-computed, super-call, import-meta, import-call, import-source, primary-literal, this-expr, array-lit, fn-expr, class-expr, elements-end, elements-hole, elements-more, tail-end, tail-more, item-expr, item-spread, object-lit, props-end, props-more, props-tail-end, props-tail-more, prop-spread, prop-short, prop-cover, prop-key, prop-generator, prop-async, prop-async-generator, prop-getter, prop-setter, after-value, after-shell, shell-block, key-name, key-literal, key-computed, pat-bind, pat-array, pat-object, pat-rest, pat-elements-end, pat-elements-hole, pat-elements-more, pat-elements-rest, pat-tail-end, pat-tail-more, pat-props-end, pat-props-more, pat-props-rest, pat-props-tail-end, pat-props-tail-more, pat-prop-key, pat-prop-short, pat-prop-default, params-end, params-more, params-rest, params-tail-end, params-tail-more}
+use Rattle.swc_grammar.specs.Grammar.{covered-params, arrow-name, body-block, body-expr, arrow-async-name, async-ident, async-call, Production, ident-expr, lit, paren-expr, unary-op, private-expr, update-prefix, await-expr, await-ident, yield-alone, yield-expr, yield-star, member-name, member-private, member-computed, call, args-end, args-more, args-tail-end, args-tail-more, new-target, chain-name, chain-private, chain-computed, chain-call, tagged-tpl, arguments, primary-template, template, parts-end, parts-more, regex-alone, regex-slash, base-primary, super-name, super-computed, super-call, import-meta, import-call, import-source, primary-literal, this-expr, array-lit, fn-expr, class-expr, elements-end, elements-hole, elements-more, tail-end, tail-more, item-expr, item-spread, object-lit, props-end, props-more, props-tail-end, props-tail-more, prop-spread, prop-short, prop-cover, prop-key, prop-generator, prop-async, prop-async-generator, prop-getter, prop-setter, after-value, after-shell, shell-block, key-name, key-literal, key-computed, pat-bind, pat-array, pat-object, pat-rest, pat-elements-end, pat-elements-hole, pat-elements-more, pat-elements-rest, pat-tail-end, pat-tail-more, pat-props-end, pat-props-more, pat-props-rest, pat-props-tail-end, pat-props-tail-more, pat-prop-key, pat-prop-short, pat-prop-default, params-end, params-more, params-rest, params-tail-end, params-tail-more}
 use Rattle.swc_grammar.specs.Names.{Spelling}
-use Rattle.swc_grammar.specs.Cover.{as_literal, is_pattern, as_params, heads_ok}
+use Rattle.swc_grammar.specs.Cover.{as_literal, is_pattern, as_params, arrow_params_ok}
 use Rattle.swc_grammar.specs.Tokens.{is_ref, at_word, binary_where, prefix_of, is_lparen, is_this, is_lbracket, is_rbracket, is_comma, is_reference, is_dots, is_rbrace, is_colon, is_star, is_equals, is_word, is_get, is_set, with_in, is_super, is_import, is_source, is_update, is_assign, is_await, is_yield, ends_await, yield_ok, goes_on_yield, is_in, is_question, is_dot, is_rparen, is_new, is_backquote, is_slash, is_regex, ends_prop, follows_key}
 use Rattle.swc_grammar.specs.Parts.{update_here, assign_here, any_name, private_ok}
 
@@ -128,7 +128,7 @@ rank_of PatPropsTail = 2
 rank_of PatProp = 4
 rank_of Params = 4
 rank_of ParamsTail = 2
-rank_of Heads = 2
+rank_of ArrowParams = 2
 rank_of (ArrowBody is_async) = 15
 
 abbrev pub rank : {F C K : Type 0} → Call F C K → ℕ
@@ -322,7 +322,7 @@ Stop PatPropsTail c ys = Unit {0}
 Stop PatProp c ys = (ends_assign ys ≡ true) × Bound (with_in c) 0 ys × (at_token is_colon (first ys) ≡ false)
 Stop Params c ys = Unit {0}
 Stop ParamsTail c ys = Unit {0}
-Stop Heads c ys = Unit {0}
+Stop ArrowParams c ys = Unit {0}
 Stop (ArrowBody is_async) c ys = (ends_assign ys ≡ true) × Bound (in_context (arrow_body is_async) c) 0 ys
 Stop Assign c ys = (ends_assign ys ≡ true) × Bound c 0 ys
 Stop Item c ys = (ends_assign ys ≡ true) × Bound c 0 ys
@@ -448,10 +448,10 @@ module _ {F C K : Type 0} where
     ahead (λ t. is_block b && is_sign t.token)
     gives (arrow_e (to (span_of hs) (span_of b)) false b (items_of hs))
 
-  abbrev pub heads_tail : Scope → Span → Tree F C K → Side F C K Assign
-  heads_tail c s es = do
+  abbrev pub arrow_params_tail : Scope → Span → Tree F C K → Side F C K Assign
+  arrow_params_tail c s es = do
     ps ← given (as_params es)
-    must (heads_ok c.context ps)
+    must (arrow_params_ok c.context ps)
     arrow_tail c (listed None (to s (span_of es)) ps)
 
   abbrev pub behind_base : Scope → Tree F C K → Plan F C K (Tree F C K)
@@ -474,10 +474,10 @@ module _ {F C K : Type 0} where
     ahead (λ t. is_block b && is_sign t.token)
     gives (arrow_e (to n.at (span_of b)) true b (items_of hs))
 
-  abbrev pub async_heads_tail : Scope → Spelling → Tree F C K → Side F C K Assign
-  async_heads_tail c n es = do
+  abbrev pub async_params_tail : Scope → Spelling → Tree F C K → Side F C K Assign
+  async_params_tail c n es = do
     ps ← given (as_params es)
-    must (heads_ok c.context ps)
+    must (arrow_params_ok c.context ps)
     async_arrow_tail c n (listed None n.at ps)
 
   abbrev pub async_tail : Scope → Spelling → Tree F C K → Plan F C K (Tree F C K)
@@ -781,11 +781,11 @@ module _ {F C K : Type 0} where
   step (sym PatProp) c ts = chosen (pat_prop c ts)
   step (sym Params) c ts = chosen (params c ts)
   step (sym ParamsTail) c ts = chosen (params_tail c ts)
-  step (sym Heads) c ts = chosen (pick (heads {c = c}))
+  step (sym ArrowParams) c ts = chosen (pick (covered-params {c = c}))
   step (sym (ArrowBody is_async)) c ts = chosen (arrow_block is_async c ts)
-  step (parens s es) c ts = if at_token is_arrow (first ts) then plan (heads_tail c s es) else paren_tail c s es
+  step (parens s es) c ts = if at_token is_arrow (first ts) then plan (arrow_params_tail c s es) else paren_tail c s es
   step (asyncs n es) c ts =
-      if at_token is_arrow (first ts) then plan (async_heads_tail c n es) else async_tail c n es
+      if at_token is_arrow (first ts) then plan (async_params_tail c n es) else async_tail c n es
   step (defaults p) c ts = if at_token is_equals (first ts) then plan (default_tail c p) else gives p
   step (links b l) c ts = linked (link b c ts) l
   step (constructs b s l) c ts =

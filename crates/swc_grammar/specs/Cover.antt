@@ -110,5 +110,5 @@ as_params es = as_elements binding (comma_of es) (items_of es)
 -- The early error of arrow parameters (15.3.1), as far as it is looked at: in a strict module they bind neither `eval`
 -- nor
 -- `arguments`.
-abbrev pub heads_ok : {F C K : Type 0} → Context → Trees F C K → Bool
-heads_ok c ps = all_bind_names (λ name. not ((c.module && c.strict) && is_one_of name strict_binding_words)) ps
+abbrev pub arrow_params_ok : {F C K : Type 0} → Context → Trees F C K → Bool
+arrow_params_ok c ps = all_bind_names (λ name. not ((c.module && c.strict) && is_one_of name strict_binding_words)) ps

@@ -3,7 +3,7 @@ use Rattle.std.specs.Prelude.{Bool, true, false, ◌||◌, ◌&&◌}
 use Rattle.swc_context.specs.Contexts.{arrow_body}
 use Rattle.swc_input.specs.declared.token.Token.{Token, Token as token}
 use Rattle.swc_bodies.specs.Readings.{is_async, is_brace}
-use Rattle.swc_grammar.specs.Symbols.{Symbol, Level, Unary, Lhs, Left, Base, Arguments, Template, Parts, Args, ArgsTail, Primary, Literal, Elements, ElementsTail, Item, Pat, Element, Rest, PatElements, PatElementsTail, PatProps, PatPropsTail, PatProp, Params, ParamsTail, Heads, ArrowBody, Props, PropsTail, Prop, Key, AfterKey, Shell}
+use Rattle.swc_grammar.specs.Symbols.{Symbol, Level, Unary, Lhs, Left, Base, Arguments, Template, Parts, Args, ArgsTail, Primary, Literal, Elements, ElementsTail, Item, Pat, Element, Rest, PatElements, PatElementsTail, PatProps, PatPropsTail, PatProp, Params, ParamsTail, ArrowParams, ArrowBody, Props, PropsTail, Prop, Key, AfterKey, Shell}
 use Rattle.swc_grammar.specs.Tokens.{is_comma, is_rbracket, is_rbrace, is_dots, is_star, is_lparen, is_lbracket, is_backquote, is_rparen, ends_prop, follows_key, opening, is_primary_opening, is_left_opening, is_operand_opening, is_yield_opening}
 use Rattle.swc_grammar.specs.{Scope.Scope, Scope.in_context, Clean.is_lit, Clean.is_identifier, Names.may_bind}
 
@@ -86,6 +86,6 @@ starts PatPropsTail c t = ends_prop t
 starts PatProp c t = begins_key t
 starts Params c t = (begins_pat c t || is_dots t) || is_rparen t
 starts ParamsTail c t = is_comma t || is_rparen t
-starts Heads c t = is_lparen t
+starts ArrowParams c t = is_lparen t
 starts (ArrowBody is_async) c t = is_brace t || begins_expression (in_context (arrow_body is_async) c) t
 starts s c t = begins_expression c t

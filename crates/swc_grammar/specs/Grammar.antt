@@ -12,12 +12,12 @@ use Rattle.swc_ast.specs.{Targets.is_target as is_simple_target, declared.expr.I
 use Rattle.swc_bodies.specs.Readings.{is_async, is_brace}
 use Rattle.swc_grammar.specs.Scope.{Scope, in_context, at_head, inner}
 use Rattle.swc_grammar.specs.Rule.{gives, ◌>>=◌, ◌>>◌, symbol, token, one, token_on_line, one_on_line, given, must, ahead, ahead_two, body}
-use Rattle.swc_grammar.specs.Symbols.{Symbol, Expr, Exprs, Assign, Level, Unary, Lhs, Left, Arguments, Args, ArgsTail, Primary, Literal, Template, Parts, Base, Elements, ElementsTail, Item, Props, PropsTail, Prop, Key, AfterKey, Shell, Side, function, class, block, Pat, Element, Rest, PatElements, PatElementsTail, PatProps, PatPropsTail, PatProp, Params, ParamsTail, Heads, ArrowBody}
+use Rattle.swc_grammar.specs.Symbols.{Symbol, Expr, Exprs, Assign, Level, Unary, Lhs, Left, Arguments, Args, ArgsTail, Primary, Literal, Template, Parts, Base, Elements, ElementsTail, Item, Props, PropsTail, Prop, Key, AfterKey, Shell, Side, function, class, block, Pat, Element, Rest, PatElements, PatElementsTail, PatProps, PatPropsTail, PatProp, Params, ParamsTail, ArrowParams, ArrowBody}
 use Rattle.swc_grammar.specs.Arrows.{is_arrow, arrow_name, is_block, is_sign, async_name, async_param, goes_on_async, of_arrow}
 use Rattle.swc_grammar.specs.Names.{is_joined}
 use Rattle.swc_grammar.specs.Tokens.{with_in, is_this, is_lparen, is_rparen, is_lbracket, is_rbracket, is_comma, is_dots, is_dot, is_question, is_backquote, is_dollar_brace, is_slash, is_new, is_target, new_target_ok, is_super, is_import, is_meta, is_source, super_ok, import_comma_ok, is_in, is_await, is_yield, await_ok, await_ident_ok, ends_await, yield_ok, goes_on_yield, is_power, is_rbrace, is_colon, is_star, is_equals, is_get, is_set}
 use Rattle.swc_grammar.specs.Parts.{reference, binding, any_name, lit_of, regex_of, text_of, key_lit_of, prefix_here, update_here, assign_here, operator_here, import_args_ok, private_ok}
-use Rattle.swc_grammar.specs.Cover.{as_literal, as_params, heads_ok}
+use Rattle.swc_grammar.specs.Cover.{as_literal, as_params, arrow_params_ok}
 
 pub data Production {F C K : Type 0} : (s : Symbol) → Scope → Side F C K s → Type 0 where
   -- Identifier references (13.1), of which `async` is one where nothing after it makes it more
@@ -575,11 +575,11 @@ pub data Production {F C K : Type 0} : (s : Symbol) → Scope → Side F C K s �
     ps ← symbol Params c
     gives ps)
   -- CoverParenthesizedExpressionAndArrowParameterList (13.2.9, 15.3), as the parameters of an arrow function
-  heads : {c : Scope} → Production Heads c (do
+  covered-params : {c : Scope} → Production ArrowParams c (do
     s ← token is_lparen
     es ← symbol (Args false) (with_in c)
     ps ← given (as_params es)
-    must (heads_ok c.context ps)
+    must (arrow_params_ok c.context ps)
     gives (listed None (to s (span_of es)) ps))
   -- Arrow functions (15.3), whose `=>` is on the line of what is before it, and whose body is a block at `{`
   arrow-name : {c : Scope} → Production Assign c (do
@@ -587,8 +587,8 @@ pub data Production {F C K : Type 0} : (s : Symbol) → Scope → Side F C K s �
     token_on_line is_arrow
     b ← symbol (ArrowBody false) c
     gives (arrow_e (to n.at (span_of b)) false b (cons (ident_e n.at n.text) nil)))
-  arrow-heads : {c : Scope} → Production Assign c (do
-    hs ← symbol Heads c
+  arrow-params : {c : Scope} → Production Assign c (do
+    hs ← symbol ArrowParams c
     token_on_line is_arrow
     b ← symbol (ArrowBody false) c
     ahead (λ t. is_block b && is_sign t.token)
@@ -601,10 +601,10 @@ pub data Production {F C K : Type 0} : (s : Symbol) → Scope → Side F C K s �
     token is_arrow
     b ← symbol (ArrowBody true) c
     gives (arrow_e (to s.at (span_of b)) true b (cons (ident_e n.at n.text) nil)))
-  arrow-async-heads : {c : Scope} → Production Assign c (do
+  arrow-async-params : {c : Scope} → Production Assign c (do
     s ← one (async_name c)
     ahead (λ t. t.had_line_break)
-    hs ← symbol Heads c
+    hs ← symbol ArrowParams c
     token_on_line is_arrow
     b ← symbol (ArrowBody true) c
     ahead (λ u. is_block b && is_sign u.token)

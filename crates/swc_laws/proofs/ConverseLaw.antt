@@ -1,5 +1,5 @@
--- The converse of the cover law, as it is promised: parameters by free names, with a parenthesis before them, are heads
--- of the same patterns.
+-- The converse of the cover law, as it is promised: parameters by free names, with a parenthesis before them, are those
+-- of an arrow function, and the same patterns.
 use Rattle.std.specs.Prelude.{◌≡◌, ℕ, Bool, true, not, ◌&&◌, List, ◌∷◌}
 use Rattle.std.proofs.Common.{refl, sym, ap, ◌∙◌}
 use Rattle.swc_context.specs.{Reserved.strict_binding_words, Texts.is_one_of}
@@ -9,7 +9,7 @@ use Rattle.swc_ast.specs.Trees.{items_of}
 use Rattle.swc_bodies.specs.Readings.{Hook}
 use Rattle.swc_grammar.specs.Patterns.{binds_names, all_bind_names, props_bind_names, prop_binds_names}
 use Rattle.swc_grammar.specs.Reads.{Reads, by, gave, took, held, part}
-use Rattle.swc_grammar.specs.{Scope.Scope, Symbols.Params, Symbols.Heads, Tokens.is_lparen, Cover.as_params, Cover.heads_ok, Grammar.heads}
+use Rattle.swc_grammar.specs.{Scope.Scope, Symbols.Params, Symbols.ArrowParams, Tokens.is_lparen, Cover.as_params, Cover.arrow_params_ok, Grammar.covered-params}
 use Rattle.swc_grammar.proofs.Induct.{follows-given}
 use Rattle.swc_laws.specs.Bound.{is_free_name}
 use Rattle.swc_laws.proofs.{Converse.converse, CoverLaw.all-both, Covered.ident-erased, Freed.free-target}
@@ -43,17 +43,18 @@ module _ {F C K : Type 0} (ok : List ℕ → Bool) where
     prop-erased (node k s ts) = refl
 
 module _ {F C K : Type 0} (hook : Hook F C K) where
-  -- free names are no `eval` and no `arguments`, so heads may bind them in a strict module too
-  pub converse-heads : (c : Scope) (a : TokenAndSpan) (xs ys : List TokenAndSpan) (qs : Tree F C K)
+  -- free names are no `eval` and no `arguments`, so an arrow function may bind them in a strict module too
+  pub converse-params : (c : Scope) (a : TokenAndSpan) (xs ys : List TokenAndSpan) (qs : Tree F C K)
       → is_lparen a.token ≡ true → Reads hook Params c xs ys qs → all_bind_names is_free_name (items_of qs) ≡ true
-      → (hs : Tree F C K) × Reads hook Heads c (a ∷ xs) ys hs × (erase_all (items_of hs) ≡ erase_all (items_of qs))
-  converse-heads c a xs ys qs h d b =
+      → (hs : Tree F C K) × Reads hook ArrowParams c (a ∷ xs) ys hs
+      × (erase_all (items_of hs) ≡ erase_all (items_of qs))
+  converse-params c a xs ys qs h d b =
       let (es, ps, r, e, same) = converse hook c xs ys qs d b in
       let test : List ℕ → Bool =
       λ n. not ((c.context.module && c.context.strict) && is_one_of n strict_binding_words) in
       let k : all_bind_names test (items_of qs) ≡ true =
       all-both is_free_name is_free_name test (λ n i j. free-target (c.context.module && c.context.strict) n i)
       (items_of qs) b b in
-      let ok : heads_ok c.context ps ≡ true =
+      let ok : arrow_params_ok c.context ps ≡ true =
       sym (all-erased test ps) ∙ ap (all_bind_names test) same ∙ all-erased test (items_of qs) ∙ k in
-      (_, by heads (took (held h (part r (follows-given (as_params es) _ ps e (held ok gave))))), same)
+      (_, by covered-params (took (held h (part r (follows-given (as_params es) _ ps e (held ok gave))))), same)

@@ -18,7 +18,7 @@ use Rattle.swc_grammar.specs.Parts.{reference, binding as binding_name, any_name
 use Rattle.swc_grammar.specs.Patterns.{binds_names, all_bind_names, props_bind_names, prop_binds_names}
 use Rattle.swc_grammar.specs.Cover.{Role, target, as_pat, as_elements, as_props, as_prop, takes_name, as_literal, is_pattern, is_assign, is_plain_assign, is_rest_of, stays}
 use Rattle.swc_grammar.specs.Reads.{Reads, by, gave, took, held, part}
-use Rattle.swc_grammar.specs.Grammar.{Production, ident-expr, lit, paren-expr, unary-left, unary-op, exp-unary, base-primary, super-name, super-computed, super-call, import-meta, import-call, import-source, left-base, member-name, member-private, member-computed, call, args-end, args-more, args-tail-end, args-tail-more, lhs-left, new-bare, left-new, new-target, chain-name, chain-private, chain-computed, chain-call, tagged-tpl, primary-template, template, regex-alone, regex-slash, exp-op, primary-literal, this-expr, array-lit, elements-end, elements-hole, elements-more, tail-end, tail-more, item-expr, item-spread, fn-expr, class-expr, object-lit, props-end, props-more, props-tail-end, props-tail-more, prop-spread, prop-short, prop-cover, prop-key, prop-generator, prop-async, prop-async-generator, prop-getter, prop-setter, after-value, after-shell, shell-block, key-name, key-literal, key-computed, level-up, bin-op, private-expr, private-in, assign-level, update-postfix, update-prefix, await-expr, await-ident, cond-expr, assign-expr, yield-alone, yield-expr, yield-star, assign-pattern, pat-bind, pat-array, pat-object, element-default, pat-elements-end, pat-elements-hole, pat-elements-more, pat-elements-rest, pat-tail-end, pat-tail-more, pat-props-end, pat-props-more, pat-props-rest, pat-props-tail-end, pat-props-tail-more, pat-prop-key, pat-prop-short, pat-prop-default, async-ident, async-call, arrow-async-name, arrow-async-heads, arrow-name, arrow-heads, params-end, params-more, params-rest, params-tail-end, params-tail-more}
+use Rattle.swc_grammar.specs.Grammar.{Production, ident-expr, lit, paren-expr, unary-left, unary-op, exp-unary, base-primary, super-name, super-computed, super-call, import-meta, import-call, import-source, left-base, member-name, member-private, member-computed, call, args-end, args-more, args-tail-end, args-tail-more, lhs-left, new-bare, left-new, new-target, chain-name, chain-private, chain-computed, chain-call, tagged-tpl, primary-template, template, regex-alone, regex-slash, exp-op, primary-literal, this-expr, array-lit, elements-end, elements-hole, elements-more, tail-end, tail-more, item-expr, item-spread, fn-expr, class-expr, object-lit, props-end, props-more, props-tail-end, props-tail-more, prop-spread, prop-short, prop-cover, prop-key, prop-generator, prop-async, prop-async-generator, prop-getter, prop-setter, after-value, after-shell, shell-block, key-name, key-literal, key-computed, level-up, bin-op, private-expr, private-in, assign-level, update-postfix, update-prefix, await-expr, await-ident, cond-expr, assign-expr, yield-alone, yield-expr, yield-star, assign-pattern, pat-bind, pat-array, pat-object, element-default, pat-elements-end, pat-elements-hole, pat-elements-more, pat-elements-rest, pat-tail-end, pat-tail-more, pat-props-end, pat-props-more, pat-props-rest, pat-props-tail-end, pat-props-tail-more, pat-prop-key, pat-prop-short, pat-prop-default, async-ident, async-call, arrow-async-name, arrow-async-params, arrow-name, arrow-params, params-end, params-more, params-rest, params-tail-end, params-tail-more}
 use Rattle.swc_grammar.specs.Arrows.{arrow_name, async_name, async_param}
 use Rattle.swc_grammar.proofs.Answers.{only, inj, both}
 use Rattle.swc_grammar.proofs.Related.{bind-some, literal-is}
@@ -309,10 +309,10 @@ module _ {F C K : Type 0} (hook : Hook F C K) where
   step-assign {d = d} assign-pattern (ran-part {e = l} e k (ran-took {a = a} (ran-held i w))) =
       let (q, h, g) = given-ran hook (Law hook) (as_literal d.context.strict l) _ w in pattern-law d l q a k i h g
   step-assign {d = d} arrow-name w = closed-assign w (λ a. quiet (arrow_name d a.token a.span) _ (λ n h b e. refl))
-  step-assign arrow-heads w = closed-assign w (λ hs a e. refl)
+  step-assign arrow-params w = closed-assign w (λ hs a e. refl)
   step-assign {d = d} arrow-async-name w = closed-assign w (λ a. quiet (async_name d a.token a.span) _ (λ s h b.
       quiet (async_param d b.token b.span) _ (λ n k g e. refl)))
-  step-assign {d = d} arrow-async-heads w =
+  step-assign {d = d} arrow-async-params w =
       closed-assign w (λ a. quiet (async_name d a.token a.span) _ (λ s h hs b e. refl))
   step-assign cond-expr w = closed-assign w (λ t a e b u. refl)
   step-assign yield-alone w = closed-assign w (λ a. refl)

@@ -8,11 +8,11 @@ use Rattle.swc_input.specs.declared.token.TokenAndSpan.{TokenAndSpan}
 use Rattle.swc_ast.specs.Tree.{Tree, node, Trees, nil, cons, span_of, ident, array_with, object_with, default, rest, hole, key_value, binding_prop}
 use Rattle.swc_ast.specs.Trees.{items_of, is_ident, listed, to}
 use Rattle.swc_bodies.specs.Readings.{Hook}
-use Rattle.swc_grammar.specs.Symbols.{Args, Params, ParamsTail, Heads}
+use Rattle.swc_grammar.specs.Symbols.{Args, Params, ParamsTail, ArrowParams}
 use Rattle.swc_grammar.specs.Tokens.{with_in, is_rparen, is_lparen}
 use Rattle.swc_grammar.specs.Patterns.{binds_names, all_bind_names, props_bind_names, prop_binds_names}
-use Rattle.swc_grammar.specs.Cover.{binding, as_params, heads_ok}
-use Rattle.swc_grammar.specs.Grammar.{params-end, params-more, params-rest, params-tail-end, params-tail-more, heads}
+use Rattle.swc_grammar.specs.Cover.{binding, as_params, arrow_params_ok}
+use Rattle.swc_grammar.specs.Grammar.{params-end, params-more, params-rest, params-tail-end, params-tail-more, covered-params}
 use Rattle.swc_grammar.specs.Reads.{Reads, by, Follows, gave, took, held, part}
 use Rattle.swc_grammar.specs.{Scope.Scope, Rule.check, Rule.gives}
 use Rattle.swc_grammar.proofs.{Answers.both, Firsts.given-held, Cut.consumed}
@@ -59,11 +59,12 @@ module _ {F C K : Type 0} (a b c : List ℕ → Bool)
         rw (x, binds-both p y w) refl
     prop-both t h k = absurd cc
 
--- what heads bind, but for the name kept, may be bound
-heads-name : (c : Context) → (c.module ≡ true → c.strict ≡ true) → (n : List ℕ)
+-- what parameters of arrow functions bind, but for the name kept, may be bound
+params-name : (c : Context) → (c.module ≡ true → c.strict ≡ true) → (n : List ℕ)
     → not ((c.module && c.strict) && is_one_of n strict_binding_words) ≡ true → is_kept_name c n ≡ true
     → may_be_bound c n ≡ true
-heads-name c strict n h k = by-module c.module c.strict (is_one_of n strict_binding_words) (is_kept_name c n) strict h k
+params-name c strict n h k = by-module c.module c.strict (is_one_of n strict_binding_words)
+    (is_kept_name c n) strict h k
   where
     by-module : (m s o r : Bool) → (m ≡ true → s ≡ true) → not ((m && s) && o) ≡ true → r ≡ true
         → (not (m && o) && r) ≡ true
@@ -77,27 +78,28 @@ module _ {F C K : Type 0} (hook : Hook F C K) where
   pub cover : (c : Scope) → (c.context.module ≡ true → c.context.strict ≡ true)
       → (xs ys : List TokenAndSpan) → Spelled xs → (es : Tree F C K) (ps : Trees F C K)
       → Reads hook (Args false) (with_in c) xs ys es → as_params es ≡ Some ps
-      → heads_ok c.context ps ≡ true → all_bind_names (is_kept_name c.context) ps ≡ true
+      → arrow_params_ok c.context ps ≡ true → all_bind_names (is_kept_name c.context) ps ≡ true
       → CoversAll hook Params c xs ys ps
   cover c strict xs ys sp es ps d h k j =
       covered hook sp d binding c refl ps h
       (all-both (λ n. not ((c.context.module && c.context.strict) && is_one_of n strict_binding_words))
-      (is_kept_name c.context) (may_be_bound c.context) (heads-name c.context strict) ps k j)
+      (is_kept_name c.context) (may_be_bound c.context) (params-name c.context strict) ps k j)
 
   -- and so what is before `=>`
-  heads-gave : (c : Scope) (s : Span) (ps : Trees F C K) {xs ys : List TokenAndSpan} {hs : Tree F C K}
-      → Follows hook Heads (check (heads_ok c.context ps) (gives (listed None s ps))) xs ys hs
-      → (heads_ok c.context ps ≡ true) × (hs ≡ listed None s ps) × (xs ≡ ys)
-  heads-gave c s ps (held h gave) = (h, refl, refl)
+  params-gave : (c : Scope) (s : Span) (ps : Trees F C K) {xs ys : List TokenAndSpan} {hs : Tree F C K}
+      → Follows hook ArrowParams (check (arrow_params_ok c.context ps) (gives (listed None s ps))) xs ys hs
+      → (arrow_params_ok c.context ps ≡ true) × (hs ≡ listed None s ps) × (xs ≡ ys)
+  params-gave c s ps (held h gave) = (h, refl, refl)
 
-  pub heads-cover : (c : Scope) → (c.context.module ≡ true → c.context.strict ≡ true)
-      → (xs ys : List TokenAndSpan) → Spelled xs → (hs : Tree F C K) → Reads hook Heads c xs ys hs
+  pub params-cover : (c : Scope) → (c.context.module ≡ true → c.context.strict ≡ true)
+      → (xs ys : List TokenAndSpan) → Spelled xs → (hs : Tree F C K) → Reads hook ArrowParams c xs ys hs
       → all_bind_names (is_kept_name c.context) (items_of hs) ≡ true
       → (a : TokenAndSpan) × (ms : List TokenAndSpan) × (xs ≡ a ∷ ms) × (is_lparen a.token ≡ true)
       × CoversAll hook Params c ms ys (items_of hs)
-  heads-cover c strict xs ys sp hs (by heads (took {a = a} {xs = ms} (held h (part {e = es} {ms = us} d w)))) j =
+  params-cover c strict xs ys sp hs (by covered-params
+      (took {a = a} {xs = ms} (held h (part {e = es} {ms = us} d w)))) j =
       let (ps, e, g) = given-held (as_params es) _ w in
-      let (k, x, z) = heads-gave c (to a.span (span_of es)) ps g in
+      let (k, x, z) = params-gave c (to a.span (span_of es)) ps g in
       let b = subst (λ v. all_bind_names (is_kept_name c.context) (items_of v) ≡ true) x j in (
         a,
         ms,
@@ -109,7 +111,7 @@ module _ {F C K : Type 0} (hook : Hook F C K) where
 
   pub covering : Covering hook
   covering c strict a xs ys hs sp d b =
-      let (t, ms, e, p, v) = heads-cover c strict (a ∷ xs) ys sp hs d b in
+      let (t, ms, e, p, v) = params-cover c strict (a ∷ xs) ys sp hs d b in
       let k : ms ≡ xs = cc in
       (v.tree, subst (λ w. Reads hook Params c w ys v.tree) k v.read, v.same)
 

@@ -29,10 +29,10 @@ abbrev one : Tree ℕ ℕ ℕ → Trees ℕ ℕ ℕ
 one t = cons t nil
 
 -- `(a, [b], {c = 1})`
-heads-row : as_params (listed None s (cons (item_e a) (cons (item_e (array_e None s (one (item_e b))))
+params-row : as_params (listed None s (cons (item_e a) (cons (item_e (array_e None s (one (item_e b))))
     (one (item_e (object_e None s (one (cover_e s a n))))))))
     ≡ Some (cons a (cons (array_p s (one b)) (one (object_p s (one (name_p s a n))))))
-heads-row = refl
+params-row = refl
 
 -- `(a.x)`, `((a))`: no parameters
 member-row : as_params (listed None s (one (item_e (dot a)))) ≡ None

@@ -9,7 +9,7 @@ use Rattle.swc_ast.specs.Tree.{Tree, nil, cons}
 use Rattle.swc_ast.specs.Trees.{item_e, listed, items_of}
 use Rattle.swc_bodies.specs.Readings.{Hook, LawfulHook}
 use Rattle.swc_grammar.specs.Clean.{Out, sym, run}
-use Rattle.swc_grammar.specs.{Scope.Scope, Scope.in_context, Symbols.Args, Symbols.Params, Tokens.with_in, Patterns.all_bind_names, Cover.as_params, Cover.heads_ok, Reads.Reads}
+use Rattle.swc_grammar.specs.{Scope.Scope, Scope.in_context, Symbols.Args, Symbols.Params, Tokens.with_in, Patterns.all_bind_names, Cover.as_params, Cover.arrow_params_ok, Reads.Reads}
 use Rattle.swc_grammar.proofs.Texts.{script, module_code, generator, place, name_at, word_at, num_at, close_at, equals_at, ident, num}
 use Rattle.swc_grammar.proofs.{Complete.complete, Sound.sound}
 use Rattle.swc_laws.specs.Bound.{Spelled, is_kept_name, is_free_name}
@@ -121,8 +121,8 @@ module _ {F C K : Type 0} (hook : Hook F C K) where
   unfolding params_answer
   refused-params h d = let k = complete hook d tt in absurd cc
 
-  -- the cover law: a name that is spelled as a keyword, `await` in a static block, `eval` where heads don't bind it,
-  -- and where a module isn't strict
+  -- the cover law: a name that is spelled as a keyword, `await` in a static block, `eval` where an arrow function
+  -- doesn't bind it, and where a module isn't strict
   yield_name-no-params : {t : Tree F C K} → Reads hook Params generator yield_name [] t → ⊥
   yield_name-no-params d = refused-params yield_name-params d
 
@@ -148,22 +148,22 @@ module _ {F C K : Type 0} (hook : Hook F C K) where
   related name hi = refl
 
   yield_name-asked :
-      (heads_ok generator.context (items_of (params_of {F = F} {C = C} {K = K} (codes "yield") 5)) ≡ true)
+      (arrow_params_ok generator.context (items_of (params_of {F = F} {C = C} {K = K} (codes "yield") 5)) ≡ true)
       × (all_bind_names (is_kept_name generator.context)
       (items_of (params_of {F = F} {C = C} {K = K} (codes "yield") 5)) ≡ true)
       × (Spelled yield_name → ⊥)
   yield_name-asked = (refl, refl, λ s. cc)
 
   await_word-asked :
-      (heads_ok static_block.context (items_of (params_of {F = F} {C = C} {K = K} (codes "await") 5)) ≡ true)
+      (arrow_params_ok static_block.context (items_of (params_of {F = F} {C = C} {K = K} (codes "await") 5)) ≡ true)
       × (all_bind_names (is_kept_name static_block.context)
       (items_of (params_of {F = F} {C = C} {K = K} (codes "await") 5)) ≡ false)
       × Spelled await_word
   await_word-asked = (refl, refl, (refl, (refl, tt)))
 
   eval_name-asked :
-      (heads_ok module_code.context (items_of (params_of {F = F} {C = C} {K = K} (codes "eval") 4)) ≡ false)
-      × (heads_ok loose_module.context (items_of (params_of {F = F} {C = C} {K = K} (codes "eval") 4)) ≡ true)
+      (arrow_params_ok module_code.context (items_of (params_of {F = F} {C = C} {K = K} (codes "eval") 4)) ≡ false)
+      × (arrow_params_ok loose_module.context (items_of (params_of {F = F} {C = C} {K = K} (codes "eval") 4)) ≡ true)
       × (all_bind_names (is_kept_name module_code.context)
       (items_of (params_of {F = F} {C = C} {K = K} (codes "eval") 4)) ≡ true)
       × Spelled eval_name

@@ -12,11 +12,11 @@ use Rattle.swc_ast.specs.Trees.{to, bin_e, items_of, comma_of, at_place, method_
 use Rattle.swc_bodies.specs.Readings.{Hook}
 use Rattle.swc_grammar.specs.Scope.{Scope}
 use Rattle.swc_grammar.specs.Rule.{Rule, gives, never, take, check, peek, peek_two, read, hear, given, ◌>>=◌}
-use Rattle.swc_grammar.specs.Symbols.{Symbol, Exprs, Arguments, Args, ArgsTail, Parts, Elements, ElementsTail, Props, PropsTail, Shell, PatElements, PatElementsTail, PatProps, PatPropsTail, Params, ParamsTail, Heads, Answer, Body, Value, Side}
+use Rattle.swc_grammar.specs.Symbols.{Symbol, Exprs, Arguments, Args, ArgsTail, Parts, Elements, ElementsTail, Props, PropsTail, Shell, PatElements, PatElementsTail, PatProps, PatPropsTail, Params, ParamsTail, ArrowParams, Answer, Body, Value, Side}
 use Rattle.swc_grammar.specs.Parts.{reference, binding, any_name, lit_of, regex_of, flags_ok, cooked_of, text_by, text_of, key_lit_of, prefix_here, update_here, assign_here, operator_here}
 use Rattle.swc_grammar.specs.Arrows.{arrow_name, async_name, async_param}
 use Rattle.swc_grammar.specs.Cover.{as_literal, as_params, binding as binding_role}
-use Rattle.swc_grammar.specs.Grammar.{Production, ident-expr, async-ident, async-call, this-expr, lit, primary-literal, regex-alone, regex-slash, primary-template, template, parts-end, parts-more, array-lit, elements-end, elements-hole, elements-more, tail-end, tail-more, item-expr, item-spread, object-lit, props-end, props-more, props-tail-end, props-tail-more, prop-spread, prop-short, prop-cover, prop-key, prop-generator, prop-async, prop-async-generator, prop-getter, prop-setter, after-value, after-shell, shell-block, key-name, key-literal, key-computed, fn-expr, class-expr, paren-expr, lhs-left, new-bare, left-base, left-new, base-primary, new-target, super-name, super-computed, import-meta, super-call, import-call, import-source, member-name, member-private, member-computed, call, chain-name, chain-private, chain-computed, chain-call, tagged-tpl, arguments, args-end, args-more, args-tail-end, args-tail-more, unary-left, update-postfix, update-prefix, await-expr, await-ident, unary-op, exp-unary, exp-op, level-up, bin-op, private-expr, private-in, assign-level, cond-expr, assign-expr, yield-alone, yield-expr, yield-star, exprs-one, exprs-more, seq-expr, assign-pattern, pat-bind, pat-array, pat-object, element-pat, element-default, pat-rest, pat-elements-end, pat-elements-hole, pat-elements-more, pat-elements-rest, pat-tail-end, pat-tail-more, pat-props-end, pat-props-more, pat-props-rest, pat-props-tail-end, pat-props-tail-more, pat-prop-key, pat-prop-short, pat-prop-default, params-end, params-more, params-rest, params-tail-end, params-tail-more, heads, arrow-name, arrow-heads, arrow-async-name, arrow-async-heads, body-block, body-expr}
+use Rattle.swc_grammar.specs.Grammar.{Production, ident-expr, async-ident, async-call, this-expr, lit, primary-literal, regex-alone, regex-slash, primary-template, template, parts-end, parts-more, array-lit, elements-end, elements-hole, elements-more, tail-end, tail-more, item-expr, item-spread, object-lit, props-end, props-more, props-tail-end, props-tail-more, prop-spread, prop-short, prop-cover, prop-key, prop-generator, prop-async, prop-async-generator, prop-getter, prop-setter, after-value, after-shell, shell-block, key-name, key-literal, key-computed, fn-expr, class-expr, paren-expr, lhs-left, new-bare, left-base, left-new, base-primary, new-target, super-name, super-computed, import-meta, super-call, import-call, import-source, member-name, member-private, member-computed, call, chain-name, chain-private, chain-computed, chain-call, tagged-tpl, arguments, args-end, args-more, args-tail-end, args-tail-more, unary-left, update-postfix, update-prefix, await-expr, await-ident, unary-op, exp-unary, exp-op, level-up, bin-op, private-expr, private-in, assign-level, cond-expr, assign-expr, yield-alone, yield-expr, yield-star, exprs-one, exprs-more, seq-expr, assign-pattern, pat-bind, pat-array, pat-object, element-pat, element-default, pat-rest, pat-elements-end, pat-elements-hole, pat-elements-more, pat-elements-rest, pat-tail-end, pat-tail-more, pat-props-end, pat-props-more, pat-props-rest, pat-props-tail-end, pat-props-tail-more, pat-prop-key, pat-prop-short, pat-prop-default, params-end, params-more, params-rest, params-tail-end, params-tail-more, covered-params, arrow-name, arrow-params, arrow-async-name, arrow-async-params, body-block, body-expr}
 use Rattle.swc_grammar.specs.Reads.{Reads, by, Follows, gave, took, held, calm, calm-two, part, heard}
 use Rattle.swc_grammar.proofs.Answers.{inj, both, only}
 use Rattle.swc_laws.proofs.PedanticTrees.{privates-eased}
@@ -40,7 +40,7 @@ Listed PatProps t = AllFit (items_of t)
 Listed PatPropsTail t = AllFit (items_of t)
 Listed Params t = AllFit (items_of t)
 Listed ParamsTail t = AllFit (items_of t)
-Listed Heads t = AllFit (items_of t)
+Listed ArrowParams t = AllFit (items_of t)
 Listed s t = Unit {0}
 
 abbrev Placed : (F C K : Type 0) (s : Symbol) → Answer F C K s → Type 0
@@ -341,13 +341,13 @@ module _ {F C K : Type 0} where
   keeps params-rest y = λ e g a h. twice (rw g.0 refl)
   keeps params-tail-end y = λ a h. (refl, refl)
   keeps params-tail-more y = λ a h es g. g
-  keeps heads y = λ a h es g. keeps-given _ (as_params es) _
+  keeps covered-params y = λ a h es g. keeps-given _ (as_params es) _
       (λ ps k w. twice (elements-fit binding_role (comma_of es) (items_of es) ps k g.1))
   keeps (arrow-name {c = c}) y = λ a. keeps-given _ (arrow_name c a.token a.span) _ (λ n h b x z e g. (rw g.0 refl, tt))
-  keeps arrow-heads y = λ hs g a x z e d. (rw (d.0, g.1) refl, tt)
+  keeps arrow-params y = λ hs g a x z e d. (rw (d.0, g.1) refl, tt)
   keeps (arrow-async-name {c = c}) y = λ a. keeps-given _ (async_name c a.token a.span) _
       (λ m j b l. keeps-given _ (async_param c b.token b.span) _ (λ n h x z e d. (rw d.0 refl, tt)))
-  keeps (arrow-async-heads {c = c}) y = λ b. keeps-given _ (async_name c b.token b.span) _
+  keeps (arrow-async-params {c = c}) y = λ b. keeps-given _ (async_name c b.token b.span) _
       (λ m j hs g a x z e d. (rw (d.0, g.1) refl, tt))
   keeps body-block y = λ v s. (refl, tt)
   keeps body-expr y = λ e g. (g.0, tt)

@@ -181,7 +181,7 @@ pub fn is_super_or_import<I: Tokens>(input: &Buffer<I>) -> bool
 /// Consumes the first tokens of the link that comes next, and answers what they begin; or nothing, where none comes
 /// next. With `no_call`, a parenthesis begins none.
 pub fn parse_link_head<I: Tokens>(input: &mut Buffer<I>, no_call: bool) -> PResult<Option<LinkHead>>
-    ensures heads { ContinuesAlone I.model (λ h. h) (link_head (not no_call)) input.old result input.new }
+    ensures begins { ContinuesAlone I.model (λ h. h) (link_head (not no_call)) input.old result input.new }
     ensures falls { OnOk result (to_come I.model input.new ≤ to_come I.model input.old) }
     ensures more { IfOk result (λ r. IsSome r → to_come I.model input.new < to_come I.model input.old) }
 {
@@ -197,7 +197,7 @@ pub fn parse_link_head<I: Tokens>(input: &mut Buffer<I>, no_call: bool) -> PResu
 /// Consumes the first tokens of the link that the current token begins.
 fn open_link<I: Tokens>(input: &mut Buffer<I>, link: Link) -> PResult<LinkHead>
     requires { IsSome (current input.old) }
-    ensures heads { ParsesAlone I.model (λ h. h) (head_of link) input.old result input.new }
+    ensures begins { ParsesAlone I.model (λ h. h) (head_of link) input.old result input.new }
     ensures falls { OnOk result (to_come I.model input.new < to_come I.model input.old) }
 {
     let start = input.cur_span();
@@ -217,7 +217,7 @@ fn open_link<I: Tokens>(input: &mut Buffer<I>, link: Link) -> PResult<LinkHead>
 /// Consumes the first tokens of a link of an optional chain (ECMA-262, 13.3.9), after its `?`: the `.`, and the
 /// bracket or the parenthesis after it. Where neither is there, a name has to be.
 fn open_chain<I: Tokens>(input: &mut Buffer<I>) -> PResult<LinkHead>
-    ensures heads { ParsesAlone I.model (λ h. h) chain_head input.old result input.new }
+    ensures begins { ParsesAlone I.model (λ h. h) chain_head input.old result input.new }
     ensures falls { OnOk result (to_come I.model input.new < to_come I.model input.old) }
 {
     expect(input, Sign::Dot)?;

@@ -23,9 +23,9 @@ use Rattle.swc_nodes.specs.declared.nodes.Nodes.{Nodes}
 use Rattle.swc_steps.proofs.Building.{apart-lower}
 use Rattle.swc_steps.specs.Parsing.{scope, seen, seen_of, Heard, Here, On, Told}
 use Rattle.swc_steps.proofs.Steps.{Reader, on_told, read_scope}
-use Rattle.swc_arrows.specs.Heads.{first_kind, head_by, head_kind, next_kind, next_token, token_kind}
-use Rattle.swc_arrows.specs.declared.heads.HeadKind.{HeadKind}
-use Rattle.swc_arrows.specs.declared.heads.NextKind.TheVariants as next_is
+use Rattle.swc_arrows.specs.Starts.{first_kind, head_by, start_kind, next_kind, next_token, token_kind}
+use Rattle.swc_arrows.specs.declared.covered-params.StartKind.{StartKind}
+use Rattle.swc_arrows.specs.declared.covered-params.NextKind.TheVariants as next_is
 use Rattle.swc_ast.specs.declared.expr.ExprOrSpread.{ExprOrSpread}
 use Rattle.swc_nodes.specs.GrowingNodes.{first_start, last_end, Grows}
 use Rattle.swc_nodes.specs.NodeParts.{args_parts}
@@ -67,7 +67,7 @@ next_same : (c : Context) (o : Option TokenAndSpan) → next_kind (deciding c) o
 next_same c None = refl
 next_same c (Some t) = ap (λ v. if t.had_line_break then next_is.Other else v) (next_token_same c t.token)
 
-head_same : (c : Context) (ts : List TokenAndSpan) → head_kind (deciding c) ts ≡ head_kind c ts
+head_same : (c : Context) (ts : List TokenAndSpan) → start_kind (deciding c) ts ≡ start_kind c ts
 head_same c ts =
     ap (λ v. head_by v (next_kind (deciding c) (second ts))) (first_same c (first ts))
     ∙ ap (λ v. head_by (first_kind c (first ts)) v) (next_same c (second ts))
@@ -91,16 +91,16 @@ module _ {S : Type 0} {model : Model S} where
 
 module _ {S F C K : Type 0} {model : Model S} {sure : Bool} (hook : Hook F C K) where
   -- what the first two tokens tell
-  pub head_told : (g : Reader (Tree F C K)) {k : HeadKind} {b c : Buffer S} → Here model b b
-      → Told model (head_kind (context model b)) k b c → at_token no_error (seen b) ≡ true
+  pub head_told : (g : Reader (Tree F C K)) {k : StartKind} {b c : Buffer S} → Here model b b
+      → Told model (start_kind (context model b)) k b c → at_token no_error (seen b) ≡ true
       → (at_token is_yield (seen b) && (context model b).in_generator) ≡ false
-      → ((x : Scope) (ts : List TokenAndSpan) → BeginsAssign x ts → head_kind x.context ts ≡ k
+      → ((x : Scope) (ts : List TokenAndSpan) → BeginsAssign x ts → start_kind x.context ts ≡ k
       → run hook (at_symbol Assign) x ts ≡ g x ts) → On model sure (run hook (at_symbol Assign)) g b c
   head_told g {k} {b} {c} here told fit none law =
       on_told {g = g} here told (λ x ts same e is.
       let was : x ≡ scope model b = same ∙ read_scope told.laws told.still.read in
       law x ts (begins model b fit none x ts was (e ∙ ap seen_of told.current))
-      (ap (λ v. head_kind v.context ts) was ∙ head_same (context model b) ts ∙ is))
+      (ap (λ v. start_kind v.context ts) was ∙ head_same (context model b) ts ∙ is))
 
 -- what it begins with, as it is known
 module _ {S F C K : Type 0} {fg : Ghosts F} {cg : Ghosts C} {kg : Ghosts K} {model : Model S} {sure : Bool}

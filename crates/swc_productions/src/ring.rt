@@ -33,14 +33,14 @@ use swc_arrows::bodies::begins_block;
 use swc_arrows::bodies::check_operators_end;
 use swc_arrows::bodies::enter_arrow_body;
 use swc_arrows::bodies::parse_block_body;
-use swc_arrows::heads::HeadKind;
-use swc_arrows::heads::head_kind;
 use swc_arrows::lists::close_list;
 use swc_arrows::lists::open_list;
 use swc_arrows::names::ArrowHead;
 use swc_arrows::names::Beginning;
 use swc_arrows::names::parse_arrow_name;
 use swc_arrows::names::parse_async_name;
+use swc_arrows::starts::StartKind;
+use swc_arrows::starts::start_kind;
 use swc_ast::expr::BlockStmtOrExpr;
 use swc_ast::expr::Callee;
 use swc_ast::expr::ExprOrSpread;
@@ -1063,16 +1063,16 @@ fn parse_arrow_or_base<I: Tokens, B: Bodies<I>>(
     ensures { MayBeArrow I.model B.is_faithful B.forms (run B.forms (sym Assign))
         (count p.old.nodes) p.old result p.new }
 {
-    match head_kind(&mut p.input)? {
-        HeadKind::Name => match parse_arrow_name(p)? {
+    match start_kind(&mut p.input)? {
+        StartKind::Name => match parse_arrow_name(p)? {
             Beginning::Arrow(head) => parse_arrow_rest(p, room, head),
             Beginning::Base(base) => Ok(ArrowOrBase::Base(base)),
         },
-        HeadKind::AsyncName => match parse_async_name(p)? {
+        StartKind::AsyncName => match parse_async_name(p)? {
             Beginning::Arrow(head) => parse_arrow_rest(p, room, head),
             Beginning::Base(base) => Ok(ArrowOrBase::Base(base)),
         },
-        HeadKind::List { is_async } => {
+        StartKind::List { is_async } => {
             let start = open_list(p, is_async)?;
             let list = parse_args(p, room, false)?;
             match close_list(p, start, list)? {
@@ -1080,7 +1080,7 @@ fn parse_arrow_or_base<I: Tokens, B: Bodies<I>>(
                 Beginning::Base(base) => Ok(ArrowOrBase::Base(base)),
             }
         }
-        HeadKind::Other => Ok(ArrowOrBase::Other),
+        StartKind::Other => Ok(ArrowOrBase::Other),
     }
 }
 

@@ -1,10 +1,10 @@
 // Formal parameters, and those of arrow functions, as calls of a parser.
 ghost use Rattle.std.specs.Prelude.{◌≡◌, false};
 ghost use Rattle.swc_ast.specs.TreeOf.{pat_tree};
-ghost use Rattle.swc_grammar.specs.Symbols.{Heads};
+ghost use Rattle.swc_grammar.specs.Symbols.{ArrowParams};
 ghost use Rattle.swc_patterns.specs.Answers.{pat_at};
 ghost use Rattle.swc_ecma_parser.specs.Calls.{buffer_of, nodes_of, has_failed, pats_tree};
-ghost use Rattle.swc_ecma_parser.specs.Promise.{BoundItems, Promised, PromisedParams, heads_in_boxes, heads_by_number, params_in_boxes, params_by_number};
+ghost use Rattle.swc_ecma_parser.specs.Promise.{BoundItems, Promised, PromisedParams, arrow_params_in_boxes, arrow_params_by_number, params_in_boxes, params_by_number};
 
 use crate::arrow_params::parse_arrow_params;
 use crate::parser::{Parser, PatOf};
@@ -52,7 +52,7 @@ impl<I: Tokens, B: Bodies<I>> Parser<I, B> {
     /// The parameters of an arrow function, as `parse_arrow_params` reads them: the numbers of their patterns among the
     /// nodes.
     pub fn parse_arrow_params_id(&mut self) -> PResult<Vec<PatId>>
-        ensures promised { Promised I.model B.is_faithful B.forms heads_by_number Heads self.old result self.new }
+        ensures promised { Promised I.model B.is_faithful B.forms arrow_params_by_number ArrowParams self.old result self.new }
         ensures binds { has_failed self.old ≡ false
             → BoundItems I.model (pats_tree (pat_at (nodes_of self.new)))
             (buffer_of self.old) result (buffer_of self.new) }
@@ -79,7 +79,7 @@ impl<I: Tokens, B: Bodies<I>> Parser<I, B> {
     /// `reparse_expr_as_pat` records of a `BindingElement`; a method, a getter or a setter in one is refused as
     /// `InvalidPat`, at the property.
     pub fn parse_arrow_params(&mut self) -> PResult<Vec<PatOf<B>>>
-        ensures promised { Promised I.model B.is_faithful B.forms heads_in_boxes Heads self.old result self.new }
+        ensures promised { Promised I.model B.is_faithful B.forms arrow_params_in_boxes ArrowParams self.old result self.new }
         ensures binds { has_failed self.old ≡ false
             → BoundItems I.model (pats_tree (pat_tree _ _ _ B.Fun.place B.Class.place B.Block.place))
             (buffer_of self.old) result (buffer_of self.new) }

@@ -9,12 +9,12 @@ use Rattle.swc_bodies.specs.Readings.{Hook, begins as begins_own, is_function_he
 use Rattle.swc_grammar.specs.Scope.{Scope, in_context, at_head, inner}
 use Rattle.swc_grammar.specs.Rule.{Rule, gives, take, check, peek, peek_two, read, sees, sees_two, given, ◌>>=◌}
 use Rattle.swc_grammar.specs.Tokens.{tk, with_in, binary_of, is_reference, is_lparen, is_put_off}
-use Rattle.swc_grammar.specs.Symbols.{Symbol, Assign, Level, Unary, Lhs, Args, Primary, Base, Answer, Body, Value, Side, Heads, ArrowBody}
+use Rattle.swc_grammar.specs.Symbols.{Symbol, Assign, Level, Unary, Lhs, Args, Primary, Base, Answer, Body, Value, Side, ArrowParams, ArrowBody}
 use Rattle.swc_grammar.specs.Grammar.{Production, ident-expr, base-primary, body-block, body-expr, async-ident, async-call}
 use Rattle.swc_grammar.specs.Reads.{Follows, took, held, calm, heard}
 use Rattle.swc_grammar.specs.Clean.{begins_private, Ans, Out, first, Call, sym, links, climb, plan, rank, allowed, exec, no_link, base, begins_new, updates, assigns, no_update_at, Bound, Stop, pick, chosen, primary, run, parens, arrow_tail, arrow_block, behind_base, is_lparen_here, unary, is_alone, constructed, Plan, is_arrow_here, is_identifier, pick_apart, operand}
 use Rattle.swc_grammar.specs.Arrows.{is_arrow, async_name, goes_on_async, of_arrow, is_arrow_word}
-use Rattle.swc_grammar.specs.{Names.Spelling, Parts.reference, Cover.as_params, Cover.heads_ok}
+use Rattle.swc_grammar.specs.{Names.Spelling, Parts.reference, Cover.as_params, Cover.arrow_params_ok}
 use Rattle.swc_grammar.proofs.Answers.{both, only, unless, then-ok, inj}
 use Rattle.swc_grammar.proofs.Complete.Sides.{last, climb-ends, Ready}
 use Rattle.swc_grammar.proofs.Complete.Bools.{and-false, if-on, if-off}
@@ -163,15 +163,15 @@ module _ {F C K : Type 0} (hook : Hook F C K) where
       ∙ rw (first-sees is_arrow w.1 y, ok) (base-behind c l0 w.1 e ms u)
 
   -- an arrow function
-  pub heads-reads : (c : Scope) (b : Bool) (s : Span) (us ms ys : List TokenAndSpan) (hs t : Tree F C K)
-      → run hook (sym Heads) c (tk token.LParen b s ∷ us) ≡ Some (hs, ms) → at_token is_arrow (first ms) ≡ true
+  pub params-reads : (c : Scope) (b : Bool) (s : Span) (us ms ys : List TokenAndSpan) (hs t : Tree F C K)
+      → run hook (sym ArrowParams) c (tk token.LParen b s ∷ us) ≡ Some (hs, ms) → at_token is_arrow (first ms) ≡ true
       → exec hook (run hook) (Some 2) (plan (arrow_tail c hs)) ms ≡ Some (t, ys)
       → run hook (sym Assign) c (tk token.LParen b s ∷ us) ≡ Some (t, ys)
-  heads-reads c b s us ms ys hs t h y d =
+  params-reads c b s us ms ys hs t h y d =
       let (w, a1, b1) = then-ok (run hook (sym (Args false)) (with_in c) us) _
-      (sym_path (knot hook (sym Heads) c (tk token.LParen b s ∷ us)) ∙ h) in
+      (sym_path (knot hook (sym ArrowParams) c (tk token.LParen b s ∷ us)) ∙ h) in
       let (ps, e, b2) = given-run None (as_params w.0) _ w.1 b1 in
-      let (ok, b3) = only (heads_ok c.context ps) b2 in
+      let (ok, b3) = only (arrow_params_ok c.context ps) b2 in
       let o = inj (listed None (to s (span_of w.0)) ps, w.1) (hs, ms) b3 in
       let z : at_token is_arrow (first w.1) ≡ true = subst (λ v. at_token is_arrow (first v.1) ≡ true) (sym_path o) y in
       let f : exec hook (run hook) (Some 2) (plan (arrow_tail c (listed None (to s (span_of w.0)) ps))) w.1

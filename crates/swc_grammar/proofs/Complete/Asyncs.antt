@@ -10,11 +10,11 @@ use Rattle.swc_grammar.specs.Scope.{Scope, at_head, inner}
 use Rattle.swc_grammar.specs.Rule.{gives, take, check, peek, peek_two, read, sees, sees_two, given, ◌>>=◌}
 use Rattle.swc_grammar.specs.Tokens.{tk, with_in, is_lparen}
 use Rattle.swc_grammar.specs.Reads.{calm, Reads, Follows, took, held}
-use Rattle.swc_grammar.specs.Symbols.{Symbol, Assign, Level, Args, Primary, Answer, Side, Heads}
+use Rattle.swc_grammar.specs.Symbols.{Symbol, Assign, Level, Args, Primary, Answer, Side, ArrowParams}
 use Rattle.swc_grammar.specs.Grammar.{base-primary, async-ident, async-call, arrow-async-name}
 use Rattle.swc_grammar.specs.Clean.{first, sym, plan, exec, base, begins_new, second, assigns, pick, chosen, step, run, begins_arrow, asyncs, async_head, async_arrow_tail, begins_async_name, is_alone, begins_async_list, is_lparen_here, before_of_here, is_bindable_here, assigned, operand, unary, Plan, is_arrow_here, pick_apart}
 use Rattle.swc_grammar.specs.Arrows.{is_arrow, async_name, async_param, goes_on_async, of_arrow, is_bindable, before_of}
-use Rattle.swc_grammar.specs.{Names.Spelling, Names.may_bind, Cover.as_params, Cover.heads_ok}
+use Rattle.swc_grammar.specs.{Names.Spelling, Names.may_bind, Cover.as_params, Cover.arrow_params_ok}
 use Rattle.swc_grammar.proofs.Answers.{both, only, unless, then-ok, inj}
 use Rattle.swc_grammar.proofs.Complete.Sides.{last, Ran, Claim, given-ran}
 use Rattle.swc_grammar.proofs.Complete.Bools.{and-false, if-on, if-off}
@@ -228,16 +228,17 @@ module _ {F C K : Type 0} (hook : Hook F C K) where
       clash q r (by-one w) = absurd cc
       clash q r (by-two w) = absurd cc
 
-  pub async-heads-reads : (c : Scope) (a : TokenAndSpan) (s : Span) (us ms ys : List TokenAndSpan) (n : Spelling)
+  pub async-params-reads : (c : Scope) (a : TokenAndSpan) (s : Span) (us ms ys : List TokenAndSpan) (n : Spelling)
       (hs t : Tree F C K) → async_name c a.token a.span ≡ Some n
-      → run hook (sym Heads) c (tk token.LParen false s ∷ us) ≡ Some (hs, ms) → at_token is_arrow (first ms) ≡ true
+      → run hook (sym ArrowParams) c (tk token.LParen false s ∷ us) ≡ Some (hs, ms)
+      → at_token is_arrow (first ms) ≡ true
       → exec hook (run hook) (Some 2) (plan (async_arrow_tail c n hs)) ms ≡ Some (t, ys)
       → run hook (sym Assign) c (a ∷ (tk token.LParen false s ∷ us)) ≡ Some (t, ys)
-  async-heads-reads c a s us ms ys n hs t i h y d =
+  async-params-reads c a s us ms ys n hs t i h y d =
       let (w, a1, b1) = then-ok (run hook (sym (Args false)) (with_in c) us) _
-      (sym_path (knot hook (sym Heads) c (tk token.LParen false s ∷ us)) ∙ h) in
+      (sym_path (knot hook (sym ArrowParams) c (tk token.LParen false s ∷ us)) ∙ h) in
       let (ps, e, b2) = given-run hook None (as_params w.0) _ w.1 b1 in
-      let (ok, b3) = only (heads_ok c.context ps) b2 in
+      let (ok, b3) = only (arrow_params_ok c.context ps) b2 in
       let o = inj (listed None (to s (span_of w.0)) ps, w.1) (hs, ms) b3 in
       let z : at_token is_arrow (first w.1) ≡ true = subst (λ v. at_token is_arrow (first v.1) ≡ true) (sym_path o) y in
       let f : exec hook (run hook) (Some 2) (plan (async_arrow_tail c n (listed None (to s (span_of w.0)) ps))) w.1
@@ -246,18 +247,20 @@ module _ {F C K : Type 0} (hook : Hook F C K) where
       async-reads c a s us w.1 n w.0 i a1 ∙ knot hook (asyncs n w.0) c w.1 ∙ rw (z, e, ok) f
 
   calm-parts : (c : Scope) (n : Spelling) (us : List TokenAndSpan) {ys : List TokenAndSpan} {t : Tree F C K}
-      → Ran hook Assign (peek (λ t. t.had_line_break) (read Heads c (λ hs. async_arrow_tail c n hs))) us ys t
+      → Ran hook Assign (peek (λ t. t.had_line_break) (read ArrowParams c (λ hs. async_arrow_tail c n hs))) us ys t
       → (sees (λ t. t.had_line_break) us ≡ false)
-      × (hs : Tree F C K) × (ms : List TokenAndSpan) × Reads hook Heads c us ms hs × Claim hook Heads c us ms hs
+      × (hs : Tree F C K) × (ms : List TokenAndSpan) × Reads hook ArrowParams c us ms hs
+      × Claim hook ArrowParams c us ms hs
       × Ran hook Assign (async_arrow_tail c n hs) ms ys t
   calm-parts c n us (ran-calm l (ran-part {e = hs} {ms = ms} dh k w)) = (l, hs, ms, dh, k, w)
 
-  pub async-heads-parts : (c : Scope) (a : TokenAndSpan)
+  pub async-params-parts : (c : Scope) (a : TokenAndSpan)
       (us : List TokenAndSpan) {ys : List TokenAndSpan} {t : Tree F C K}
       → Ran hook Assign (given (async_name c a.token a.span) >>= (λ s. peek (λ t. t.had_line_break)
-      (read Heads c (λ hs. async_arrow_tail c s hs)))) us ys t
+      (read ArrowParams c (λ hs. async_arrow_tail c s hs)))) us ys t
       → (n : Spelling) × (async_name c a.token a.span ≡ Some n) × ((sees (λ t. t.had_line_break) us ≡ false)
-      × (hs : Tree F C K) × (ms : List TokenAndSpan) × Reads hook Heads c us ms hs × Claim hook Heads c us ms hs
+      × (hs : Tree F C K) × (ms : List TokenAndSpan) × Reads hook ArrowParams c us ms hs
+      × Claim hook ArrowParams c us ms hs
       × Ran hook Assign (async_arrow_tail c n hs) ms ys t)
-  async-heads-parts c a us w =
+  async-params-parts c a us w =
       let (n, i, w1) = given-ran hook (async_name c a.token a.span) _ w in (n, i, calm-parts c n us w1)

@@ -4,7 +4,7 @@ use Rattle.swc_grammar.specs.Arrows.{is_arrow}
 use Rattle.swc_nodes.specs.GrowingNodes.{first_start, last_end}
 use Rattle.swc_steps.specs.Parsing.{args_at}
 use Rattle.swc_steps.proofs.Steps as s
-use Rattle.swc_arrows.specs.Readers.{base_behind, base_closed, base_look, heads_closed}
+use Rattle.swc_arrows.specs.Readers.{base_behind, base_closed, base_look, params_closed}
 use Rattle.swc_arrows.specs.{Answers.callee_at, Answers.IsBase, declared.names.Beginning.Beginning as begins}
 use Rattle.swc_nodes.proofs.Standing.{grows-same}
 use Rattle.swc_arrows.proofs.Bases.{if_arrow, look_base}
@@ -21,12 +21,12 @@ returns-then-is_sign-clause-rewrites g c = λ k le apart.
     let now = c.args.p.now.nodes in
     let hook = g.B.BodyForms.forms in
     let xs = map (λ e. e.expr) c.args.list.items.items in
-    list_after hook c.parse_heads.result
-    (s.on_seen {g = heads_closed hook (callee_at now c.args.start.callee) c.args.start.at (args_at now c.args.list)}
+    list_after hook c.parse_params.result
+    (s.on_seen {g = params_closed hook (callee_at now c.args.start.callee) c.args.start.at (args_at now c.args.list)}
     c.in_ok-look.ensures.looks (λ x ts same e. closed_arrow hook (first_start now xs) (last_end now xs)
     (callee_at now c.args.start.callee) c.args.start.at (args_at now c.args.list) x ts
     (ap (at_token is_arrow) e ∙ sym c.is_sign.ensures.value ∙ c.if-is_sign.true)))
-    refl (c.parse_heads.ensures.rewrites k le apart)
+    refl (c.parse_params.ensures.rewrites k le apart)
 
 pub returns-in_err-base-clause-rewrites : goal.returns-in_err-base-clause-rewrites
 returns-in_err-base-clause-rewrites g c = λ k le apart.
@@ -59,8 +59,8 @@ returns-then-is_sign-clause-base g c =
     let now = c.args.p.now.nodes in
     let xs = map (λ e. e.expr) c.args.list.items.items in
     if_arrow (λ v. IsBase g.I.Tokens.model g.B.Bodies.is_faithful (base_look (first_start now xs) (last_end now xs)
-    (callee_at now c.args.start.callee) c.args.start.at (args_at now c.args.list)) c.parse_heads.new.p.nodes v
-    c.args.p.now.input c.parse_heads.new.p.input) (λ h. tt) c.parse_heads.result c.parse_heads.ensures.arrow
+    (callee_at now c.args.start.callee) c.args.start.at (args_at now c.args.list)) c.parse_params.new.p.nodes v
+    c.args.p.now.input c.parse_params.new.p.input) (λ h. tt) c.parse_params.result c.parse_params.ensures.arrow
 
 pub returns-clause-base : goal.returns-clause-base
 returns-clause-base g c =

@@ -1,6 +1,6 @@
 use Rattle.std.proofs.Common.{◌≡◌, ◌+◌, ◌*◌, ◌++◌, drop}
 use Rattle.swc_cover.proofs.Fitting.{pats_of, pat_props_of}
-use Rattle.swc_cover.specs.{Below.part_size, Below.pat_elem_size, Below.pat_prop_size, Heads.all_reserved, Heads.props_reserved}
+use Rattle.swc_cover.specs.{Below.part_size, Below.pat_elem_size, Below.pat_prop_size, ReservedNames.all_reserved, ReservedNames.props_reserved}
 use Rattle.swc_cover.proofs.param_names.+names.Given as goal
 
 abbrev pub decreases-add_names : goal.decreases-add_names

@@ -2,7 +2,7 @@ use Rattle.std.proofs.Common.{◌≡◌, true, false, not, ◌++◌, sym, ap, �
 use Rattle.swc_input.specs.Buffer.{context, last_position}
 use Rattle.swc_cover.proofs.Bound.{names-lax}
 use Rattle.swc_cover.proofs.FaultsNoted.{all-bound, none-bound, none-strict, strict-as}
-use Rattle.swc_cover.specs.{Heads.all_reserved, Heads.names_ok, Refining.pats_at}
+use Rattle.swc_cover.specs.{ReservedNames.all_reserved, ReservedNames.names_ok, Refining.pats_at}
 use Rattle.swc_steps.proofs.Steps.{check_passes, forgoes_here}
 use Rattle.swc_cover.proofs.param_names.check_param_names.Goals as goal
 

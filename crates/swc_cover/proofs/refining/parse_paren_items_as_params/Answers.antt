@@ -1,7 +1,7 @@
 use Rattle.std.proofs.Common.{sym, ap, ◌∙◌}
 use Rattle.std.proofs.lemmas.Result.{err_from_is_err_and}
 use Rattle.swc_input.specs.Buffer.{context}
-use Rattle.swc_cover.proofs.{Checked.forgoes-after, Clear.heads-then, Kept.apart-any, Kept.parts-kept, FaultsNoted.judged-params, Refines.items-refined, Refines.items-unfit}
+use Rattle.swc_cover.proofs.{Checked.forgoes-after, Clear.params-then, Kept.apart-any, Kept.parts-kept, FaultsNoted.judged-params, Refines.items-refined, Refines.items-unfit}
 use Rattle.swc_cover.specs.{Noting.names_bound, Refining.pats_at}
 use Rattle.swc_nodes.specs.NodeParts.{flat, item_parts}
 use Rattle.swc_cover.proofs.refining.parse_paren_items_as_params.Goals as goal
@@ -47,7 +47,7 @@ returns-in_err-check_param_names-in-Ok-clause-unclear g c =
 
 pub returns-in_ok-check_param_names-in-Ok-clause-exact : goal.returns-in_ok-check_param_names-in-Ok-clause-exact
 returns-in_ok-check_param_names-in-Ok-clause-exact g c =
-    heads-then (pats_at c.refine_items.new.nodes c.in-Ok.pats.items) c.in_ok-check_items.ensures.exact
+    params-then (pats_at c.refine_items.new.nodes c.in-Ok.pats.items) c.in_ok-check_items.ensures.exact
     c.in_ok-check_param_names-in-Ok.ensures.checks
 
 pub returns-in_err-check_items-clause-judges : goal.returns-in_err-check_items-clause-judges

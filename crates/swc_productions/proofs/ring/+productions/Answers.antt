@@ -178,8 +178,7 @@ parse_primary_expr-returns-in_err-list-in-Paren g t c =
 
 pub parse_primary_expr-paren_items-requires : goal.parse_primary_expr-paren_items-requires
 parse_primary_expr-paren_items-requires g t c = record {
-  apart =
-      apart-down (args_parts c.in_ok-list-in-Paren.list.items) c.in_ok-list-in-Paren.ensures.from;
+  apart = apart-down (args_parts c.in_ok-list-in-Paren.list.items) c.in_ok-list-in-Paren.ensures.from;
 }
 
 pub parse_primary_expr-returns-in_ok-list-in-Paren : goal.parse_primary_expr-returns-in_ok-list-in-Paren
@@ -313,8 +312,7 @@ parse_primary_expr-returns-in_err-parts-in-Template g t c =
 
 pub parse_primary_expr-tpl-node-requires : goal.parse_primary_expr-tpl-node-requires
 parse_primary_expr-tpl-node-requires g t c = record {
-  apart =
-      apart-down (exprs_parts c.in_ok-parts-in-Template.parts.exprs) c.in_ok-parts-in-Template.ensures.from;
+  apart = apart-down (exprs_parts c.in_ok-parts-in-Template.parts.exprs) c.in_ok-parts-in-Template.ensures.from;
 }
 
 pub parse_primary_expr-returns-in_ok-parts-in-Template : goal.parse_primary_expr-returns-in_ok-parts-in-Template
@@ -1398,7 +1396,7 @@ parse_subscripts-returns-in_err-head g t c =
     let l = tree_of c.loop-head.p.nodes c.loop-head.obj in
     m.refused_more c.from_residual.ensures.1
     (s.unheard_after c.loop-head.invariant.0 (s.unheard_call _ (link.links_splits _ b l)
-    (c.in_err-head.ensures.heads g.B.Bodies.is_faithful))) c.loop-head.invariant.2
+    (c.in_err-head.ensures.covered-params g.B.Bodies.is_faithful))) c.loop-head.invariant.2
 
 pub parse_subscripts-returns-in-None : goal.parse_subscripts-returns-in-None
 parse_subscripts-returns-in-None g t c =
@@ -1406,14 +1404,14 @@ parse_subscripts-returns-in-None g t c =
     let l = tree_of c.loop-head.p.nodes c.loop-head.obj in
     m.on (Ok _)
     (s.on_then c.loop-head.invariant.0 (s.on_call _ (link.links_splits _ b l)
-    (s.on_answer c.in-None.is (c.in_ok-head.ensures.heads g.B.Bodies.is_faithful))))
+    (s.on_answer c.in-None.is (c.in_ok-head.ensures.covered-params g.B.Bodies.is_faithful))))
     c.loop-head.invariant.2 c.loop-head.invariant.3
 
 pub parse_subscripts-returns-in_err-obj-in-Name : goal.parse_subscripts-returns-in_err-obj-in-Name
 parse_subscripts-returns-in_err-obj-in-Name g t c =
     m.passed_more c.from_residual-in_err-obj-in-Name.ensures.1
     (chain.not_linked g.B.BodyForms.forms c.args.p.now c.loop-head.p _ c.loop-head.invariant c.in-Some.is
-    (c.in_ok-head.ensures.heads g.B.Bodies.is_faithful)
+    (c.in_ok-head.ensures.covered-params g.B.Bodies.is_faithful)
     (m.after (Err _) (s.on_here {f = link_tail _ c.in-Some.head (tree_of c.loop-head.p.nodes c.loop-head.obj)}
     g.met.I.Tokens.laws _
     (λ x ts. link.tail_name _ c.in-Some.head c.in-Name.optional _ x ts c.in-Name.is))
@@ -1422,7 +1420,7 @@ parse_subscripts-returns-in_err-obj-in-Name g t c =
 pub parse_subscripts-loop-head-preserved-in-Name : goal.parse_subscripts-loop-head-preserved-in-Name
 parse_subscripts-loop-head-preserved-in-Name g t c =
     chain.linked g.B.BodyForms.forms c.args.p.now c.loop-head.p _ c.loop-head.invariant c.in-Some.is
-    (c.in_ok-head.ensures.heads g.B.Bodies.is_faithful) c.in_ok-head.ensures.falls
+    (c.in_ok-head.ensures.covered-params g.B.Bodies.is_faithful) c.in_ok-head.ensures.falls
     (m.after (Ok _) (s.on_here {f = link_tail _ c.in-Some.head (tree_of c.loop-head.p.nodes c.loop-head.obj)}
     g.met.I.Tokens.laws _
     (λ x ts. link.tail_name _ c.in-Some.head c.in-Name.optional _ x ts c.in-Name.is))
@@ -1436,7 +1434,7 @@ parse_subscripts-returns-in_err-expr-in-Computed g t c =
     let l = tree_of c.loop-head.p.nodes c.loop-head.obj in
     m.passed_more c.from_residual-in_err-expr-in-Computed.ensures.1
     (chain.not_linked g.B.BodyForms.forms c.args.p.now c.loop-head.p _ c.loop-head.invariant c.in-Some.is
-    (c.in_ok-head.ensures.heads g.B.Bodies.is_faithful)
+    (c.in_ok-head.ensures.covered-params g.B.Bodies.is_faithful)
     (m.no (s.unheard_call (λ x p. computed_close c.in-Computed.optional c.in-Computed.start l p.0 x p.1)
     (λ x ts. link.tail_computed _ c.in-Some.head c.in-Computed.start c.in-Computed.optional l x ts c.in-Computed.is)
     inner.reads) inner.grows))
@@ -1458,7 +1456,7 @@ parse_subscripts-returns-in_err-obj-in-Computed g t c =
     c.in_ok-expr-in-Computed.ensures.context in
     m.passed_more c.from_residual-in_err-obj-in-Computed.ensures.1
     (chain.not_linked g.B.BodyForms.forms c.args.p.now c.loop-head.p _ c.loop-head.invariant c.in-Some.is
-    (c.in_ok-head.ensures.heads g.B.Bodies.is_faithful)
+    (c.in_ok-head.ensures.covered-params g.B.Bodies.is_faithful)
     (m.tail (Err _) (λ v x p. computed_close c.in-Computed.optional c.in-Computed.start v p.0 x p.1)
     (λ x ts. link.tail_computed _ c.in-Some.head c.in-Computed.start c.in-Computed.optional _ x ts c.in-Computed.is)
     inner.reads inner.grows c.loop-head.invariant.3 (m.weaker (Err _) c.in_err-obj-in-Computed.ensures)))
@@ -1470,7 +1468,7 @@ parse_subscripts-loop-head-preserved-in-Computed g t c =
     c.parse_expr-read.ensures c.in_ok-expr-in-Computed.ensures.answer c.in_ok-expr-in-Computed.ensures.moves
     c.in_ok-expr-in-Computed.ensures.context in
     chain.linked g.B.BodyForms.forms c.args.p.now c.loop-head.p _ c.loop-head.invariant c.in-Some.is
-    (c.in_ok-head.ensures.heads g.B.Bodies.is_faithful) c.in_ok-head.ensures.falls
+    (c.in_ok-head.ensures.covered-params g.B.Bodies.is_faithful) c.in_ok-head.ensures.falls
     (m.tail (Ok _) (λ v x p. computed_close c.in-Computed.optional c.in-Computed.start v p.0 x p.1)
     (λ x ts. link.tail_computed _ c.in-Some.head c.in-Computed.start c.in-Computed.optional _ x ts c.in-Computed.is)
     inner.reads inner.grows c.loop-head.invariant.3 (m.weaker (Ok _) c.in_ok-obj-in-Computed.ensures))
@@ -1480,7 +1478,7 @@ parse_subscripts-returns-in_err-list-in-Call g t c =
     let l = tree_of c.loop-head.p.nodes c.loop-head.obj in
     m.passed_more c.from_residual-in_err-list-in-Call.ensures.1
     (chain.not_linked g.B.BodyForms.forms c.args.p.now c.loop-head.p _ c.loop-head.invariant c.in-Some.is
-    (c.in_ok-head.ensures.heads g.B.Bodies.is_faithful)
+    (c.in_ok-head.ensures.covered-params g.B.Bodies.is_faithful)
     (m.no (s.unheard_call (λ x p. call_node c.in-Call.optional l p.0 x p.1)
     (λ x ts. link.tail_call _ c.in-Some.head c.in-Call.optional l x ts c.in-Call.is)
     c.in_err-list-in-Call.ensures.reads) c.parse_args.ensures.grows))
@@ -1494,7 +1492,7 @@ pub parse_subscripts-returns-in_err-obj-in-Call : goal.parse_subscripts-returns-
 parse_subscripts-returns-in_err-obj-in-Call g t c =
     m.passed_more c.from_residual-in_err-obj-in-Call.ensures.1
     (chain.not_linked g.B.BodyForms.forms c.args.p.now c.loop-head.p _ c.loop-head.invariant c.in-Some.is
-    (c.in_ok-head.ensures.heads g.B.Bodies.is_faithful)
+    (c.in_ok-head.ensures.covered-params g.B.Bodies.is_faithful)
     (m.tail (Err _) (λ v x p. call_node c.in-Call.optional v p.0 x p.1)
     (λ x ts. link.tail_call _ c.in-Some.head c.in-Call.optional _ x ts c.in-Call.is)
     c.in_ok-list-in-Call.ensures.reads c.parse_args.ensures.grows c.loop-head.invariant.3 c.in_err-obj-in-Call.ensures))
@@ -1502,7 +1500,7 @@ parse_subscripts-returns-in_err-obj-in-Call g t c =
 pub parse_subscripts-loop-head-preserved-in-Call : goal.parse_subscripts-loop-head-preserved-in-Call
 parse_subscripts-loop-head-preserved-in-Call g t c =
     chain.linked g.B.BodyForms.forms c.args.p.now c.loop-head.p _ c.loop-head.invariant c.in-Some.is
-    (c.in_ok-head.ensures.heads g.B.Bodies.is_faithful) c.in_ok-head.ensures.falls
+    (c.in_ok-head.ensures.covered-params g.B.Bodies.is_faithful) c.in_ok-head.ensures.falls
     (m.tail (Ok _) (λ v x p. call_node c.in-Call.optional v p.0 x p.1)
     (λ x ts. link.tail_call _ c.in-Some.head c.in-Call.optional _ x ts c.in-Call.is)
     c.in_ok-list-in-Call.ensures.reads c.parse_args.ensures.grows c.loop-head.invariant.3 c.in_ok-obj-in-Call.ensures)
@@ -1512,7 +1510,7 @@ parse_subscripts-returns-in_err-parts-in-Template g t c =
     let l = tree_of c.loop-head.p.nodes c.loop-head.obj in
     m.passed_more c.from_residual-in_err-parts-in-Template.ensures.1
     (chain.not_linked g.B.BodyForms.forms c.args.p.now c.loop-head.p _ c.loop-head.invariant c.in-Some.is
-    (c.in_ok-head.ensures.heads g.B.Bodies.is_faithful)
+    (c.in_ok-head.ensures.covered-params g.B.Bodies.is_faithful)
     (m.no (s.unheard_call (λ x p. tagged_node c.in-Template.start l p.0 x p.1)
     (λ x ts. link.tail_template _ c.in-Some.head c.in-Template.start l x ts c.in-Template.is)
     (s.unheard_inner c.in_err-parts-in-Template.ensures.reads)) c.parse_tpl_elements.ensures.grows))
@@ -1526,7 +1524,7 @@ pub parse_subscripts-returns-in_err-obj-in-Template : goal.parse_subscripts-retu
 parse_subscripts-returns-in_err-obj-in-Template g t c =
     m.passed_more c.from_residual-in_err-obj-in-Template.ensures.1
     (chain.not_linked g.B.BodyForms.forms c.args.p.now c.loop-head.p _ c.loop-head.invariant c.in-Some.is
-    (c.in_ok-head.ensures.heads g.B.Bodies.is_faithful)
+    (c.in_ok-head.ensures.covered-params g.B.Bodies.is_faithful)
     (m.tail (Err _) (λ v x p. tagged_node c.in-Template.start v p.0 x p.1)
     (λ x ts. link.tail_template _ c.in-Some.head c.in-Template.start _ x ts c.in-Template.is)
     (s.heard_inner c.in_ok-parts-in-Template.ensures.reads) c.parse_tpl_elements.ensures.grows c.loop-head.invariant.3
@@ -1535,7 +1533,7 @@ parse_subscripts-returns-in_err-obj-in-Template g t c =
 pub parse_subscripts-loop-head-preserved : goal.parse_subscripts-loop-head-preserved
 parse_subscripts-loop-head-preserved g t c =
     chain.linked g.B.BodyForms.forms c.args.p.now c.loop-head.p _ c.loop-head.invariant c.in-Some.is
-    (c.in_ok-head.ensures.heads g.B.Bodies.is_faithful) c.in_ok-head.ensures.falls
+    (c.in_ok-head.ensures.covered-params g.B.Bodies.is_faithful) c.in_ok-head.ensures.falls
     (m.tail (Ok _) (λ v x p. tagged_node c.in-Template.start v p.0 x p.1)
     (λ x ts. link.tail_template _ c.in-Some.head c.in-Template.start _ x ts c.in-Template.is)
     (s.heard_inner c.in_ok-parts-in-Template.ensures.reads) c.parse_tpl_elements.ensures.grows c.loop-head.invariant.3
@@ -1687,8 +1685,7 @@ parse_operand-returns-in_err-callee g t c =
 
 pub parse_operand-parse_update_postfix-requires : goal.parse_operand-parse_update_postfix-requires
 parse_operand-parse_update_postfix-requires g t c = record {
-  from =
-      from-down (omega arith) c.in_ok-callee.ensures.from;
+  from = from-down (omega arith) c.in_ok-callee.ensures.from;
 }
 
 pub parse_operand-returns-then-begins_private : goal.parse_operand-returns-then-begins_private
@@ -1942,8 +1939,7 @@ parse_unary_expr-returns-then-is_await g t c =
     (λ ts h. update.await_ill _ start (scope g.I.Tokens.model now) ts h))
     (s.heard_call_read (λ x p. Some (await_e (to start (span_of p.0)) p.0, p.1)) (λ x ts. refl)
     (λ x ts us h y ys. ap (λ v. Some (
-      await_e (from_to start.lo v)
-          (tree_of c.parse_unary_expr-then-is_await.new.p.nodes c.in_ok-arg.arg),
+      await_e (from_to start.lo v) (tree_of c.parse_unary_expr-then-is_await.new.p.nodes c.in_ok-arg.arg),
       ys,
     ))
     (sym (ending.ended _ g.met.B.Bodies.lawful c.in_ok-arg.arg Unary (inner x) ts us c.in_ok-arg.ensures.from h)))
@@ -2980,16 +2976,16 @@ parse_arrow_or_operand-returns-in_ok-operand-in-Base g t c =
     (grows-then c.in_ok-callee-in-Base.ensures.grows c.in_ok-operand-in-Base.ensures.grows))
     (from-down (omega arith) c.in_ok-operand-in-Base.ensures.from)
 
-pub parse_arrow_or_base-returns-in_err-head_kind : goal.parse_arrow_or_base-returns-in_err-head_kind
-parse_arrow_or_base-returns-in_err-head_kind g t c =
+pub parse_arrow_or_base-returns-in_err-start_kind : goal.parse_arrow_or_base-returns-in_err-start_kind
+parse_arrow_or_base-returns-in_err-start_kind g t c =
     begun.may_refused g.B.BodyForms.forms _ c.from_residual.ensures.1
-    (s.unheard_memory c.in_err-head_kind.ensures.tells) (grows-same _)
+    (s.unheard_memory c.in_err-start_kind.ensures.tells) (grows-same _)
 
 pub parse_arrow_or_base-returns-in-Other : goal.parse_arrow_or_base-returns-in-Other
 parse_arrow_or_base-returns-in-Other g t c =
     let forms = g.B.BodyForms.forms in
     begun.may_other forms (told.head_told forms (others forms) c.requires.looked
-    (told.told_by c.in-Other.is c.in_ok-head_kind.ensures.tells)
+    (told.told_by c.in-Other.is c.in_ok-start_kind.ensures.tells)
     c.requires.fit c.requires.no_yield (λ x ts begins is. head_law.assign_others forms x ts begins is)) (grows-same _)
 
 pub parse_arrow_or_base-returns-in_err-head-in-Name : goal.parse_arrow_or_base-returns-in_err-head-in-Name
@@ -2997,13 +2993,13 @@ parse_arrow_or_base-returns-in_err-head-in-Name g t c =
     let forms = g.B.BodyForms.forms in
     begun.may_refused forms _ c.from_residual-in_err-head-in-Name.ensures.1
     (s.unheard_after (told.head_told forms (name_arrow forms) c.requires.looked
-    (told.told_by c.in-Name.is c.in_ok-head_kind.ensures.tells)
+    (told.told_by c.in-Name.is c.in_ok-start_kind.ensures.tells)
     c.requires.fit c.requires.no_yield (λ x ts begins is. head_law.assign_name forms x ts begins is))
     c.in_err-head-in-Name.ensures.leaves.reads) c.in_err-head-in-Name.ensures.leaves.grows
 
 pub parse_arrow_or_base-parse_arrow_rest-requires : goal.parse_arrow_or_base-parse_arrow_rest-requires
 parse_arrow_or_base-parse_arrow_rest-requires g t c =
-    let falls = c.in_ok-head_kind.ensures.falls in
+    let falls = c.in_ok-start_kind.ensures.falls in
     let less = c.in_ok-head-in-Name.ensures.less in
     let apart = told.head_apart c.parse_arrow_name.new.p.nodes c.in_ok-head-in-Name.field-0 (count c.args.p.now.nodes) 0
     (omega arith) c.in-Arrow.is c.in_ok-head-in-Name.ensures.leaves.from in
@@ -3015,7 +3011,7 @@ parse_arrow_or_base-returns-in-Arrow g t c =
     let leaves = c.in_ok-head-in-Name.ensures.leaves in
     begun.may_arrow forms {m = c.parse_arrow_name.new.p} c.parse_arrow_rest.result
     (s.on_then (told.head_told forms (name_arrow forms) c.requires.looked
-    (told.told_by c.in-Name.is c.in_ok-head_kind.ensures.tells)
+    (told.told_by c.in-Name.is c.in_ok-start_kind.ensures.tells)
     c.requires.fit c.requires.no_yield (λ x ts begins is. head_law.assign_name forms x ts begins is))
     (told.head_behind c.parse_arrow_name.new.p.nodes c.in_ok-head-in-Name.field-0 forms c.in-Arrow.is leaves.reads))
     leaves.grows (omega arith) (c.parse_arrow_rest.ensures (count c.args.p.now.nodes)
@@ -3027,14 +3023,14 @@ parse_arrow_or_base-returns-in_err-head-in-AsyncName g t c =
     let forms = g.B.BodyForms.forms in
     begun.may_refused forms _ c.from_residual-in_err-head-in-AsyncName.ensures.1
     (s.unheard_after (told.head_told forms (async_arrow forms) c.requires.looked
-    (told.told_by c.in-AsyncName.is c.in_ok-head_kind.ensures.tells)
+    (told.told_by c.in-AsyncName.is c.in_ok-start_kind.ensures.tells)
     c.requires.fit c.requires.no_yield (λ x ts begins is. head_law.assign_async_name forms x ts begins is))
     c.in_err-head-in-AsyncName.ensures.leaves.reads) c.in_err-head-in-AsyncName.ensures.leaves.grows
 
 pub parse_arrow_or_base-parse_arrow_rest-requires-in-Arrow-2 :
     goal.parse_arrow_or_base-parse_arrow_rest-requires-in-Arrow-2
 parse_arrow_or_base-parse_arrow_rest-requires-in-Arrow-2 g t c =
-    let falls = c.in_ok-head_kind.ensures.falls in
+    let falls = c.in_ok-start_kind.ensures.falls in
     let less = c.in_ok-head-in-AsyncName.ensures.less in
     let apart = told.head_apart c.parse_async_name.new.p.nodes c.in_ok-head-in-AsyncName.field-0
     (count c.args.p.now.nodes) 0 (omega arith) c.in-Arrow-2.is c.in_ok-head-in-AsyncName.ensures.leaves.from in
@@ -3046,7 +3042,7 @@ parse_arrow_or_base-returns-in-Arrow-2 g t c =
     let leaves = c.in_ok-head-in-AsyncName.ensures.leaves in
     begun.may_arrow forms {m = c.parse_async_name.new.p} c.parse_arrow_rest-in-Arrow-2.result
     (s.on_then (told.head_told forms (async_arrow forms) c.requires.looked
-    (told.told_by c.in-AsyncName.is c.in_ok-head_kind.ensures.tells)
+    (told.told_by c.in-AsyncName.is c.in_ok-start_kind.ensures.tells)
     c.requires.fit c.requires.no_yield (λ x ts begins is. head_law.assign_async_name forms x ts begins is))
     (told.head_behind c.parse_async_name.new.p.nodes c.in_ok-head-in-AsyncName.field-0 forms c.in-Arrow-2.is
     leaves.reads))
@@ -3058,7 +3054,7 @@ pub parse_arrow_or_base-returns-in-Base-2 : goal.parse_arrow_or_base-returns-in-
 parse_arrow_or_base-returns-in-Base-2 g t c =
     let forms = g.B.BodyForms.forms in
     let async = c.in_ok-head-in-AsyncName.ensures in
-    let tells = told.told_by c.in-AsyncName.is c.in_ok-head_kind.ensures.tells in
+    let tells = told.told_by c.in-AsyncName.is c.in_ok-start_kind.ensures.tells in
     begun.may_base forms c.in-Base-2.base (record {
       opens = opens_after (told.head_told forms (async_arrow forms) c.requires.looked tells
           c.requires.fit c.requires.no_yield (λ x ts begins is. head_law.assign_async_name forms x ts begins is))
@@ -3075,7 +3071,7 @@ parse_arrow_or_base-returns-in_err-start-in-List g t c =
     let forms = g.B.BodyForms.forms in
     begun.may_refused forms _ c.from_residual-in_err-start-in-List.ensures.1
     (s.unheard_after (told.head_told forms (list_head forms c.in-List.is_async) c.requires.looked
-    (told.told_by c.in-List.is c.in_ok-head_kind.ensures.tells)
+    (told.told_by c.in-List.is c.in_ok-start_kind.ensures.tells)
     c.requires.fit c.requires.no_yield (λ x ts begins is.
     head_law.assign_listed forms x c.in-List.is_async ts begins is))
     c.in_err-start-in-List.ensures.leaves.reads) c.in_err-start-in-List.ensures.leaves.grows
@@ -3088,7 +3084,7 @@ parse_arrow_or_base-returns-in_err-list-in-List g t c =
     let callee = callee_at c.open_list.new.p.nodes start.callee in
     begun.may_refused forms _ c.from_residual-in_err-list-in-List.ensures.1
     (s.unheard_after (s.on_then (told.head_told forms (list_head forms c.in-List.is_async) c.requires.looked
-    (told.told_by c.in-List.is c.in_ok-head_kind.ensures.tells)
+    (told.told_by c.in-List.is c.in_ok-start_kind.ensures.tells)
     c.requires.fit c.requires.no_yield (λ x ts begins is.
     head_law.assign_listed forms x c.in-List.is_async ts begins is)) leaves.reads)
     (s.unheard_call (λ x q. list_behind forms callee start.at q.0 x q.1) (begun.list_splits forms callee start.at)
@@ -3107,7 +3103,7 @@ parse_arrow_or_base-returns-in_err-head-in-List g t c =
     let start = c.in_ok-start-in-List.start in
     let list = c.in_ok-list-in-List.ensures in
     let told_list = told.head_told forms (list_head forms c.in-List.is_async) c.requires.looked
-    (told.told_by c.in-List.is c.in_ok-head_kind.ensures.tells) c.requires.fit c.requires.no_yield
+    (told.told_by c.in-List.is c.in_ok-start_kind.ensures.tells) c.requires.fit c.requires.no_yield
     (λ x ts begins is. head_law.assign_listed forms x c.in-List.is_async ts begins is) in
     let a = grows-count opened.leaves.grows in
     let b = grows-count list.grows in
@@ -3128,7 +3124,7 @@ parse_arrow_or_base-parse_arrow_rest-requires-in-Arrow-3 g t c =
     let b = grows-count list.grows in
     let w = c.in_ok-head-in-List.ensures.rewrites (count c.args.p.now.nodes) (omega arith)
     (apart-more list.grows opened.leaves.from list.from) in
-    let falls = c.in_ok-head_kind.ensures.falls in
+    let falls = c.in_ok-start_kind.ensures.falls in
     let less = opened.less in
     let read = list.falls in
     let closed = w.falls in
@@ -3143,7 +3139,7 @@ parse_arrow_or_base-returns-in-Arrow-3 g t c =
     let start = c.in_ok-start-in-List.start in
     let list = c.in_ok-list-in-List.ensures in
     let told_list = told.head_told forms (list_head forms c.in-List.is_async) c.requires.looked
-    (told.told_by c.in-List.is c.in_ok-head_kind.ensures.tells) c.requires.fit c.requires.no_yield
+    (told.told_by c.in-List.is c.in_ok-start_kind.ensures.tells) c.requires.fit c.requires.no_yield
     (λ x ts begins is. head_law.assign_listed forms x c.in-List.is_async ts begins is) in
     let a = grows-count opened.leaves.grows in
     let b = grows-count list.grows in
@@ -3164,7 +3160,7 @@ parse_arrow_or_base-returns-in-Base-3 g t c =
     let opened = c.in_ok-start-in-List.ensures in
     let start = c.in_ok-start-in-List.start in
     let list = c.in_ok-list-in-List.ensures in
-    let tells = told.told_by c.in-List.is c.in_ok-head_kind.ensures.tells in
+    let tells = told.told_by c.in-List.is c.in_ok-start_kind.ensures.tells in
     let told_list = told.head_told forms (list_head forms c.in-List.is_async) c.requires.looked tells c.requires.fit
     c.requires.no_yield (λ x ts begins is. head_law.assign_listed forms x c.in-List.is_async ts begins is) in
     let a = grows-count opened.leaves.grows in
@@ -4042,8 +4038,7 @@ parse_pat-returns-in_err-elems-in-Array g t c =
 pub parse_pat-array_pat-requires : goal.parse_pat-array_pat-requires
 parse_pat-array_pat-requires g t c =
     record {
-      apart = apart-down (pat_elem_parts c.in_ok-elems-in-Array.elems.items)
-          c.in_ok-elems-in-Array.ensures.from;
+      apart = apart-down (pat_elem_parts c.in_ok-elems-in-Array.elems.items) c.in_ok-elems-in-Array.ensures.from;
     }
 
 pub parse_pat-returns-in_ok-elems-in-Array : goal.parse_pat-returns-in_ok-elems-in-Array
@@ -4239,8 +4234,7 @@ parse_pat_elements-returns-in_err-add-in-Item g t c =
           (record {
             reads = w.in_ok-pat-in-Some.ensures.reads;
             falls = w.in_ok-pat-in-Some.ensures.falls;
-            grows =
-                w.rest_pat.ensures.grows;
+            grows = w.rest_pat.ensures.grows;
             from = w.in_ok-pat-in-Some.ensures.from;
           }))
       | parse_pat_elements-in-None+in_ok-pat-in-None w ↦ rw (w.p-is, w.pat-is, w.dots-is ∙ w.in-None.is)
@@ -4275,8 +4269,7 @@ parse_pat_elements-returns-in_err-rest-in-Item g t c =
           (record {
             reads = w.in_ok-pat-in-Some.ensures.reads;
             falls = w.in_ok-pat-in-Some.ensures.falls;
-            grows =
-                w.rest_pat.ensures.grows;
+            grows = w.rest_pat.ensures.grows;
             from = w.in_ok-pat-in-Some.ensures.from;
           }))
       | parse_pat_elements-in-None+in_ok-pat-in-None w ↦ rw (w.p-is, w.pat-is, w.dots-is ∙ w.in-None.is)
@@ -4312,8 +4305,7 @@ parse_pat_elements-loop-items-preserved g t c =
           (record {
             reads = w.in_ok-pat-in-Some.ensures.reads;
             falls = w.in_ok-pat-in-Some.ensures.falls;
-            grows =
-                w.rest_pat.ensures.grows;
+            grows = w.rest_pat.ensures.grows;
             from = w.in_ok-pat-in-Some.ensures.from;
           }))
       | parse_pat_elements-in-None+in_ok-pat-in-None w ↦ rw (w.p-is, w.pat-is, w.dots-is ∙ w.in-None.is)
@@ -4496,11 +4488,9 @@ parse_formal_params-returns-in_err-add-in-Item g t c =
           w.in_ok-value-in-Some-2.ensures.reads.on.leads)
           w.parse_assignment_expr.ensures.grows (record {
             reads = w.in_ok-pat-in-Some-2.ensures.reads;
-            falls =
-                w.in_ok-pat-in-Some-2.ensures.falls;
+            falls = w.in_ok-pat-in-Some-2.ensures.falls;
             grows = w.rest_default.ensures.grows;
-            from =
-                w.in_ok-pat-in-Some-2.ensures.from;
+            from = w.in_ok-pat-in-Some-2.ensures.from;
           }))
       | parse_formal_params-in-Some+in_ok-arg-in-Some+in_ok-eat-in-Some+in-None-2+in_ok-pat-in-None-2 w ↦
           let arg = w.in_ok-arg-in-Some.arg in
@@ -4559,11 +4549,9 @@ parse_formal_params-returns-in_err-rest-in-Item g t c =
           w.in_ok-value-in-Some-2.ensures.reads.on.leads)
           w.parse_assignment_expr.ensures.grows (record {
             reads = w.in_ok-pat-in-Some-2.ensures.reads;
-            falls =
-                w.in_ok-pat-in-Some-2.ensures.falls;
+            falls = w.in_ok-pat-in-Some-2.ensures.falls;
             grows = w.rest_default.ensures.grows;
-            from =
-                w.in_ok-pat-in-Some-2.ensures.from;
+            from = w.in_ok-pat-in-Some-2.ensures.from;
           }))
       | parse_formal_params-in-Some+in_ok-arg-in-Some+in_ok-eat-in-Some+in-None-2+in_ok-pat-in-None-2 w ↦
           let arg = w.in_ok-arg-in-Some.arg in
@@ -4623,11 +4611,9 @@ parse_formal_params-loop-params-preserved g t c =
           w.in_ok-value-in-Some-2.ensures.reads.on.leads)
           w.parse_assignment_expr.ensures.grows (record {
             reads = w.in_ok-pat-in-Some-2.ensures.reads;
-            falls =
-                w.in_ok-pat-in-Some-2.ensures.falls;
+            falls = w.in_ok-pat-in-Some-2.ensures.falls;
             grows = w.rest_default.ensures.grows;
-            from =
-                w.in_ok-pat-in-Some-2.ensures.from;
+            from = w.in_ok-pat-in-Some-2.ensures.from;
           }))
       | parse_formal_params-in-Some+in_ok-arg-in-Some+in_ok-eat-in-Some+in-None-2+in_ok-pat-in-None-2 w ↦
           let arg = w.in_ok-arg-in-Some.arg in

@@ -2,8 +2,8 @@ use Rattle.std.proofs.{Common.refl, Common.sym, lemmas.Result.err_from_is_err_an
 use Rattle.swc_nodes.specs.{GrowingNodes.Apart, Lists.pats_parts}
 use Rattle.swc_patterns.specs.Answers.{pat_at}
 use Rattle.swc_ecma_parser.specs.Calls.{buffer_of, nodes_of, commas_of, pats_tree}
-use Rattle.swc_ecma_parser.specs.Heads.{heads_items}
-use Rattle.swc_ecma_parser.proofs.ArrowPromise.{bound-kept, heads-checked, kept-recalled, meets-kept}
+use Rattle.swc_ecma_parser.specs.ArrowParams.{params_items}
+use Rattle.swc_ecma_parser.proofs.ArrowPromise.{bound-kept, arrow-params-checked, kept-recalled, meets-kept}
 use Rattle.swc_ecma_parser.proofs.{Calling.promised, Calling.promised-again, Finished.checked-holds, Moving.kept-parts}
 use Rattle.swc_ecma_parser.proofs.parser.Parser.parse_arrow_params_id.Goals as goal
 
@@ -26,8 +26,8 @@ returns-clause-promised g c =
     let ns = nodes_of c.keep_checked.new.self in
     let answer = kept.checked in
     let reads =
-    heads-checked g.I.Tokens.model g.B.Bodies.is_faithful
-    (heads_items g.B.BodyForms.forms) ms _ _ _ c.parse_arrow_params-answer.result answer read.reads
+    arrow-params-checked g.I.Tokens.model g.B.Bodies.is_faithful
+    (params_items g.B.BodyForms.forms) ms _ _ _ c.parse_arrow_params-answer.result answer read.reads
     kept.checks in
     let from = checked-holds g.I.Tokens.model _ _ _ (λ x. Apart c.in_ok-start.start ms (pats_parts x))
     c.parse_arrow_params-answer.result answer kept.checks

@@ -5,7 +5,7 @@ use Rattle.swc_input.specs.{declared.token.Token.Token, declared.token.Token.Tok
 use Rattle.swc_bodies.specs.Readings.{is_async as is_async_token}
 use Rattle.swc_grammar.specs.Tokens.{is_put_off, is_reference, may_be_reference}
 use Rattle.swc_grammar.specs.{Arrows.is_arrow_word, Clean.first, Clean.second}
-use Rattle.swc_arrows.specs.{declared.heads.FirstKind.FirstKind, declared.heads.FirstKind.FirstKind as first_is, declared.heads.NextKind.NextKind, declared.heads.NextKind.NextKind as next_is, declared.heads.HeadKind.HeadKind, declared.heads.HeadKind.HeadKind as head}
+use Rattle.swc_arrows.specs.{declared.covered-params.FirstKind.FirstKind, declared.covered-params.FirstKind.FirstKind as first_is, declared.covered-params.NextKind.NextKind, declared.covered-params.NextKind.NextKind as next_is, declared.covered-params.StartKind.StartKind, declared.covered-params.StartKind.StartKind as head}
 
 -- the first token
 abbrev pub word_kind : Context → Word → FirstKind
@@ -34,27 +34,27 @@ next_kind c None = next_is.Other
 next_kind c (Some t) = if t.had_line_break then next_is.Other else next_token c t.token
 
 -- what both begin
-abbrev pub name_head : NextKind → HeadKind
+abbrev pub name_head : NextKind → StartKind
 name_head next_is.Arrow = head.Name
 name_head k = head.Other
 
-abbrev pub async_head : NextKind → HeadKind
+abbrev pub async_head : NextKind → StartKind
 async_head next_is.Arrow = head.Name
 async_head next_is.Paren = head.List true
 async_head next_is.Word = head.AsyncName
 async_head next_is.Other = head.Other
 
-abbrev pub head_by : FirstKind → NextKind → HeadKind
+abbrev pub head_by : FirstKind → NextKind → StartKind
 head_by first_is.Paren k = head.List false
 head_by first_is.Async k = async_head k
 head_by first_is.Word k = name_head k
 head_by first_is.Other k = head.Other
 
-abbrev pub head_kind : Context → List TokenAndSpan → HeadKind
-head_kind c ts = head_by (first_kind c (first ts)) (next_kind c (second ts))
+abbrev pub start_kind : Context → List TokenAndSpan → StartKind
+start_kind c ts = head_by (first_kind c (first ts)) (next_kind c (second ts))
 
 -- what is current where a head begins: a reference, or `async`
-abbrev pub begins_head : Context → HeadKind → Option TokenAndSpan → Type 0
+abbrev pub begins_head : Context → StartKind → Option TokenAndSpan → Type 0
 begins_head c head.Name o = at_token (may_be_reference c) o ≡ true
 begins_head c head.AsyncName o = at_token is_async_token o ≡ true
 begins_head c (head.List is_async) o = is_async ≡ true → at_token is_async_token o ≡ true

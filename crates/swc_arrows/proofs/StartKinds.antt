@@ -9,8 +9,8 @@ use Rattle.swc_grammar.specs.Clean.{first, second, is_alone, is_arrow_here, is_l
 use Rattle.swc_grammar.specs.Scope.{Scope}
 use Rattle.swc_grammar.specs.Tokens.{is_lparen, is_put_off, is_reference}
 use Rattle.swc_steps.proofs.Words.{is_same}
-use Rattle.swc_arrows.specs.Heads.{word_kind, token_kind, first_kind, next_token, next_kind, head_by, head_kind}
-use Rattle.swc_arrows.specs.{declared.heads.FirstKind.FirstKind, declared.heads.FirstKind.FirstKind as first_is, declared.heads.NextKind.NextKind, declared.heads.NextKind.NextKind as next_is, declared.heads.HeadKind.HeadKind, declared.heads.HeadKind.HeadKind as head}
+use Rattle.swc_arrows.specs.Starts.{word_kind, token_kind, first_kind, next_token, next_kind, head_by, start_kind}
+use Rattle.swc_arrows.specs.{declared.covered-params.FirstKind.FirstKind, declared.covered-params.FirstKind.FirstKind as first_is, declared.covered-params.NextKind.NextKind, declared.covered-params.NextKind.NextKind as next_is, declared.covered-params.StartKind.StartKind, declared.covered-params.StartKind.StartKind as head}
 
 -- ---- the first token
 
@@ -142,7 +142,7 @@ pub record Picks (x : Scope) (ts : List TokenAndSpan) (a p n l : Bool) : Type 0 
   pub name : (at_token is_async (first ts) && is_bindable_here x (second ts)) ≡ n
   pub list : begins_async_list ts ≡ l
 
-abbrev pub Chosen : Scope → List TokenAndSpan → HeadKind → Type 0
+abbrev pub Chosen : Scope → List TokenAndSpan → StartKind → Type 0
 Chosen x ts head.Name = Picks x ts true false false false
 Chosen x ts head.AsyncName = Picks x ts false false true false
 Chosen x ts (head.List true) = Picks x ts false false false true
@@ -181,7 +181,7 @@ module _ (x : Scope) (ts : List TokenAndSpan) where
   by_kinds first_is.Word next_is.Word t n = picks t n
   by_kinds first_is.Word next_is.Other t n = picks t n
 
-  pub head_picks : (k : HeadKind) → head_kind x.context ts ≡ k → Chosen x ts k
+  pub head_picks : (k : StartKind) → start_kind x.context ts ≡ k → Chosen x ts k
   head_picks k e =
       subst (Chosen x ts) e (by_kinds (first_kind x.context (first ts)) (next_kind x.context (second ts))
       (first_says x.context (first ts)) (next_says x (second ts)))

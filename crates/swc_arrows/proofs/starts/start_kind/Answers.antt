@@ -1,8 +1,8 @@
 use Rattle.std.proofs.Common.{false, refl, sym, ◌∙◌}
 use Rattle.swc_input.specs.Buffer.{context}
-use Rattle.swc_arrows.specs.{declared.heads.FirstKind.FirstKind as first_is, declared.heads.HeadKind.HeadKind as head}
+use Rattle.swc_arrows.specs.{declared.covered-params.FirstKind.FirstKind as first_is, declared.covered-params.StartKind.StartKind as head}
 use Rattle.swc_arrows.proofs.NextTokens.{told_first, told_head}
-use Rattle.swc_arrows.proofs.heads.head_kind.Goals as goal
+use Rattle.swc_arrows.proofs.starts.start_kind.Goals as goal
 
 pub returns-in-Paren-clause-tells : goal.returns-in-Paren-clause-tells
 returns-in-Paren-clause-tells g c =

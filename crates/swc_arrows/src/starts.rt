@@ -3,7 +3,7 @@ ghost use Rattle.std.specs.Prelude.{◌≡◌, ◌≤◌, OnOk, IfOk, IsSome, Ma
 ghost use Rattle.swc_grammar.specs.Clean.{second};
 ghost use Rattle.swc_input.specs.Buffer.{current, peeked, context, to_come, Peeked};
 ghost use Rattle.swc_steps.specs.Parsing.{seen, Tells};
-ghost use Rattle.swc_arrows.specs.Heads.{first_kind, word_kind, next_kind, next_token, head_kind, name_head, async_head, begins_head};
+ghost use Rattle.swc_arrows.specs.Starts.{first_kind, word_kind, next_kind, next_token, start_kind, name_head, async_head, begins_head};
 
 use swc_context::context::Context;
 use swc_context::error::PResult;
@@ -14,7 +14,7 @@ use swc_input::tokens::Tokens;
 
 /// What an assignment expression begins with, as far as two tokens tell.
 #[derive(Clone, Copy)]
-pub enum HeadKind {
+pub enum StartKind {
     /// A name, and `=>` on its line: an arrow function (ECMA-262, 15.3).
     Name,
     /// `async`, and a word that may be bound on its line: an async arrow function (ECMA-262, 15.9), but for `of` in the
@@ -55,14 +55,14 @@ pub enum NextKind {
 /// What the assignment expression begins with whose first token is current. Consumes nothing, and is refused only for
 /// out of memory.
 #[inline(never)]
-pub fn head_kind<I: Tokens>(input: &mut Buffer<I>) -> PResult<HeadKind>
+pub fn start_kind<I: Tokens>(input: &mut Buffer<I>) -> PResult<StartKind>
     requires { IsSome (current input.old) }
-    ensures tells { Tells I.model (head_kind (context I.model input.old)) input.old result input.new }
+    ensures tells { Tells I.model (start_kind (context I.model input.old)) input.old result input.new }
     ensures begins { IfOk result (λ k. begins_head (context I.model input.old) k (seen input.new)) }
     ensures falls { OnOk result (to_come I.model input.new ≤ to_come I.model input.old) }
 {
     match first_kind(input) {
-        FirstKind::Paren => Ok(HeadKind::List { is_async: false }),
+        FirstKind::Paren => Ok(StartKind::List { is_async: false }),
         FirstKind::Async => {
             let next = next_kind(input)?;
             Ok(async_head(next))
@@ -71,28 +71,28 @@ pub fn head_kind<I: Tokens>(input: &mut Buffer<I>) -> PResult<HeadKind>
             let next = next_kind(input)?;
             Ok(name_head(next))
         }
-        FirstKind::Other => Ok(HeadKind::Other),
+        FirstKind::Other => Ok(StartKind::Other),
     }
 }
 
 /// What `async` begins, and a name that may be before `=>`, by what is after it.
-fn async_head(next: NextKind) -> HeadKind
+fn async_head(next: NextKind) -> StartKind
     ensures { result ≡ async_head next }
 {
     match next {
-        NextKind::Arrow => HeadKind::Name,
-        NextKind::Paren => HeadKind::List { is_async: true },
-        NextKind::Word => HeadKind::AsyncName,
-        NextKind::Other => HeadKind::Other,
+        NextKind::Arrow => StartKind::Name,
+        NextKind::Paren => StartKind::List { is_async: true },
+        NextKind::Word => StartKind::AsyncName,
+        NextKind::Other => StartKind::Other,
     }
 }
 
-fn name_head(next: NextKind) -> HeadKind
+fn name_head(next: NextKind) -> StartKind
     ensures { result ≡ name_head next }
 {
     match next {
-        NextKind::Arrow => HeadKind::Name,
-        _ => HeadKind::Other,
+        NextKind::Arrow => StartKind::Name,
+        _ => StartKind::Other,
     }
 }
 
