@@ -73,6 +73,8 @@ parse_paren_items_as_params | script | (a)
 parse_paren_items_as_params | script | (a, ...[b, {c: d = 1}])
 reparse_expr_as_pat | script | a
 reparse_expr_as_pat | script | [a, {b: [c] = d, ...e}, ...f]
+reparse_expr_as_pat_id | script | a
+reparse_expr_as_pat_id | script | [a, {b: [c] = d, ...e}, ...f]
 make_object | script | a }
 make_pattern | script | a }
 parse_tpl(false) | script | `x`

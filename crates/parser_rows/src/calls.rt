@@ -6,7 +6,8 @@ use crate::objects::{make_literal, make_object, make_pattern};
 use crate::parsing::{TestExpr, TestParser, TestPat};
 use crate::reaching::{show_reached, show_reached_params, show_reached_pat};
 use crate::refining::{
-    params_of_items, reparse, reparse_invalid, reparse_other, verify, verify_expr, verify_other,
+    params_of_items, reparse, reparse_id, reparse_invalid, reparse_other, verify, verify_expr,
+    verify_other,
 };
 use crate::row::show_unread;
 use crate::shown::{Shown, show, show_faults, show_label, show_refusal};
@@ -224,6 +225,7 @@ fn call_at(parser: &mut TestParser, out: &mut String, call: &str) -> Result<(), 
         Some(("make_object", at)) => make_object(parser, out, span_of(at)),
         Some(("make_pattern", said)) => make_pattern(parser, out, said),
         Some(("reparse", kind)) => reparse(parser, out, kind),
+        Some(("reparse_id", kind)) => reparse_id(parser, out, kind),
         Some(("reparse_other", said)) => reparse_other(parser, out, said),
         Some(("reparse_invalid", kind)) => reparse_invalid(parser, out, kind),
         Some(("params_of_items", at)) => params_of_items(parser, out, span_of(at)),

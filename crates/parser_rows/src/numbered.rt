@@ -21,6 +21,10 @@ pub(crate) fn by_number(call: &str) -> &str {
         "parse_arrow_params" => "parse_arrow_params_id",
         "parse_for_head(false)" => "parse_for_head_id(false)",
         "parse_for_head(true)" => "parse_for_head_id(true)",
+        "reparse BindingPat" => "reparse_id BindingPat",
+        "reparse BindingElement" => "reparse_id BindingElement",
+        "reparse AssignPat" => "reparse_id AssignPat",
+        "reparse AssignElement" => "reparse_id AssignElement",
         _ => call,
     }
 }

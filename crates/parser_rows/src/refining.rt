@@ -1,5 +1,6 @@
 // Calls that make patterns of expressions, and those that look for names with values left over in them.
 use crate::hooks::TestBodies;
+use crate::numbered::show_in;
 use crate::parsing::{TestExpr, TestParser};
 use crate::shown::{NO_MEMORY, show, show_faults, show_refusal};
 use crate::tokens::tokens_of;
@@ -45,6 +46,25 @@ fn reparse_as(
     let kind = pat_type_of(kind).unwrap_or(PatType::BindingPat);
     match read {
         Ok(expr) => show(out, parser.reparse_expr_as_pat(kind, expr)),
+        Err(fault) => show_refusal(out, fault),
+    }
+}
+
+/// Reads an expression by its number, and makes a pattern of the kind of it, in place.
+pub(crate) fn reparse_id(
+    parser: &mut TestParser,
+    out: &mut String,
+    kind: &str,
+) -> Result<(), AllocError> {
+    let kind = pat_type_of(kind).unwrap_or(PatType::BindingPat);
+    match parser.parse_expr_id() {
+        Ok(id) => {
+            if !parser.nodes().has_expr(id) {
+                return out.push_str("no expression");
+            }
+            let answer = parser.reparse_expr_as_pat_id(kind, id);
+            show_in(out, parser.nodes(), answer)
+        }
         Err(fault) => show_refusal(out, fault),
     }
 }

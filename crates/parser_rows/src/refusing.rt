@@ -107,6 +107,7 @@ fn answer(out: &mut String, parser: &mut TestParser, name: &str) -> Result<(), A
             Err(_) => out.push_str(NO_MEMORY),
         },
         "reparse_expr_as_pat" => call(parser, out, "reparse BindingPat"),
+        "reparse_expr_as_pat_id" => call(parser, out, "reparse_id BindingPat"),
         "parse_paren_items_as_params" => call(parser, out, "params_of_items"),
         "make_object" => call(parser, out, "make_literal"),
         "make_pattern" => call(parser, out, "make_pattern 1"),

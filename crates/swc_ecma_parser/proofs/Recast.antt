@@ -11,7 +11,7 @@ use Rattle.swc_grammar.specs.Cover.{binding, as_elements, arrow_params_ok}
 use Rattle.swc_grammar.proofs.Marks.{same-valid}
 use Rattle.swc_nodes.specs.Marking.{Marker, Marks, marked_by, all_marked_by}
 use Rattle.swc_nodes.specs.NodeParts.{Part, expr_part, one_pat, pat_part, args_parts}
-use Rattle.swc_nodes.specs.GrowingNodes.{count, seat_at, tree_at, Apart, From, Grows, Made}
+use Rattle.swc_nodes.specs.GrowingNodes.{count, first_at, seat_at, tree_at, Apart, From, Grows, Made}
 use Rattle.swc_nodes.specs.{Lists.pats_parts, declared.node.ExprId.ExprId, declared.node.PatId.PatId, declared.nodes.Nodes.Nodes}
 use Rattle.swc_nodes.proofs.Marked.{items, apart-marked, marks-apart, marks-from, unmarked-marked, all-unmarked-marked}
 use Rattle.swc_nodes.proofs.{Chains.chain-down, Chains.floor-above, Held.apart-from, Held.from-down, Standing.cut_kept, Standing.grows-count}
@@ -79,6 +79,46 @@ module _ {F C K : Type 0} {fg : Ghosts F} {cg : Ghosts C} {kg : Ghosts K} where
   apart-lower : {ns : Nodes F C K fg cg kg} {j k : ℕ} (ps : List Part) → j ≤ k → Apart k ns ps → Apart j ns ps
   apart-lower {ns} {j} {k} ps le a = record { chained = chain-down (seat_at ns) k j ps (count ns) le a.chained }
 
+-- ---- an expression by its number
+
+module _ {S H F C K : Type 0} {fg : Ghosts F} {cg : Ghosts C} {kg : Ghosts K} (model : Model S)
+    (p q : Parser S H F C K fg cg kg) (pat_type : PatType) (id : ExprId) (from : From 0 (nodes_of p) (expr_part id)) where
+  abbrev in_strict : Bool
+  in_strict = (context model (buffer_of p)).strict
+
+  abbrev read : Tree F C K
+  read = tree_at (nodes_of p) id.0
+
+  number-pattern : pattern_as in_strict pat_type read
+      ≡ (if fits_as in_strict pat_type read then Some (want_as pat_type read) else None)
+  number-pattern = pattern-is in_strict pat_type read (want_as pat_type read) (expr-formed id from) refl
+
+  number-some : is_some (pattern_as in_strict pat_type read) ≡ fits_as in_strict pat_type read
+  number-some = ap (λ o. is_some o) number-pattern ∙ some-if (fits_as in_strict pat_type read) (want_as pat_type read)
+
+  pub recasts-number : (r : Result PatId Error)
+      → IfOk r (λ pat. Refined model pat_type id p.productions pat q.productions)
+      → IfErr r (λ x. Unrefined model pat_type id p.productions x q.productions)
+      → Recasts model (is_valid read) (pattern_as in_strict pat_type read) (want_as pat_type read) pat_at one_pat
+      (first_at (nodes_of p) id.0) p r q
+  recasts-number (Ok pat) h k = record {
+    checks = record {
+      leads = h.checks.leads;
+      passes = λ w. h.checks.passes (sym number-some ∙ w);
+      notes = λ v w l. h.checks.notes v (sym number-some ∙ w) l;
+    };
+    kept = h.kept;
+    apart = apart-from (pat_part pat) h.made.from;
+    stands = h.made.stands;
+    is = λ m w. from-if (fits_as in_strict pat_type read) (want_as pat_type read) m (sym number-pattern ∙ w);
+  }
+  recasts-number (Err x) h k = record {
+    refuses = record { refuses = k.refuses.refuses; unfit = λ n. number-some ∙ k.refuses.unfit n };
+    kept = k.kept;
+  }
+
+-- ---- what was put after all nodes
+
 module _ {S H F C K : Type 0} {fg : Ghosts F} {cg : Ghosts C} {kg : Ghosts K} (model : Model S)
     (p q : Parser S H F C K fg cg kg)
     (ms ls : Nodes F C K fg cg kg) (grows : Grows (nodes_of p) ms) (marks : Marks (marks_of p) (count
@@ -114,7 +154,7 @@ module _ {S H F C K : Type 0} {fg : Ghosts F} {cg : Ghosts C} {kg : Ghosts K} (m
     pub recast-expr : (pat : PatId) → Refined model pat_type id asked pat q.productions
         → Recast model (is_valid (tree_by fg.place cg.place kg.place e)) (pattern_of model pat_type e p)
         (want_as pat_type (marked_expr p e))
-        pat_at one_pat p pat q
+        pat_at one_pat (count (nodes_of p)) p pat q
     recast-expr pat r =
         let h = r.checks in
         let low = from-put.above in
@@ -137,7 +177,7 @@ module _ {S H F C K : Type 0} {fg : Ghosts F} {cg : Ghosts C} {kg : Ghosts K} (m
     pub unrecast-expr : (x : Error) → Unrefined model pat_type id asked x q.productions
         → Unrecast model (is_valid (tree_by fg.place cg.place kg.place e)) (pattern_of model pat_type e p)
         (want_as pat_type (marked_expr p e))
-        pat_at one_pat p x q
+        pat_at one_pat (count (nodes_of p)) p x q
     unrecast-expr x r = record {
       refuses = record { refuses = r.refuses.refuses; unfit = λ n. is-some ∙ r.refuses.unfit n };
       kept = kept-through grows marks from-put.above r.kept;
@@ -147,7 +187,7 @@ module _ {S H F C K : Type 0} {fg : Ghosts F} {cg : Ghosts C} {kg : Ghosts K} (m
         → IfErr r (λ x. Unrefined model pat_type id asked x q.productions)
         → Recasts model (is_valid (tree_by fg.place cg.place kg.place e)) (pattern_of model pat_type e p)
         (want_as pat_type (marked_expr p e))
-        pat_at one_pat p r q
+        pat_at one_pat (count (nodes_of p)) p r q
     recasts-expr (Ok pat) h k = recast-expr pat h
     recasts-expr (Err x) h k = unrecast-expr x k
 
@@ -179,7 +219,7 @@ module _ {S H F C K : Type 0} {fg : Ghosts F} {cg : Ghosts C} {kg : Ghosts K} (m
     pub recast-items : (pats : Vec PatId Global) → RefinedItems model ids.items comma asked pats.items q.productions
         → Recast model (are_valid (boxed_items fg.place cg.place kg.place xs.items))
         (params_of model xs.items comma p) (want_items (marked_items p xs.items))
-        (λ ns v. pats_at ns v.items) pats_parts p pats q
+        (λ ns v. pats_at ns v.items) pats_parts (count (nodes_of p)) p pats q
     recast-items pats r =
         let h = r.checks in
         record {
@@ -203,7 +243,7 @@ module _ {S H F C K : Type 0} {fg : Ghosts F} {cg : Ghosts C} {kg : Ghosts K} (m
     pub unrecast-items : (x : Error) → UnrefinedItems model ids.items comma asked x q.productions
         → Unrecast model (are_valid (boxed_items fg.place cg.place kg.place xs.items))
         (params_of model xs.items comma p) (want_items (marked_items p xs.items))
-        (λ ns v. pats_at ns v.items) pats_parts p x q
+        (λ ns v. pats_at ns v.items) pats_parts (count (nodes_of p)) p x q
     unrecast-items x r = record {
       refuses = record { refuses = r.refuses.refuses; unfit = λ n. params-put ∙ r.refuses.unfit n };
       kept = kept-through grows marks floor-put r.kept;
@@ -214,6 +254,6 @@ module _ {S H F C K : Type 0} {fg : Ghosts F} {cg : Ghosts C} {kg : Ghosts K} (m
         → IfErr r (λ x. UnrefinedItems model ids.items comma asked x q.productions)
         → Recasts model (are_valid (boxed_items fg.place cg.place kg.place xs.items))
         (params_of model xs.items comma p) (want_items (marked_items p xs.items))
-        (λ ns v. pats_at ns v.items) pats_parts p r q
+        (λ ns v. pats_at ns v.items) pats_parts (count (nodes_of p)) p r q
     recasts-items (Ok pats) h k = recast-items pats h
     recasts-items (Err x) h k = unrecast-items x k

@@ -36,12 +36,12 @@ pattern-there strip (Some m) becomes v there is e = e ∙ ap strip (sym (is m re
 module _ {S H A X T F C K : Type 0} {fg : Ghosts F} {cg : Ghosts C} {kg : Ghosts K} (model : Model S) (valid : Bool)
     (pattern : Option A) (becomes : A)
     (of : Nodes F C K fg cg kg → X → A) (parts : X → List Part) (strip : A → A) (view : T → A)
-    (p q : Parser S H F C K fg cg kg) where
+    (from : ℕ) (p q : Parser S H F C K fg cg kg) where
   abbrev Meets : Result T Error → Type 0
   Meets r = MeetsRefinement model valid pattern becomes strip view (buffer_of p) r (buffer_of q)
 
   pub meets-refinement : (answer : Result X Error) (r : Result T Error)
-      → Recasts model valid pattern becomes of parts p answer q
+      → Recasts model valid pattern becomes of parts from p answer q
       → MatchResult answer (λ x. MatchResult r (λ t. view t ≡ strip (of (nodes_of q) x)) (λ e. e
       ≡ no_memory (last_position (buffer_of q)))) (λ e. r ≡ Err e) → Meets r
   meets-refinement (Ok x) (Ok t) w m =
@@ -93,15 +93,20 @@ pub of-answer : {X : Type 0} (P : X → Type 0) (Q : Error → Type 0) (T : X �
 of-answer P Q T (Ok x) h f = f x h
 of-answer P Q T (Err e) h f = tt
 
+pub if-ok : {X : Type 0} (P Q : X → Type 0) (r : Result X Error) → IfOk r P → ((x : X) → P x → Q x) → IfOk r Q
+if-ok P Q (Ok x) h f = f x h
+if-ok P Q (Err e) h f = tt
+
 -- ---- what is promised
 
 module _ {S H T A F C K : Type 0} {fg : Ghosts F} {cg : Ghosts C} {kg : Ghosts K} {model : Model S} {valid : Bool}
     {pattern : Option A} {becomes : A} {strip : A → A} {view : T → A}
-    {Records : Buffer S → Result T Error → Buffer S → Type 0} where
-  pub refinement-again : {p : Parser S H F C K fg cg kg} {e : Error}
+    {Records : Buffer S → Result T Error → Buffer S → Type 0}
+    {Keeps : Nodes F C K fg cg kg → Nodes F C K fg cg kg → Type 0} where
+  pub refinement-again : {p : Parser S H F C K fg cg kg} {e : Error} → Keeps (nodes_of p) (nodes_of p)
       → (has_failed p ≡ true) × (e ≡ parser_failed (previous (buffer_of p)))
-      → PromisedRefinement model valid pattern becomes strip view Records p (Err e) p
-  refinement-again h = record {
+      → PromisedRefinement model valid pattern becomes strip view Records Keeps p (Err e) p
+  refinement-again kept h = record {
     again = λ failed. (refl, ap (λ x. Err x) h.1);
     acts = λ runs. absurd (not_both h.0 runs);
     sound = λ runs. absurd (not_both h.0 runs);
@@ -109,7 +114,7 @@ module _ {S H T A F C K : Type 0} {fg : Ghosts F} {cg : Ghosts C} {kg : Ghosts K
     records = λ runs. absurd (not_both h.0 runs);
     tree = tt;
     commas = refl;
-    nodes = refl;
+    nodes = kept;
     fails = λ runs. absurd (not_both h.0 runs);
   }
 
@@ -119,8 +124,8 @@ module _ {S H T A F C K : Type 0} {fg : Ghosts F} {cg : Ghosts C} {kg : Ghosts K
       (a r : Result T Error) → has_failed p ≡ false → f ≡ has_failed p →
       r ≡ a → buffer_of q ≡ b → nodes_of q ≡ ns → commas_of q ≡ cs → has_failed q ≡ (f || wants_memory a)
       → MeetsRefinement model valid pattern becomes strip view (buffer_of p) a b
-      → Records (buffer_of p) a b → cs ≡ commas_of p → SameNodes (nodes_of p) ns
-      → PromisedRefinement model valid pattern becomes strip view Records p r q
+      → Records (buffer_of p) a b → cs ≡ commas_of p → Keeps (nodes_of p) ns
+      → PromisedRefinement model valid pattern becomes strip view Records Keeps p r q
   promised-refinement {p} {q} b ns cs a r runs same e buffer nodes commas fails done noted same_commas kept =
       let meets : MeetsRefinement model valid pattern becomes strip view (buffer_of p) r (buffer_of q) =
       rw (e, buffer) done in
@@ -147,6 +152,12 @@ records-moved Done Refuses at Stands (Ok x) (Err e) done m = λ n. absurd (n (ap
 records-moved Done Refuses at Stands (Err e) (Ok t) refuses m = absurd cc
 records-moved Done Refuses at Stands (Err e) (Err x) refuses m =
     let same : x ≡ e = cc in subst (λ v. v.kind ≢ OutOfMemory → Refuses v) (sym same) refuses
+
+-- what isn't moved out
+pub unmoved : {X A : Type 0} (of : X → A) (M : Error → Type 0) (r : Result X Error)
+    → MatchResult r (λ x. MatchResult r (λ t. of t ≡ of x) M) (λ e. r ≡ Err e)
+unmoved of M (Ok x) = refl
+unmoved of M (Err e) = refl
 
 -- ---- lists of patterns
 

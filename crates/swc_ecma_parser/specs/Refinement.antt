@@ -1,5 +1,5 @@
 -- What the calls promise that make patterns of finished expressions (ECMA-262, 13.15.5 and 15.3).
-use Rattle.std.specs.Prelude.{◌≡◌, Bool, true, false, if◌then◌else◌, List, [], map, Option, Some, None, Result, Err, IfOk, MatchOption, MatchResult}
+use Rattle.std.specs.Prelude.{◌≡◌, ℕ, Bool, true, false, if◌then◌else◌, List, [], map, Option, Some, None, Result, Err, IfOk, MatchOption, MatchResult}
 use Rattle.std.specs.{declared.alloc.Global.Global, declared.boxed.Box.Box, declared.vec.Vec.Vec, Option.is_some}
 use Rattle.swc_context.specs.{declared.context.Context.Context, declared.error.Error.Error, declared.error.SyntaxError.TheVariants.OutOfMemory, declared.span.Span.Span}
 use Rattle.swc_input.specs.Buffer.{Read, context, previous}
@@ -9,11 +9,12 @@ use Rattle.swc_ast.specs.Trees.{is_valid, are_valid, unmarked, all_unmarked}
 use Rattle.swc_ast.specs.{Parts.item_trees, TreeOf.pat_tree, declared.expr.Expr.Expr, declared.expr.ExprOrSpread.ExprOrSpread, declared.pat.Pat.Pat, declared.spanned.Spanned.Ghosts}
 use Rattle.swc_grammar.specs.Cover.{binding, as_elements, arrow_params_ok}
 use Rattle.swc_nodes.specs.Marking.{Marker, marked_by, all_marked_by}
-use Rattle.swc_nodes.specs.GrowingNodes.{count, Apart, SameNodes}
-use Rattle.swc_nodes.specs.{Commas.comma_at, NodeParts.Part, declared.nodes.Nodes.Nodes}
+use Rattle.swc_nodes.specs.GrowingNodes.{count, first_at, tree_at, Apart, SameNodes}
+use Rattle.swc_nodes.specs.{Commas.comma_at, NodeParts.Part, declared.node.ExprId.ExprId, declared.node.PatId.PatId, declared.nodes.Nodes.Nodes}
 use Rattle.swc_cover.specs.Noting.{names_bound, JudgesBy, JudgesParams}
 use Rattle.swc_cover.specs.PatTypes.{pattern_as, verdict_as, want_as}
 use Rattle.swc_cover.specs.{Faults.Verdict, Faults.params_verdict, Items.want_items, Moving.KeptTo, Refining.ChecksWhole, Refining.Unfitting, declared.pat_type.PatType.PatType}
+use Rattle.swc_patterns.specs.Answers.{pat_at}
 use Rattle.swc_steps.specs.Parsing.{Acts, Loud}
 use Rattle.swc_ecma_parser.specs.Calls.{buffer_of, nodes_of, commas_of, has_failed, parser_failed, tree_by, wants_memory}
 use Rattle.swc_ecma_parser.specs.{Promise.Unmarred, declared.parser.Parser.Parser}
@@ -21,11 +22,11 @@ use Rattle.swc_ecma_parser.specs.{Promise.Unmarred, declared.parser.Parser.Parse
 -- What a call promises that makes patterns of expressions, from the parser p to q, where it answers r. By the grammar
 -- the expressions are `pattern`, if they are patterns of the kind that is asked for; `becomes` is what is made of them
 -- in any case, with `Invalid` where a fault is recorded. Both have the marks of commas, which `strip` takes away.
--- Records
--- says which faults are recorded, in their order, and what is refused.
+-- `Records` says which faults are recorded, in their order, and what is refused; `Keeps` which nodes stay.
 pub record PromisedRefinement {S H T A F C K : Type 0} {fg : Ghosts F} {cg : Ghosts C} {kg : Ghosts K}
     (model : Model S) (valid : Bool) (pattern : Option A) (becomes : A) (strip : A → A) (view : T → A)
     (Records : Buffer S → Result T Error → Buffer S → Type 0)
+    (Keeps : Nodes F C K fg cg kg → Nodes F C K fg cg kg → Type 0)
     (p : Parser S H F C K fg cg kg) (r : Result T Error) (q : Parser S H F C K fg cg kg) : Type 0 where
   -- A parser that ran out of memory does nothing, and refuses as `ParserFailed` at the token consumed last.
   pub again : has_failed p ≡ true → (q ≡ p) × (r ≡ Err (parser_failed (previous (buffer_of p))))
@@ -47,8 +48,8 @@ pub record PromisedRefinement {S H T A F C K : Type 0} {fg : Ghosts F} {cg : Gho
   pub tree : IfOk r (λ x. view x ≡ strip becomes)
   -- what is remembered of commas stays: it isn't forgotten by use
   pub commas : commas_of q ≡ commas_of p
-  -- the nodes are what they were
-  pub nodes : SameNodes (nodes_of p) (nodes_of q)
+  -- the nodes that stay
+  pub nodes : Keeps (nodes_of p) (nodes_of q)
   -- it has failed from now on where it refuses when out of memory, and only there
   pub fails : has_failed p ≡ false → has_failed q ≡ wants_memory r
 
@@ -100,7 +101,7 @@ module _ {S H F C K : Type 0} {fg : Ghosts F} {cg : Ghosts C} {kg : Ghosts K} wh
   RefinesExpr model pat_type e p r q =
       PromisedRefinement model (is_valid (tree_by fg.place cg.place kg.place e)) (pattern_of model pat_type e p)
       (want_as pat_type (marked_expr p e)) unmarked (pat_tree F C K fg.place cg.place kg.place)
-      (JudgesBy model (verdict_of model pat_type e p)) p r q
+      (JudgesBy model (verdict_of model pat_type e p)) SameNodes p r q
 
   -- items in parentheses, with a comma after the last or none, become parameters
   abbrev pub RefinesItems : Model S → List (ExprOrSpread (Box (Expr F C K) Global)) → Option Span
@@ -109,24 +110,34 @@ module _ {S H F C K : Type 0} {fg : Ghosts F} {cg : Ghosts C} {kg : Ghosts K} wh
       PromisedRefinement model (are_valid (boxed_items fg.place cg.place kg.place xs)) (params_of model xs comma p)
       (want_items (marked_items p xs)) all_unmarked
       (λ v. trees (map (pat_tree F C K fg.place cg.place kg.place) v.items))
-      (JudgesParams model (params_verdict comma (marked_items p xs)) (names_of model xs p)) p r q
+      (JudgesParams model (params_verdict comma (marked_items p xs)) (names_of model xs p)) SameNodes p r q
+
+  -- An expression by its number becomes a pattern of the kind. Nodes below all that is reached from it stay.
+  abbrev pub RefinesNumber : Model S → PatType → ExprId → Parser S H F C K fg cg kg → Result PatId Error
+      → Parser S H F C K fg cg kg → Type 0
+  RefinesNumber model pat_type id p r q =
+      PromisedRefinement model (is_valid (tree_at (nodes_of p) id.0))
+      (pattern_as (context model (buffer_of p)).strict pat_type (tree_at (nodes_of p) id.0))
+      (want_as pat_type (tree_at (nodes_of p) id.0)) (λ t. t) (pat_at (nodes_of q))
+      (JudgesBy model (verdict_as (context model (buffer_of p)).strict pat_type (tree_at (nodes_of p) id.0)))
+      (KeptTo (first_at (nodes_of p) id.0)) p r q
 
 -- ---- among the nodes, before the answer is moved out of them
 
 module _ {S H A X F C K : Type 0} {fg : Ghosts F} {cg : Ghosts C} {kg : Ghosts K} (model : Model S) (valid : Bool)
-    (pattern : Option A) (becomes : A) (of : Nodes F C K fg cg kg → X → A) (parts : X → List Part) where
-  -- Expressions were put after all nodes, checked and made patterns of: nodes that there were stay, and new ones are
-  -- for what they become.
+    (pattern : Option A) (becomes : A) (of : Nodes F C K fg cg kg → X → A) (parts : X → List Part) (from : ℕ) where
+  -- Expressions whose nodes are from a number on were checked and made patterns of: nodes below it stay, and those from
+  -- it on are for what they become.
   pub record Recast (p : Parser S H F C K fg cg kg) (x : X) (q : Parser S H F C K fg cg kg) : Type 0 where
     pub checks : ChecksWhole model valid (is_some pattern) (buffer_of p) (buffer_of q)
-    pub kept : KeptTo (count (nodes_of p)) (nodes_of p) (nodes_of q)
-    pub apart : Apart (count (nodes_of p)) (nodes_of q) (parts x)
+    pub kept : KeptTo from (nodes_of p) (nodes_of q)
+    pub apart : Apart from (nodes_of q) (parts x)
     pub stands : of (nodes_of q) x ≡ becomes
     pub is : (m : A) → pattern ≡ Some m → m ≡ becomes
 
   pub record Unrecast (p : Parser S H F C K fg cg kg) (e : Error) (q : Parser S H F C K fg cg kg) : Type 0 where
     pub refuses : Unfitting model (is_some pattern) (buffer_of p) e (buffer_of q)
-    pub kept : KeptTo (count (nodes_of p)) (nodes_of p) (nodes_of q)
+    pub kept : KeptTo from (nodes_of p) (nodes_of q)
 
   abbrev pub Recasts : Parser S H F C K fg cg kg → Result X Error → Parser S H F C K fg cg kg → Type 0
   Recasts p r q = MatchResult r (λ x. Recast p x q) (λ e. Unrecast p e q)

@@ -2,10 +2,11 @@
 ghost use Rattle.std.specs.Prelude.{◌≡◌, IfOk};
 ghost use Rattle.swc_ast.specs.Trees.{is_valid, are_valid};
 ghost use Rattle.swc_cover.specs.{Faults.params_verdict, Items.want_items, Noting.JudgesBy, Noting.JudgesParams, PatTypes.want_as, Refining.pats_at};
-ghost use Rattle.swc_nodes.specs.{Lists.pats_parts, GrowingNodes.Apart, GrowingNodes.CutTo, NodeParts.one_pat};
+ghost use Rattle.swc_nodes.specs.{Lists.pats_parts, GrowingNodes.count, GrowingNodes.first_at, GrowingNodes.Apart, GrowingNodes.CutTo, GrowingNodes.From};
+ghost use Rattle.swc_nodes.specs.NodeParts.{expr_part, one_pat, pat_part};
 ghost use Rattle.swc_patterns.specs.Answers.{pat_at};
 ghost use Rattle.swc_ecma_parser.specs.Calls.{buffer_of, nodes_of, commas_of, has_failed, tree_by, MovesOut};
-ghost use Rattle.swc_ecma_parser.specs.Refinement.{boxed_items, marked_expr, marked_items, params_of, pattern_of, names_of, verdict_of, Recasts, RefinesExpr, RefinesItems};
+ghost use Rattle.swc_ecma_parser.specs.Refinement.{boxed_items, marked_expr, marked_items, params_of, pattern_of, names_of, verdict_of, Recasts, RefinesExpr, RefinesItems, RefinesNumber};
 
 use crate::parser::{Parser, PatOf};
 use crate::taking::Take;
@@ -16,7 +17,7 @@ use swc_context::span::Span;
 use swc_cover::pat_type::PatType;
 use swc_cover::refining::{parse_paren_items_as_params, reparse_expr_as_pat};
 use swc_input::tokens::Tokens;
-use swc_nodes::node::PatId;
+use swc_nodes::node::{ExprId, PatId};
 use swc_trees::letting_go::{let_go, let_go_args};
 use swc_trees::putting::{put_args, put_expr};
 
@@ -64,6 +65,24 @@ impl<I: Tokens, B: Bodies<I>> Parser<I, B> {
                 Err(error)
             }
         }
+    }
+
+    /// As `reparse_expr_as_pat`, of an expression by its number, as `parse_expr_id` returns it. Its nodes become those of
+    /// the pattern, in place: the number that is returned takes the place of the expression's. Nodes below all nodes of
+    /// the expression stay, with their numbers (ECMA-262, 13.15.5). Commas are those of the nodes; what is remembered of
+    /// them (`trailing_comma`) stays.
+    ///
+    /// The expression and its parts have to be among the nodes: no node of theirs was moved out or dropped since. After
+    /// a call that is refused, the number has no expression any more.
+    pub fn reparse_expr_as_pat_id(&mut self, pat_type: PatType, id: ExprId) -> PResult<PatId>
+        requires { From 0 (nodes_of self.old) (expr_part id) }
+        ensures promised { RefinesNumber I.model pat_type id self.old result self.new }
+        ensures placed { IfOk result
+            (λ pat. From (first_at (nodes_of self.old) id.0) (nodes_of self.new) (pat_part pat)) }
+    {
+        self.begin()?;
+        let answer = reparse_expr_as_pat(&mut self.productions, pat_type, id);
+        self.finish(answer)
     }
 
     /// The items of a list in parentheses (`parse_args_or_pats`), with the place of the comma after the last one or
@@ -127,7 +146,7 @@ impl<I: Tokens, B: Bodies<I>> Parser<I, B> {
     fn recast_expr(&mut self, pat_type: PatType, expr: Box<ExprOf<B>>) -> PResult<PatId>
         ensures recasts { Recasts I.model (is_valid (tree_by B.Fun.place B.Class.place B.Block.place expr))
             (pattern_of I.model pat_type expr self.old) (want_as pat_type (marked_expr self.old expr))
-            pat_at one_pat self.old result self.new }
+            pat_at one_pat (count (nodes_of self.old)) self.old result self.new }
         ensures judges { JudgesBy I.model (verdict_of I.model pat_type expr self.old)
             (buffer_of self.old) result (buffer_of self.new) }
         ensures commas { commas_of self.new ≡ commas_of self.old }
@@ -151,7 +170,7 @@ impl<I: Tokens, B: Bodies<I>> Parser<I, B> {
     ) -> PResult<Vec<PatId>>
         ensures recasts { Recasts I.model (are_valid (boxed_items B.Fun.place B.Class.place B.Block.place items.items))
             (params_of I.model items.items trailing_comma self.old) (want_items (marked_items self.old items.items))
-            (λ ns v. pats_at ns v.items) pats_parts self.old result self.new }
+            (λ ns v. pats_at ns v.items) pats_parts (count (nodes_of self.old)) self.old result self.new }
         ensures judges { JudgesParams I.model (params_verdict trailing_comma (marked_items self.old items.items))
             (names_of I.model items.items self.old) (buffer_of self.old) result (buffer_of self.new) }
         ensures commas { commas_of self.new ≡ commas_of self.old }

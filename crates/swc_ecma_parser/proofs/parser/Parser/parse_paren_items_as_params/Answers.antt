@@ -2,7 +2,7 @@ use Rattle.std.proofs.Common.{◌≡◌, map, sym, ◌∙◌}
 use Rattle.swc_input.specs.{Buffer.last_position, Recording.no_memory}
 use Rattle.swc_ast.specs.{Tree.trees, TreeOf.pat_tree, Trees.are_valid, Trees.all_unmarked}
 use Rattle.swc_cover.specs.{Items.want_items, Refining.pats_at}
-use Rattle.swc_nodes.specs.{GrowingNodes.tree_at, Lists.pats_parts}
+use Rattle.swc_nodes.specs.{GrowingNodes.count, GrowingNodes.tree_at, Lists.pats_parts}
 use Rattle.swc_ecma_parser.specs.Calls.{buffer_of, nodes_of, commas_of}
 use Rattle.swc_ecma_parser.specs.Refinement.{boxed_items, marked_items, params_of}
 use Rattle.swc_ecma_parser.proofs.Refined.{cut-kept, meets-refinement, moved-pats, of-answer, promised-refinement, records-moved, refinement-again, whichever}
@@ -13,7 +13,7 @@ lift_out-answer-requires g c = rw (c.in-Ok.ensures.start)
     (of-answer _ _ _ c.recast_items-answer.result c.recast_items-answer.ensures.recasts (λ x w. w.apart))
 
 pub returns-in-Err : goal.returns-in-Err
-returns-in-Err g c = refinement-again c.in-Err.ensures.again
+returns-in-Err g c = refinement-again refl c.in-Err.ensures.again
 
 pub returns-in-Ok : goal.returns-in-Ok
 returns-in-Ok g c =
@@ -30,7 +30,7 @@ returns-in-Ok g c =
     (meets-refinement g.I.Tokens.model
     (are_valid (boxed_items g.B.Fun.Spanned.place g.B.Class.Spanned.place g.B.Block.Spanned.place xs))
     (params_of g.I.Tokens.model xs c.args.trailing_comma p) (want_items (marked_items p xs))
-    (λ ns v. pats_at ns v.items) pats_parts all_unmarked (λ v. trees (map pat v.items)) p q
+    (λ ns v. pats_at ns v.items) pats_parts all_unmarked (λ v. trees (map pat v.items)) (count (nodes_of p)) p q
     c.recast_items-answer.result c.lift_out-answer.result made.recasts
     (moved-pats (λ e. e ≡ no_memory (last_position (buffer_of q))) pat (tree_at (nodes_of q))
     c.recast_items-answer.result c.lift_out-answer.result moved.moved))

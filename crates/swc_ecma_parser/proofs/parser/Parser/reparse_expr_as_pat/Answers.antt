@@ -1,7 +1,7 @@
 use Rattle.std.proofs.Common.{sym, ◌∙◌}
 use Rattle.swc_ast.specs.{TreeOf.pat_tree, Trees.is_valid, Trees.unmarked}
 use Rattle.swc_cover.specs.PatTypes.{want_as}
-use Rattle.swc_nodes.specs.NodeParts.{one_pat}
+use Rattle.swc_nodes.specs.{GrowingNodes.count, NodeParts.one_pat}
 use Rattle.swc_patterns.specs.Answers.{pat_at}
 use Rattle.swc_ecma_parser.specs.Calls.{nodes_of, commas_of, tree_by}
 use Rattle.swc_ecma_parser.specs.Refinement.{marked_expr, pattern_of}
@@ -13,7 +13,7 @@ lift_out-answer-requires g c = rw (c.in-Ok.ensures.start)
     (of-answer _ _ _ c.recast_expr-answer.result c.recast_expr-answer.ensures.recasts (λ x w. w.apart))
 
 pub returns-in-Err : goal.returns-in-Err
-returns-in-Err g c = refinement-again c.in-Err.ensures.again
+returns-in-Err g c = refinement-again refl c.in-Err.ensures.again
 
 pub returns-in-Ok : goal.returns-in-Ok
 returns-in-Ok g c =
@@ -30,7 +30,8 @@ returns-in-Ok g c =
     (pattern_of g.I.Tokens.model c.args.pat_type e p) (want_as c.args.pat_type (marked_expr p e)) pat_at one_pat
     unmarked
     (pat_tree _ _ _ g.B.Fun.Spanned.place g.B.Class.Spanned.place g.B.Block.Spanned.place)
-    p c.recast_expr-answer.new.self c.recast_expr-answer.result c.lift_out-answer.result made.recasts moved.moved)
+    (count (nodes_of p)) p c.recast_expr-answer.new.self c.recast_expr-answer.result c.lift_out-answer.result
+    made.recasts moved.moved)
     (records-moved _ _ _ _ c.recast_expr-answer.result c.lift_out-answer.result made.judges moved.moved)
     (moved.commas ∙ made.commas)
     (cut-kept (nodes_of c.lift_out-answer.new.self) (whichever _ _ _ c.recast_expr-answer.result made.recasts
