@@ -3,9 +3,10 @@
 
     tests/wrong_bodies.py [--libs FOLDER] [--jobs N] [CRATE | CRATE/EDIT ..]     none: all
 
-They are tried by hand: the gate tries those of crates/NAME/must-fail alone. An edit is made in a copy of its crate. What is checked then is the
-function that it changes, over the proved libraries below and what earlier checks of the crate kept; and where that isn't refused, the whole crate. So
-an edit mostly takes as long as the proof of one function. N edits are tried at a time, by default one a processor.
+They are tried by hand: the gate tries those of crates/NAME/must-fail alone. Edits that change different functions are made together in a copy of
+their crate, since each function is proved by itself. These functions are checked then, over the proved libraries below and what earlier checks of the
+crate kept. An edit is refused if the check says so of its function. Otherwise it is made alone, and the whole crate is checked. N checks run at a time,
+by default one a processor.
 
 Without --libs, `rt lib` first proves of each crate, and of those below it, what has changed. FOLDER has other libraries of the same sources, as
 NAME.rlib, and as kept/NAME what their checks kept; it is only read.
@@ -21,6 +22,7 @@ import subprocess
 import sys
 import tempfile
 from concurrent.futures import ThreadPoolExecutor
+from contextlib import contextmanager, suppress
 from pathlib import Path
 from threading import Lock
 
@@ -33,8 +35,8 @@ Written by tests/wrong_bodies.py; README.md says how to read it. An edit without
 """
 COLUMNS = '| edit | clause | last refused | remark |\n|---|---|---|---|\n'
 ROW = re.compile(r'\| `(\w+)` \| .* \| ([-\d]*) \| (.*) \|$')
-# How many edits are tried in one copy of a crate.
-CHUNK = 8
+# How many edits are tried in one check.
+TOGETHER = 8
 # The first line of a function, after its blanks, and the head of an impl.
 FUNCTION = re.compile(r'^ *(?:pub(?:\([\w ]+\))? )?(?:const )?fn (\w+)', re.M)
 IMPL = re.compile(r'^impl\b(?:<[^{]*?>(?= ))? *(?:([\w:]+)(?:<[^{]*?>)? for )?([\w:]+)', re.M)
@@ -43,8 +45,9 @@ NAMES = re.compile(r'(\./)?proofs/.*(has no field|is not in scope|has no `|was n
 # A line that says that the text of a clause or of the edited file can't be read.
 UNREAD = re.compile(r'is not in scope|has no field|is no name|operand is missing|expected the end|cannot continue')
 
-# A line that has a place.
-PLACED = re.compile(r'(note: )?(\./)?\S+:\d+:\d+:')
+# A line that has a place: its file and its line; and the goal that it names first.
+PLACED = re.compile(r'(?:note: )?(?:\./)?(\S+?):(\d+):\d+:')
+GOAL = re.compile(r'`([^`]*)`')
 
 
 class BadEdit(Exception):
@@ -52,7 +55,8 @@ class BadEdit(Exception):
 
 
 def edited(text, crate):
-    """The texts of the files that an edit changes, by their paths, and the functions that it changes, or none where it changes other things."""
+    """The texts of the files that an edit changes, by their paths, and the functions that it changes, each after its file, or none where it changes
+    other things."""
     texts, functions, path, old = {}, [], '', ''
     for line in text.splitlines():
         word, _, rest = line.partition(': ')
@@ -64,9 +68,9 @@ def edited(text, crate):
         elif word in ('new', 'new:'):
             if texts[path].count(old) != 1:
                 raise BadEdit('its old text is in %s %d times' % (path, texts[path].count(old)))
-            functions.append(function_at(texts[path], texts[path].index(old)) if path.startswith('src/') else None)
+            functions.append((path, function_at(texts[path], texts[path].index(old)) if path.startswith('src/') else None))
             texts[path] = texts[path].replace(old, rest)
-    return texts, [] if None in functions else functions
+    return texts, [] if any(function is None for _, function in functions) else [*dict.fromkeys(functions)]
 
 
 def function_at(text, place):
@@ -123,46 +127,101 @@ def try_edits(libraries, crate, names):
             if (TOP / 'crates' / crate / part).is_dir():
                 shutil.copytree(TOP / 'crates' / crate / part, copy / part)
         shutil.copytree(libraries.kept(crate), kept)
+        command = libraries.command(crate, kept)
+        said = try_together(command, copy, crate, names) if len(names) > 1 else {}
         for name in names:
-            yield name, *try_edit(libraries.command(crate, kept), copy, FOLDER / crate / (name + '.edit'))
+            yield name, *(said.get(name) or try_alone(command, copy, FOLDER / crate / (name + '.edit')))
 
 
-def try_edit(command, crate, edit):
+def try_together(command, copy, crate, names):
+    """What a check of all functions that the edits change says of those edits that it refuses."""
+    with changed(copy) as texts:
+        places = {}
+        for name in names:
+            with suppress(BadEdit, OSError):
+                places[name] = make(copy, texts, FOLDER / crate / (name + '.edit'))
+        only = [word for at in places.values() for _, function in at for word in ('--only', function)]
+        status, lines = check(command + only, copy)
+        told = told_of(lines) if status in (1, 3) and lines[-1].startswith(('only=', 'rattle: no verdict')) else []
+        said = {name: verdict([line for line in told if any(is_about(line, copy, *at) for at in ats)]) for name, ats in places.items()}
+    return {name: found for name, found in said.items() if found[0] == 'refused'}
+
+
+def try_alone(command, copy, edit):
+    """What a check of the function that the edit changes says of it, or else one of the whole crate."""
     try:
-        texts, functions = edited(edit.read_text(encoding='utf-8'), crate)
+        with changed(copy) as texts:
+            only = [word for _, function in make(copy, texts, edit) for word in ('--only', function)]
+            said, why = judge(*check(command + only, copy), texts) if only else ('', '')
+            return (said, why) if said.startswith('refused') else judge(*check(command, copy), texts)
     except (BadEdit, OSError) as error:
         return 'BAD EDIT', str(error)
-    before = {path: (crate / path).read_text(encoding='utf-8') for path in texts}
+
+
+@contextmanager
+def changed(copy):
+    """The files that are changed, as they were: they are put back in the end."""
+    texts = {}
     try:
-        write(crate, texts)
-        only = [word for name in functions for word in ('--only', name)]
-        said, why = check(command + only, crate, texts) if only else ('', '')
-        return (said, why) if said.startswith('refused') else check(command, crate, texts)
+        yield texts
     finally:
-        write(crate, before)
+        for path, text in texts.items():
+            (copy / path).write_text(text, encoding='utf-8')
 
 
-def write(crate, texts):
-    for path, text in texts.items():
-        (crate / path).write_text(text, encoding='utf-8')
+def make(copy, texts, edit):
+    """Makes the edit, and keeps the files that it changes as they were. The functions that it changes, each with its file, or none."""
+    new, functions = edited(edit.read_text(encoding='utf-8'), copy)
+    for path, text in new.items():
+        texts.setdefault(path, (copy / path).read_text(encoding='utf-8'))
+        (copy / path).write_text(text, encoding='utf-8')
+    return functions
 
 
-def check(command, crate, texts):
-    """What a check says of the crate as it is now, and its first line that says why."""
+def check(command, crate):
+    """The status of a check of the crate as it is now, and its lines."""
     ran = subprocess.run(command, cwd=crate, stdin=subprocess.DEVNULL, stdout=subprocess.PIPE, stderr=subprocess.STDOUT, errors='replace')
-    lines = ran.stdout.rstrip('\n').split('\n')
-    if ran.returncode == 0:
+    return ran.returncode, ran.stdout.rstrip('\n').split('\n')
+
+
+def told_of(lines):
+    """The lines that say at some place what isn't proved."""
+    return [line for line in lines if PLACED.match(line) and ('error' in line or line.startswith('note: '))]
+
+
+def is_about(line, crate, path, function):
+    """Whether the line is about the function, which is in the file: at a place of its body or of its proof, or of that of its cycle."""
+    place, number = PLACED.match(line).groups()
+    if place == path:
+        text = (crate / path).read_text(encoding='utf-8').splitlines(keepends=True)
+        return function_at(''.join(text), len(''.join(text[:int(number) - 1]))) == function
+    module = path.removeprefix('src/').removesuffix('.rt')
+    folder = 'proofs/' if module == 'lib' else 'proofs/%s/' % module
+    if place.startswith(folder + '+'):
+        goal = GOAL.search(line)
+        return bool(goal) and goal[1].startswith(function.rpartition('::')[2] + '-')
+    return place.startswith(folder + function.replace('::', '/') + '/')
+
+
+def verdict(told):
+    """What lines on a function say of its edit."""
+    whys = [line for line in told if not NAMES.match(line)]
+    return ('refused', whys[0]) if whys else ('refused for a name in a proof file alone', told[0]) if told else ('', '')
+
+
+def judge(status, lines, texts):
+    """What a check says of an edit that was made alone, and its first line that says why."""
+    if status == 0:
         return 'NOT REFUSED', ''
-    if ran.returncode == 3:
+    if status == 3:
         return 'refused by a limit of the prover alone', lines[-1]
-    if ran.returncode != 1 or not lines[-1].startswith(('logic=not-proved', 'only=')):
+    if status != 1 or not lines[-1].startswith(('logic=not-proved', 'only=')):
         return 'BAD EDIT', 'it did not reach the prover: ' + lines[0]
-    told = [line for line in lines if PLACED.match(line) and ('error' in line or line.startswith('note: '))]
+    told = told_of(lines)
     unread = [line for line in told if line.startswith(('src/', 'specs/', *texts)) and UNREAD.search(re.sub('`[^`]*`', '', line))]
     if unread:
         return 'BAD EDIT', 'it cannot be read: ' + unread[0]
-    whys = [line for line in told if not NAMES.match(line)]
-    return ('refused', (whys or lines)[0]) if whys or not told else ('refused for a name in a proof file alone', told[0])
+    return verdict(told) if told else ('refused', lines[0])
 
 
 def clause_of(crate, name):
@@ -207,11 +266,29 @@ def write_results(rows):
     RESULTS.write_text(''.join(parts), encoding='utf-8')
 
 
-def chunks_of(wanted):
-    """The edits that are named, or all: each crate, and some of its edits."""
+def groups_of(wanted):
+    """The edits that are named, or all, in groups of those that are tried together: each crate, and its edits."""
     for crate, names in edits().items():
-        names = [it for it in names if not wanted or crate in wanted or '%s/%s' % (crate, it) in wanted]
-        yield from ((crate, names[at:at + CHUNK]) for at in range(0, len(names), CHUNK))
+        groups = []
+        for name in names:
+            if not wanted or crate in wanted or '%s/%s' % (crate, name) in wanted:
+                functions = functions_of(crate, name)
+                fits = (group for group in groups if functions and group[1] and len(group[0]) < TOGETHER and not functions & group[1])
+                group = next(fits, None)
+                if group:
+                    group[0].append(name)
+                    group[1].update(functions)
+                else:
+                    groups.append(([name], functions))
+        yield from ((crate, group) for group, _ in groups)
+
+
+def functions_of(crate, name):
+    """The functions that the edit changes; none where it can't be made, or changes other things."""
+    try:
+        return set(edited((FOLDER / crate / (name + '.edit')).read_text(encoding='utf-8'), TOP / 'crates' / crate)[1])
+    except (BadEdit, OSError):
+        return set()
 
 
 def main():
@@ -222,21 +299,21 @@ def main():
     given = parser.parse_args()
     libraries, writing = Libraries(given.libs and given.libs.resolve()), Lock()
 
-    def count_wrong(chunk):
+    def count_wrong(group):
         """Tries some edits of a crate, and counts those that weren't refused."""
         wrong = 0
-        for name, said, why in try_edits(libraries, *chunk):
+        for name, said, why in try_edits(libraries, *group):
             with writing:
-                print('%s/%s: %s: %s' % (chunk[0], name, said, why[:160]), flush=True)
-                record(chunk[0], name, said)
+                print('%s/%s: %s: %s' % (group[0], name, said, why[:160]), flush=True)
+                record(group[0], name, said)
             wrong += not said.startswith('refused')
         return wrong
 
-    chunks = [*chunks_of(given.wanted)]
-    for crate in dict.fromkeys(crate for crate, _ in chunks):
+    groups = [*groups_of(given.wanted)]
+    for crate in dict.fromkeys(crate for crate, _ in groups):
         libraries.build(crate)
     with ThreadPoolExecutor(given.jobs) as pool:
-        return min(1, sum(pool.map(count_wrong, chunks)))
+        return min(1, sum(pool.map(count_wrong, groups)))
 
 
 if __name__ == '__main__':
