@@ -27,155 +27,52 @@ ghost use Rattle.swc_steps.specs.Parsing.{seen, Here, Produces, GoesOn, itself, 
 ghost use Rattle.swc_context.specs.declared.error.SyntaxError.TheVariants.{ParserFailed};
 
 use crate::room::deeper;
-use swc_arrows::bodies::ArrowOrBase;
-use swc_arrows::bodies::arrow_function;
-use swc_arrows::bodies::begins_block;
-use swc_arrows::bodies::check_operators_end;
-use swc_arrows::bodies::enter_arrow_body;
-use swc_arrows::bodies::parse_block_body;
-use swc_arrows::lists::close_list;
-use swc_arrows::lists::open_list;
-use swc_arrows::names::ArrowHead;
-use swc_arrows::names::Beginning;
-use swc_arrows::names::parse_arrow_name;
-use swc_arrows::names::parse_async_name;
-use swc_arrows::starts::StartKind;
-use swc_arrows::starts::start_kind;
-use swc_ast::expr::BlockStmtOrExpr;
-use swc_ast::expr::Callee;
-use swc_ast::expr::ExprOrSpread;
-use swc_ast::expr::Import;
-use swc_ast::expr::Super;
-use swc_ast::function::Function;
-use swc_ast::function::Param;
+use swc_arrows::bodies::{
+    ArrowOrBase, arrow_function, begins_block, check_operators_end, enter_arrow_body,
+    parse_block_body,
+};
+use swc_arrows::lists::{close_list, open_list};
+use swc_arrows::names::{ArrowHead, Beginning, parse_arrow_name, parse_async_name};
+use swc_arrows::starts::{StartKind, start_kind};
+use swc_ast::expr::{BlockStmtOrExpr, Callee, ExprOrSpread, Import, Super};
+use swc_ast::function::{Function, Param};
 use swc_ast::prop::PropName;
 use swc_ast::spanned::Spanned;
 use swc_bodies::bodies::Bodies;
 use swc_context::context::Context;
-use swc_context::error::Error;
-use swc_context::error::PResult;
-use swc_context::span::BytePos;
-use swc_context::span::Span;
+use swc_context::error::{Error, PResult};
+use swc_context::span::{BytePos, Span};
 use swc_input::tokens::Tokens;
 use swc_left::args::separate_args;
-use swc_left::base::ImportHead;
-use swc_left::base::SuperChain;
-use swc_left::base::SuperHead;
-use swc_left::base::callee_call;
-use swc_left::base::import_call;
-use swc_left::base::import_head;
-use swc_left::base::import_meta;
-use swc_left::base::parse_super_name;
-use swc_left::base::refuse_super_args;
-use swc_left::base::refuse_super_brackets;
-use swc_left::base::refuse_super_name;
-use swc_left::base::super_chain;
-use swc_left::base::super_computed;
-use swc_left::base::super_head;
+use swc_left::base::{ImportHead, SuperChain, SuperHead};
 use swc_left::left::LinkHead;
-use swc_left::left::call_expr;
-use swc_left::left::computed_member;
-use swc_left::left::is_super_or_import;
-use swc_left::left::new_expr;
-use swc_left::left::parse_dot_member;
-use swc_left::left::parse_link_head;
-use swc_left::left::parse_new_target;
-use swc_left::left::refuse_opt_chain;
-use swc_left::tpl::TplParts;
-use swc_left::tpl::eat_tpl_end;
-use swc_left::tpl::parse_tpl_element;
-use swc_left::tpl::tagged_tpl;
-use swc_nodes::node::ExprId;
-use swc_nodes::node::PatId;
-use swc_nodes::node::PatPropNode;
-use swc_nodes::node::PropNode;
+use swc_left::tpl::{TplParts, eat_tpl_end, parse_tpl_element, tagged_tpl};
+use swc_left::{base, left};
+use swc_nodes::node::{ExprId, PatId, PatPropNode, PropNode};
 use swc_nodes::patterns::name_pat_prop;
 use swc_nodes::pending::PendingOperators;
-use swc_operators::assign::assign_node;
-use swc_operators::assign::assign_target;
-use swc_operators::assign::cond_last;
-use swc_operators::assign::cond_middle;
-use swc_operators::assign::cur_assign_op;
-use swc_operators::assign::goes_on_yield;
-use swc_operators::assign::is_yield_operator;
-use swc_operators::assign::refuse_yield_param;
-use swc_operators::ops::check_await;
-use swc_operators::ops::check_nullish_left;
-use swc_operators::ops::check_update_target;
-use swc_operators::ops::cur_prefix_op;
-use swc_operators::ops::cur_update_op;
-use swc_operators::ops::is_await;
-use swc_operators::ops::join_operands;
-use swc_operators::ops::next_operator;
-use swc_operators::ops::parse_await_ident;
-use swc_operators::ops::parse_update_postfix;
-use swc_operators::ops::private_may_follow;
-use swc_operators::ops::recover_left;
-use swc_operators::ops::take_operator;
-use swc_operators::ops::unary_expr;
-use swc_operators::ops::unary_expr_without_operand;
-use swc_operators::plain::begins_plain;
-use swc_operators::plain::may_go_on;
-use swc_operators::prefix::is_await_name;
-use swc_operators::prefix::update_prefix;
-use swc_operators::within::enter_args;
-use swc_operators::within::enter_prop_name;
-use swc_operators::within::enter_tpl;
-use swc_operators::within::include_in;
-use swc_operators::within::leave;
-use swc_patterns::object::AfterPatKey;
-use swc_patterns::object::after_pat_key;
-use swc_patterns::object::object_pat;
-use swc_patterns::params::NextParam;
-use swc_patterns::params::next_param;
-use swc_patterns::params::param_of;
-use swc_patterns::params::rest_default;
-use swc_patterns::pat::NextElement;
-use swc_patterns::pat::PatKind;
-use swc_patterns::pat::array_pat;
-use swc_patterns::pat::default_pat;
-use swc_patterns::pat::next_element;
-use swc_patterns::pat::parse_plain_pat;
-use swc_patterns::pat::pat_kind;
-use swc_patterns::pat::rest_pat;
-use swc_patterns::rest::SeenRest;
-use swc_patterns::rest::separate_item;
-use swc_primary::literals::array_lit;
-use swc_primary::literals::object_lit;
-use swc_primary::literals::open_array;
-use swc_primary::literals::open_object;
-use swc_primary::methods::close_method;
-use swc_primary::methods::method_of;
-use swc_primary::methods::open_params;
+use swc_operators::plain::{begins_plain, may_go_on};
+use swc_operators::prefix::{is_await_name, update_prefix};
+use swc_operators::within::{enter_args, enter_prop_name, enter_tpl, include_in, leave};
+use swc_operators::{assign, ops};
+use swc_patterns::object::{AfterPatKey, after_pat_key, object_pat};
+use swc_patterns::params::{NextParam, next_param, param_of, rest_default};
+use swc_patterns::pat::{
+    NextElement, PatKind, array_pat, default_pat, next_element, parse_plain_pat, pat_kind, rest_pat,
+};
+use swc_patterns::rest::{SeenRest, separate_item};
+use swc_primary::literals::{array_lit, object_lit, open_array, open_object};
+use swc_primary::methods::{close_method, method_of, open_params};
 use swc_primary::modifiers::MethodKind;
-use swc_primary::object::PropHead;
-use swc_primary::object::computed_prop_name;
-use swc_primary::object::cover_prop;
-use swc_primary::object::key_prop;
-use swc_primary::object::parse_plain_prop_name;
-use swc_primary::object::parse_prop_head;
-use swc_primary::object::spread_prop;
-use swc_primary::primary::Elem;
-use swc_primary::primary::PrimaryKind;
-use swc_primary::primary::begins_private;
-use swc_primary::primary::paren_items;
-use swc_primary::primary::parse_plain_primary;
-use swc_primary::primary::parse_private_operand;
-use swc_primary::primary::primary_kind;
+use swc_primary::object::{
+    PropHead, computed_prop_name, cover_prop, key_prop, parse_plain_prop_name, parse_prop_head,
+    spread_prop,
+};
+use swc_primary::primary;
+use swc_primary::primary::{Elem, PrimaryKind};
 use swc_steps::productions::Productions;
-use swc_steps::tokens::Listed;
-use swc_steps::tokens::Sign;
-use swc_steps::tokens::cur_pos;
-use swc_steps::tokens::eat;
-use swc_steps::tokens::expect;
-use swc_steps::tokens::is_sign;
-use swc_steps::tokens::label_spread;
-use swc_steps::tokens::label_yield;
-use swc_steps::tokens::look;
-use swc_steps::tokens::require_cur;
-use swc_steps::tokens::separate;
-use swc_steps::tokens::set_ctx;
-use swc_steps::tokens::skip;
+use swc_steps::tokens;
+use swc_steps::tokens::{Listed, Sign};
 
 /// The items of a list, up to the sign that closes the list: the loop of all lists. The expression reads an item, adds
 /// it to the items, and is the place of the comma after it.
@@ -184,7 +81,7 @@ macro_rules! listed {
         let mut $items = Vec::new($p.alloc);
         let mut trailing_comma = None;
         loop {
-            match eat(&mut $p.input, $close)? {
+            match tokens::eat(&mut $p.input, $close)? {
                 Some(end) => {
                     return Ok(Listed {
                         items: $items,
@@ -214,7 +111,7 @@ macro_rules! held {
         match $answer {
             Ok(value) => value,
             Err(error) => {
-                set_ctx(&mut $p.input, $before);
+                tokens::set_ctx(&mut $p.input, $before);
                 return Err(error);
             }
         }
@@ -235,34 +132,34 @@ pub fn parse_primary_expr<I: Tokens, B: Bodies<I>>(
     ensures { Produces I.model B.is_faithful itself tree_of (run B.forms (sym Primary))
         (count p.old.nodes) p.old result p.new }
 {
-    look(&mut p.input)?;
-    match primary_kind(&p.input) {
+    tokens::look(&mut p.input)?;
+    match primary::primary_kind(&p.input) {
         PrimaryKind::Paren => {
             let start = p.cur_span();
-            skip(&mut p.input);
+            tokens::skip(&mut p.input);
             let list = parse_args(p, room, false)?;
-            paren_items(p, start, list)
+            primary::paren_items(p, start, list)
         }
         PrimaryKind::Array => {
             let (start, ctx) = open_array(&mut p.input);
             let elems = parse_elements(p, room);
-            set_ctx(&mut p.input, ctx);
+            tokens::set_ctx(&mut p.input, ctx);
             array_lit(p, start, elems?)
         }
         PrimaryKind::Object => {
             let (start, ctx) = open_object(&mut p.input);
             let props = parse_props(p, room);
-            set_ctx(&mut p.input, ctx);
+            tokens::set_ctx(&mut p.input, ctx);
             object_lit(p, start, props?)
         }
         PrimaryKind::Template => {
-            let start = expect(&mut p.input, Sign::BackQuote)?;
+            let start = tokens::expect(&mut p.input, Sign::BackQuote)?;
             let parts = parse_tpl_elements(p, room, false)?;
             let end = parts.end.hi;
             let node = p.nodes.tpl(start.lo, end, parts.quasis, parts.exprs);
             p.made(node)
         }
-        PrimaryKind::Plain => parse_plain_primary(p),
+        PrimaryKind::Plain => primary::parse_plain_primary(p),
     }
 }
 
@@ -281,7 +178,7 @@ fn parse_elements<I: Tokens, B: Bodies<I>>(
         Sign::RBracket,
         items,
         {
-            match eat(&mut p.input, Sign::Comma)? {
+            match tokens::eat(&mut p.input, Sign::Comma)? {
                 Some(_) => {
                     p.add(&mut items, None)?;
                     None
@@ -289,7 +186,7 @@ fn parse_elements<I: Tokens, B: Bodies<I>>(
                 None => {
                     let item = parse_expr_or_spread(p, room)?;
                     p.add(&mut items, Some(item))?;
-                    separate(&mut p.input, Sign::RBracket)?
+                    tokens::separate(&mut p.input, Sign::RBracket)?
                 }
             }
         }
@@ -306,10 +203,10 @@ pub fn parse_expr_or_spread<I: Tokens, B: Bodies<I>>(
     ensures { Produces I.model B.is_faithful item_of item_at (run B.forms (sym Item))
         (count p.old.nodes) p.old result p.new }
 {
-    let spread = eat(&mut p.input, Sign::DotDotDot)?;
+    let spread = tokens::eat(&mut p.input, Sign::DotDotDot)?;
     match parse_assignment_expr(p, room) {
         Ok(expr) => Ok(ExprOrSpread { spread, expr }),
-        Err(error) => Err(label_spread(p.alloc, &p.input, spread, error)),
+        Err(error) => Err(tokens::label_spread(p.alloc, &p.input, spread, error)),
     }
 }
 
@@ -324,13 +221,13 @@ pub fn parse_lhs_expr<I: Tokens, B: Bodies<I>>(
     ensures { Produces I.model B.is_faithful itself tree_of (run B.forms (sym (Lhs true)))
         (count p.old.nodes) p.old result p.new }
 {
-    look(&mut p.input)?;
-    if is_super_or_import(&p.input) {
+    tokens::look(&mut p.input)?;
+    if left::is_super_or_import(&p.input) {
         let base = parse_base(p, room, false)?;
         return parse_subscripts(p, room, base, false);
     }
     let ctx = p.get_ctx();
-    set_ctx(
+    tokens::set_ctx(
         &mut p.input,
         Context {
             should_not_lex_lt_or_gt_as_type: true,
@@ -338,7 +235,7 @@ pub fn parse_lhs_expr<I: Tokens, B: Bodies<I>>(
         },
     );
     let member = parse_member_expr(p, room);
-    set_ctx(&mut p.input, ctx);
+    tokens::set_ctx(&mut p.input, ctx);
     let callee = member?;
     parse_subscripts(p, room, callee, false)
 }
@@ -354,27 +251,27 @@ fn parse_member_expr<I: Tokens, B: Bodies<I>>(
     ensures { Produces I.model B.is_faithful itself tree_of (run B.forms (sym (Lhs false)))
         (count p.old.nodes) p.old result p.new }
 {
-    look(&mut p.input)?;
-    if !is_sign(&p.input, Sign::New) {
+    tokens::look(&mut p.input)?;
+    if !tokens::is_sign(&p.input, Sign::New) {
         let base = parse_base(p, room, true)?;
         return parse_subscripts(p, room, base, true);
     }
     let start = p.cur_span();
-    skip(&mut p.input);
-    match eat(&mut p.input, Sign::Dot)? {
+    tokens::skip(&mut p.input);
+    match tokens::eat(&mut p.input, Sign::Dot)? {
         Some(_) => {
-            let target = parse_new_target(p, start)?;
+            let target = left::parse_new_target(p, start)?;
             return parse_subscripts(p, room, target, true);
         }
         None => {}
     }
     let less = deeper(&p.input, &mut p.too_deep, room)?;
     let callee = parse_member_expr(p, less)?;
-    refuse_opt_chain::<I, B>(&mut p.input, &p.nodes, callee)?;
-    match eat(&mut p.input, Sign::LParen)? {
+    left::refuse_opt_chain::<I, B>(&mut p.input, &p.nodes, callee)?;
+    match tokens::eat(&mut p.input, Sign::LParen)? {
         Some(_) => {
             let list = parse_args(p, room, false)?;
-            let base = new_expr(p, start, callee, list)?;
+            let base = left::new_expr(p, start, callee, list)?;
             parse_subscripts(p, room, base, true)
         }
         None => {
@@ -400,19 +297,19 @@ fn parse_subscripts<I: Tokens, B: Bodies<I>>(
         (first_at p.old.nodes obj.0) p.old result p.new }
 {
     loop {
-        let head = match parse_link_head(&mut p.input, no_call)? {
+        let head = match left::parse_link_head(&mut p.input, no_call)? {
             Some(head) => head,
             None => return Ok(obj),
         };
         match head {
-            LinkHead::Name { optional } => obj = parse_dot_member(p, obj, optional)?,
+            LinkHead::Name { optional } => obj = left::parse_dot_member(p, obj, optional)?,
             LinkHead::Computed { start, optional } => {
                 let expr = with_in!(p, room, parse_expr)?;
-                obj = computed_member(p, obj, start, expr, optional)?;
+                obj = left::computed_member(p, obj, start, expr, optional)?;
             }
             LinkHead::Call { optional } => {
                 let list = parse_args(p, room, false)?;
-                obj = call_expr(p, obj, list, optional)?;
+                obj = left::call_expr(p, obj, list, optional)?;
             }
             LinkHead::Template { start } => {
                 let parts = parse_tpl_elements(p, room, true)?;
@@ -441,7 +338,7 @@ pub fn parse_props<I: Tokens, B: Bodies<I>>(
         {
             let prop = parse_object_prop(p, room)?;
             p.add(&mut items, prop)?;
-            separate(&mut p.input, Sign::RBrace)?
+            tokens::separate(&mut p.input, Sign::RBrace)?
         }
     )
 }
@@ -471,7 +368,7 @@ pub fn parse_object_prop<I: Tokens, B: Bodies<I>>(
         }
         PropHead::Key => {
             let key = parse_prop_name(p, room)?;
-            match eat(&mut p.input, Sign::Colon)? {
+            match tokens::eat(&mut p.input, Sign::Colon)? {
                 Some(_) => {
                     let value = with_in!(p, room, parse_assignment_expr)?;
                     Ok(key_prop(&p.nodes, key, value))
@@ -507,7 +404,7 @@ fn parse_method<I: Tokens, B: Bodies<I>>(
     let (start, before) = open_params(&mut p.input, kind)?;
     let params = held!(p, before, parse_formal_params(p, room));
     let method = close_method(p, kind, key, start, params);
-    set_ctx(&mut p.input, before);
+    tokens::set_ctx(&mut p.input, before);
     method
 }
 
@@ -525,16 +422,16 @@ pub fn parse_prop_name<I: Tokens, B: Bodies<I>>(
         (count p.old.nodes) p.old result p.new }
 {
     let before = enter_prop_name(&mut p.input);
-    match held!(p, before, eat(&mut p.input, Sign::LBracket)) {
+    match held!(p, before, tokens::eat(&mut p.input, Sign::LBracket)) {
         Some(start) => {
             let expr = held!(p, before, with_in!(p, room, parse_assignment_expr));
             let key = computed_prop_name(p, start, expr);
-            set_ctx(&mut p.input, before);
+            tokens::set_ctx(&mut p.input, before);
             key
         }
         None => {
             let key = parse_plain_prop_name(p.alloc, &mut p.input);
-            set_ctx(&mut p.input, before);
+            tokens::set_ctx(&mut p.input, before);
             key
         }
     }
@@ -562,13 +459,13 @@ pub fn parse_tpl_elements<I: Tokens, B: Bodies<I>>(
         held!(p, before, p.add(&mut quasis, quasi));
         match held!(p, before, eat_tpl_end(&mut p.input)) {
             Some(end) => {
-                set_ctx(&mut p.input, before);
+                tokens::set_ctx(&mut p.input, before);
                 return Ok(TplParts { quasis, exprs, end });
             }
             None => {}
         }
         let expr = held!(p, before, with_in!(p, room, parse_expr));
-        held!(p, before, expect(&mut p.input, Sign::RBrace));
+        held!(p, before, tokens::expect(&mut p.input, Sign::RBrace));
         held!(p, before, p.add(&mut exprs, expr));
     }
 }
@@ -593,9 +490,9 @@ pub fn parse_args<I: Tokens, B: Bodies<I>>(
     let mut items = Vec::new(p.alloc);
     let mut trailing_comma = None;
     loop {
-        match held!(p, before, eat(&mut p.input, Sign::RParen)) {
+        match held!(p, before, tokens::eat(&mut p.input, Sign::RParen)) {
             Some(end) => {
-                set_ctx(&mut p.input, before);
+                tokens::set_ctx(&mut p.input, before);
                 return Ok(Listed {
                     items,
                     trailing_comma,
@@ -628,20 +525,20 @@ pub fn parse_base<I: Tokens, B: Bodies<I>>(
     ensures { Produces I.model B.is_faithful itself tree_of (plain_base B.forms (not no_call))
         (count p.old.nodes) p.old result p.new }
 {
-    match eat(&mut p.input, Sign::Super)? {
+    match tokens::eat(&mut p.input, Sign::Super)? {
         Some(start) => return parse_super(p, room, start, no_call),
         None => {}
     }
-    let start = match eat(&mut p.input, Sign::Import)? {
+    let start = match tokens::eat(&mut p.input, Sign::Import)? {
         Some(start) => start,
         None => return parse_primary_expr(p, room),
     };
-    match import_head(p, start, no_call)? {
-        ImportHead::Meta(span) => import_meta(p, span),
+    match base::import_head(p, start, no_call)? {
+        ImportHead::Meta(span) => base::import_meta(p, span),
         ImportHead::Call(import) => {
             let open = p.prev_span().lo;
             let list = parse_args(p, room, true)?;
-            import_call(p, start, import, open, list)
+            base::import_call(p, start, import, open, list)
         }
     }
 }
@@ -662,27 +559,27 @@ fn parse_super<I: Tokens, B: Bodies<I>>(
     ensures { Produces I.model B.is_faithful itself tree_of (super_tail B.forms (not no_call) start)
         (count p.old.nodes) p.old result p.new }
 {
-    match super_head(&mut p.input, no_call)? {
-        SuperHead::Name => return parse_super_name(p, start),
+    match base::super_head(&mut p.input, no_call)? {
+        SuperHead::Name => return base::parse_super_name(p, start),
         SuperHead::Computed(bracket) => {
             let expr = with_in!(p, room, parse_expr)?;
-            return super_computed(p, start, bracket, expr);
+            return base::super_computed(p, start, bracket, expr);
         }
         SuperHead::Call => {
             let list = parse_args(p, room, false)?;
-            return callee_call(p, start, Callee::Super(Super { span: start }), list);
+            return base::callee_call(p, start, Callee::Super(Super { span: start }), list);
         }
         SuperHead::Other => {}
     }
-    match super_chain(&mut p.input, no_call)? {
-        SuperChain::Name => refuse_super_name(p, no_call),
+    match base::super_chain(&mut p.input, no_call)? {
+        SuperChain::Name => base::refuse_super_name(p, no_call),
         SuperChain::Computed => {
             with_in!(p, room, parse_expr)?;
-            Err(refuse_super_brackets(&mut p.input, no_call))
+            Err(base::refuse_super_brackets(&mut p.input, no_call))
         }
         SuperChain::Call => {
             parse_args(p, room, false)?;
-            Err(refuse_super_args(&mut p.input))
+            Err(base::refuse_super_args(&mut p.input))
         }
     }
 }
@@ -700,7 +597,7 @@ pub fn parse_bin_expr<I: Tokens, B: Bodies<I>>(
     ensures { Produces I.model B.is_faithful itself tree_of (run B.forms (sym (Level 1)))
         (count p.old.nodes) p.old result p.new }
 {
-    let first = cur_pos(&mut p.input)?;
+    let first = tokens::cur_pos(&mut p.input)?;
     match parse_operand(p, room, true) {
         Ok(left) => {
             let pending = PendingOperators::new(p.alloc);
@@ -725,9 +622,9 @@ fn recover_operators<I: Tokens, B: Bodies<I>>(
     ensures { Recovers I.model itself (Consumes I.model) error.kind p.old result p.new }
 {
     let mut pending = PendingOperators::new(p.alloc);
-    let (left, op) = recover_left(p, error, first)?;
-    take_operator(p, &mut pending, left, op)?;
-    let is_free = private_may_follow(&pending);
+    let (left, op) = ops::recover_left(p, error, first)?;
+    ops::take_operator(p, &mut pending, left, op)?;
+    let is_free = ops::private_may_follow(&pending);
     let right = parse_operand(p, room, is_free)?;
     parse_operators(p, room, pending, right)
 }
@@ -749,16 +646,16 @@ fn parse_operators<I: Tokens, B: Bodies<I>>(
         (first_at p.old.nodes (first_operand (all_pending pending) left).0) p.old result p.new }
 {
     loop {
-        match next_operator(&mut p.input, pending.min_prec())? {
+        match ops::next_operator(&mut p.input, pending.min_prec())? {
             Some(op) => {
-                take_operator(p, &mut pending, left, op)?;
-                let is_free = private_may_follow(&pending);
+                ops::take_operator(p, &mut pending, left, op)?;
+                let is_free = ops::private_may_follow(&pending);
                 left = parse_operand(p, room, is_free)?;
             }
             None => {
-                check_nullish_left::<I, B>(&mut p.input, &p.nodes, left)?;
+                ops::check_nullish_left::<I, B>(&mut p.input, &p.nodes, left)?;
                 match pending.pop() {
-                    Some(operator) => left = join_operands(p, operator, left)?,
+                    Some(operator) => left = ops::join_operands(p, operator, left)?,
                     None => return Ok(left),
                 }
             }
@@ -778,11 +675,11 @@ fn parse_operand<I: Tokens, B: Bodies<I>>(
     ensures { Produces I.model B.is_faithful itself tree_of (operand B.forms is_free)
         (count p.old.nodes) p.old result p.new }
 {
-    look(&mut p.input)?;
-    if begins_private(&p.input, is_free) {
-        let name = parse_private_operand(p)?;
+    tokens::look(&mut p.input)?;
+    if primary::begins_private(&p.input, is_free) {
+        let name = primary::parse_private_operand(p)?;
         let callee = parse_subscripts(p, room, name, false)?;
-        return parse_update_postfix(p, callee);
+        return ops::parse_update_postfix(p, callee);
     }
     parse_unary_expr(p, room)
 }
@@ -797,47 +694,47 @@ pub fn parse_unary_expr<I: Tokens, B: Bodies<I>>(
     ensures { Produces I.model B.is_faithful itself tree_of (run B.forms (sym Unary))
         (count p.old.nodes) p.old result p.new }
 {
-    look(&mut p.input)?;
+    tokens::look(&mut p.input)?;
     if begins_plain(&p.input) {
         return parse_plain_operand(p, room);
     }
-    match cur_update_op(&p.input) {
+    match ops::cur_update_op(&p.input) {
         Some(op) => {
             let less = deeper(&p.input, &mut p.too_deep, room)?;
             let start = p.cur_span();
-            skip(&mut p.input);
+            tokens::skip(&mut p.input);
             let arg = parse_unary_expr(p, less)?;
             return update_prefix(p, start, op, arg);
         }
         None => {}
     }
-    match cur_prefix_op(&p.input) {
+    match ops::cur_prefix_op(&p.input) {
         Some(op) => {
             let less = deeper(&p.input, &mut p.too_deep, room)?;
             let start = p.cur_span();
-            skip(&mut p.input);
-            let at = cur_pos(&mut p.input)?;
+            tokens::skip(&mut p.input);
+            let at = tokens::cur_pos(&mut p.input)?;
             return match parse_unary_expr(p, less) {
-                Ok(arg) => unary_expr(p, start, op, arg),
-                Err(error) => unary_expr_without_operand(p, start, op, error, at),
+                Ok(arg) => ops::unary_expr(p, start, op, arg),
+                Err(error) => ops::unary_expr_without_operand(p, start, op, error, at),
             };
         }
         None => {}
     }
-    if is_await(&p.input) {
+    if ops::is_await(&p.input) {
         let start = p.cur_span();
-        skip(&mut p.input);
+        tokens::skip(&mut p.input);
         if is_await_name(&mut p.input)? {
-            return parse_await_ident(p, start);
+            return ops::parse_await_ident(p, start);
         }
-        check_await(&mut p.input, start)?;
+        ops::check_await(&mut p.input, start)?;
         let less = deeper(&p.input, &mut p.too_deep, room)?;
         let arg = parse_unary_expr(p, less)?;
         let node = p.nodes.await_expr(start.lo, arg);
         return p.made(node);
     }
     let expr = parse_lhs_expr(p, room)?;
-    parse_update_postfix(p, expr)
+    ops::parse_update_postfix(p, expr)
 }
 
 /// A unary expression (ECMA-262, 13.5) that begins with a name, a literal or `this`: a left-hand side, and `++` or `--`
@@ -854,7 +751,7 @@ fn parse_plain_operand<I: Tokens, B: Bodies<I>>(
         (count p.old.nodes) p.old result p.new }
 {
     let ctx = p.get_ctx();
-    set_ctx(
+    tokens::set_ctx(
         &mut p.input,
         Context {
             should_not_lex_lt_or_gt_as_type: true,
@@ -862,14 +759,14 @@ fn parse_plain_operand<I: Tokens, B: Bodies<I>>(
         },
     );
     let member = parse_plain_member(p, room);
-    set_ctx(&mut p.input, ctx);
+    tokens::set_ctx(&mut p.input, ctx);
     let callee = member?;
-    look(&mut p.input)?;
+    tokens::look(&mut p.input)?;
     if !may_go_on(&p.input) {
         return Ok(callee);
     }
     let expr = parse_subscripts(p, room, callee, false)?;
-    parse_update_postfix(p, expr)
+    ops::parse_update_postfix(p, expr)
 }
 
 /// A member expression (ECMA-262, 13.3) that begins with a name, a literal or `this`: a primary expression, and the
@@ -884,7 +781,7 @@ fn parse_plain_member<I: Tokens, B: Bodies<I>>(
     ensures { Produces I.model B.is_faithful itself tree_of (run B.forms (sym (Lhs false)))
         (count p.old.nodes) p.old result p.new }
 {
-    let base = parse_plain_primary(p)?;
+    let base = primary::parse_plain_primary(p)?;
     parse_subscripts(p, room, base, true)
 }
 
@@ -901,7 +798,7 @@ pub fn parse_expr<I: Tokens, B: Bodies<I>>(
         (count p.old.nodes) p.old result p.new }
 {
     let first = parse_assignment_expr(p, room)?;
-    match eat(&mut p.input, Sign::Comma)? {
+    match tokens::eat(&mut p.input, Sign::Comma)? {
         Some(_) => {}
         None => return Ok(first),
     }
@@ -910,7 +807,7 @@ pub fn parse_expr<I: Tokens, B: Bodies<I>>(
     loop {
         let expr = parse_assignment_expr(p, room)?;
         p.add(&mut exprs, expr)?;
-        match eat(&mut p.input, Sign::Comma)? {
+        match tokens::eat(&mut p.input, Sign::Comma)? {
             Some(_) => {}
             None => {
                 let node = p.nodes.seq_expr(exprs);
@@ -930,9 +827,9 @@ pub fn parse_assignment_expr<I: Tokens, B: Bodies<I>>(
     ensures { Produces I.model B.is_faithful itself tree_of (run B.forms (sym Assign))
         (count p.old.nodes) p.old result p.new }
 {
-    require_cur(&mut p.input)?;
+    tokens::require_cur(&mut p.input)?;
     let less = deeper(&p.input, &mut p.too_deep, room)?;
-    if is_yield_operator(&p.input) {
+    if assign::is_yield_operator(&p.input) {
         return parse_yield_expr(p, less);
     }
     parse_arrow_or_assign(p, less)
@@ -952,13 +849,13 @@ fn parse_yield_expr<I: Tokens, B: Bodies<I>>(
         (count p.old.nodes) p.old result p.new }
 {
     let start = p.cur_span();
-    skip(&mut p.input);
-    refuse_yield_param(&mut p.input)?;
-    if !goes_on_yield(&mut p.input)? {
+    tokens::skip(&mut p.input);
+    assign::refuse_yield_param(&mut p.input)?;
+    if !assign::goes_on_yield(&mut p.input)? {
         let node = p.nodes.yield_alone(start);
         return p.made(node);
     }
-    let star = eat(&mut p.input, Sign::Star)?;
+    let star = tokens::eat(&mut p.input, Sign::Star)?;
     let end = p.last_pos();
     match parse_assignment_expr(p, room) {
         Ok(arg) => {
@@ -967,7 +864,7 @@ fn parse_yield_expr<I: Tokens, B: Bodies<I>>(
         }
         Err(error) => {
             let span = Span::new(start.lo, end);
-            Err(label_yield(p.alloc, &p.input, span, error))
+            Err(tokens::label_yield(p.alloc, &p.input, span, error))
         }
     }
 }
@@ -1013,7 +910,7 @@ fn parse_arrow_or_assign<I: Tokens, B: Bodies<I>>(
                 }
             };
             check_operators_end(&mut p.input)?;
-            check_nullish_left::<I, B>(&mut p.input, &p.nodes, left)?;
+            ops::check_nullish_left::<I, B>(&mut p.input, &p.nodes, left)?;
             finish_assignment_expr(p, room, left)
         }
         ArrowOrBase::Other => {
@@ -1041,7 +938,7 @@ fn parse_arrow_or_operand<I: Tokens, B: Bodies<I>>(
     match parse_arrow_or_base(p, room)? {
         ArrowOrBase::Base(base) => {
             let callee = parse_subscripts(p, room, base, false)?;
-            let operand = parse_update_postfix(p, callee)?;
+            let operand = ops::parse_update_postfix(p, callee)?;
             Ok(ArrowOrBase::Base(operand))
         }
         other => Ok(other),
@@ -1126,7 +1023,7 @@ fn parse_arrow_body<I: Tokens, B: Bodies<I>>(
         }
     };
     p.found_module_item = found;
-    set_ctx(&mut p.input, before);
+    tokens::set_ctx(&mut p.input, before);
     body
 }
 
@@ -1144,30 +1041,30 @@ fn finish_assignment_expr<I: Tokens, B: Bodies<I>>(
         (assigns_from B.forms (start_at p.old.nodes left.0) (tree_of p.old.nodes left))
         (λ ns e c ts. Some (tree_of ns e, ts)) (first_at p.old.nodes left.0) p.old result p.new }
 {
-    look(&mut p.input)?;
-    if is_sign(&p.input, Sign::Question) {
-        skip(&mut p.input);
+    tokens::look(&mut p.input)?;
+    if tokens::is_sign(&p.input, Sign::Question) {
+        tokens::skip(&mut p.input);
         let ctx = p.get_ctx();
-        set_ctx(&mut p.input, cond_middle(ctx));
+        tokens::set_ctx(&mut p.input, assign::cond_middle(ctx));
         let middle = parse_assignment_expr(p, room);
-        set_ctx(&mut p.input, ctx);
+        tokens::set_ctx(&mut p.input, ctx);
         let cons = middle?;
-        expect(&mut p.input, Sign::Colon)?;
-        set_ctx(&mut p.input, cond_last(ctx));
+        tokens::expect(&mut p.input, Sign::Colon)?;
+        tokens::set_ctx(&mut p.input, assign::cond_last(ctx));
         let last = parse_assignment_expr(p, room);
-        set_ctx(&mut p.input, ctx);
+        tokens::set_ctx(&mut p.input, ctx);
         let alt = last?;
         let node = p.nodes.cond_expr(left, cons, alt);
         return p.made(node);
     }
-    let op = match cur_assign_op(p, left) {
+    let op = match assign::cur_assign_op(p, left) {
         Some(op) => op,
         None => return Ok(left),
     };
-    let target = assign_target(p, op, left)?;
-    skip(&mut p.input);
+    let target = assign::assign_target(p, op, left)?;
+    tokens::skip(&mut p.input);
     let right = parse_assignment_expr(p, room)?;
-    assign_node(p, op, target, right)
+    assign::assign_node(p, op, target, right)
 }
 
 // ---- Binding patterns (ECMA-262, 14.3.3) and formal parameters (15.1)
@@ -1180,12 +1077,12 @@ pub fn parse_pat<I: Tokens, B: Bodies<I>>(p: &mut Productions<I, B>, room: usize
     ensures { Produces I.model B.is_faithful pat_itself pat_at (run B.forms (sym Pat))
         (count p.old.nodes) p.old result p.new }
 {
-    look(&mut p.input)?;
+    tokens::look(&mut p.input)?;
     match pat_kind(&p.input) {
         PatKind::Array => {
             let less = deeper(&p.input, &mut p.too_deep, room)?;
             let start = p.cur_span();
-            skip(&mut p.input);
+            tokens::skip(&mut p.input);
             let elems = parse_pat_elements(p, less)?;
             array_pat(p, start, elems)
         }
@@ -1193,7 +1090,7 @@ pub fn parse_pat<I: Tokens, B: Bodies<I>>(p: &mut Productions<I, B>, room: usize
             let less = deeper(&p.input, &mut p.too_deep, room)?;
             let (start, ctx) = open_object(&mut p.input);
             let props = parse_pat_props(p, less);
-            set_ctx(&mut p.input, ctx);
+            tokens::set_ctx(&mut p.input, ctx);
             object_pat(p, start, props?)
         }
         PatKind::Plain => parse_plain_pat(p),
@@ -1210,7 +1107,7 @@ pub fn parse_binding_element<I: Tokens, B: Bodies<I>>(
         (count p.old.nodes) p.old result p.new }
 {
     let left = parse_pat(p, room)?;
-    match eat(&mut p.input, Sign::Assign)? {
+    match tokens::eat(&mut p.input, Sign::Assign)? {
         Some(_) => {
             let value = with_in!(p, room, parse_assignment_expr)?;
             default_pat(p, left, value)
@@ -1276,7 +1173,7 @@ fn parse_pat_props<I: Tokens, B: Bodies<I>>(
         {
             let prop = parse_object_pat_prop(p, room)?;
             p.add(&mut items, prop)?;
-            separate(&mut p.input, Sign::RBrace)?
+            tokens::separate(&mut p.input, Sign::RBrace)?
         }
     )
 }
@@ -1291,7 +1188,7 @@ pub fn parse_object_pat_prop<I: Tokens, B: Bodies<I>>(
     ensures { Produces I.model B.is_faithful pat_prop_of pat_prop_at (pat_prop_item B.forms)
         (count p.old.nodes) p.old result p.new }
 {
-    match eat(&mut p.input, Sign::DotDotDot)? {
+    match tokens::eat(&mut p.input, Sign::DotDotDot)? {
         Some(dots) => {
             let arg = parse_pat(p, room)?;
             return Ok(p.nodes.rest_pat_prop(dots, arg));
@@ -1331,7 +1228,7 @@ pub fn parse_formal_params<I: Tokens, B: Bodies<I>>(
                 let pat = match dots {
                     Some(dots) => {
                         let arg = parse_pat(p, room)?;
-                        match eat(&mut p.input, Sign::Assign)? {
+                        match tokens::eat(&mut p.input, Sign::Assign)? {
                             Some(_) => {
                                 let value = parse_assignment_expr(p, room)?;
                                 rest_default(p, dots, arg, value)?
