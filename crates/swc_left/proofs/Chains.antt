@@ -21,9 +21,9 @@ module _ {S F C K : Type 0} {model : Model S} {sure : Bool} (hook : Hook F C K) 
     {f : Reader (Tree F C K)} {h : LinkHead} {o : Option LinkHead} {a c d : Buffer S} where
   begun : On model sure f (run hook (links b l)) a c → o ≡ Some h → On model sure (link_head b) (give o) c d
       → On model sure f (λ x ts. links_by hook b (Some h) l x ts) a d
-  begun so is covered-params =
+  begun so is begins =
       s.on_then so (s.on_call (λ x r. links_by hook b r.0 l x r.1) (λ x ts. links_splits hook b l x ts)
-      (s.on_answer is covered-params))
+      (s.on_answer is begins))
 
 module _ {S H F C K : Type 0} {fg : Ghosts F} {cg : Ghosts C} {kg : Ghosts K} {model : Model S} {sure : Bool}
     (hook : Hook F C K) (a p : Productions S H F C K fg cg kg) (b : Bool) {f : Reader (Tree F C K)} {k : ℕ}
@@ -35,8 +35,8 @@ module _ {S H F C K : Type 0} {fg : Ghosts F} {cg : Ghosts C} {kg : Ghosts K} {m
       → Produces model sure itself tree_of (link_tail hook h (tree_of p.nodes e)) (first_at p.nodes e.0)
       (record p { input = d }) (Ok n) q → On model sure f (run hook (links b (tree_of q.nodes n))) a.input q.input
       × (to_come model q.input ≤ to_come model a.input) × Grows a.nodes q.nodes × From k q.nodes (expr_part n)
-  linked so is covered-params falls link = (
-    s.on_then (begun hook b (tree_of p.nodes e) so.0 is covered-params)
+  linked so is begins falls link = (
+    s.on_then (begun hook b (tree_of p.nodes e) so.0 is begins)
         (s.on_call (λ x r. run hook (links b r.0) x r.1) (λ x ts. refl) link.reads.on),
     let x = so.1 in let y = link.falls in omega arith,
     grows-then so.2 link.grows,
@@ -53,6 +53,6 @@ module _ {S H F C K : Type 0} {fg : Ghosts F} {cg : Ghosts C} {kg : Ghosts K} {m
       → o ≡ Some h → On model sure (link_head b) (give o) p.input d
       → Produces model sure itself tree_of (link_tail hook h (tree_of p.nodes e)) (first_at p.nodes e.0)
       (record p { input = d }) (Err r) q → GoesOn model sure itself tree_of f k a (Err r) q
-  not_linked so is covered-params link =
-      m.no_more (s.unheard_after (begun hook b (tree_of p.nodes e) so.0 is covered-params)
+  not_linked so is begins link =
+      m.no_more (s.unheard_after (begun hook b (tree_of p.nodes e) so.0 is begins)
       (s.unheard_call (λ x v. run hook (links b v.0) x v.1) (λ x ts. refl) link.reads)) (grows-then so.2 link.grows)

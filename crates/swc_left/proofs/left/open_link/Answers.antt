@@ -30,7 +30,7 @@ returns-in-Chain-clause-begins g c = λ sure.
     let first = c.skip.ensures.took.1 in
     s.parses_after g.I.Tokens.model sure (λ h. h) _ _ c.open_chain.result
     (s.on_took {g = chain_head} g.met.I.Tokens.laws first (λ x ts. link.head_opens c.args.link (plain first.was) x ts
-    ∙ ap (λ k. head_behind k (plain first.was).span x ts) c.in-Chain.is)) (c.open_chain.ensures.covered-params sure)
+    ∙ ap (λ k. head_behind k (plain first.was).span x ts) c.in-Chain.is)) (c.open_chain.ensures.begins sure)
 
 pub returns-in-Template-clause-begins : goal.returns-in-Template-clause-begins
 returns-in-Template-clause-begins g c = λ sure.

@@ -29,11 +29,11 @@ returns-in_err-head-clause-begins g c =
     (s.unheard_after (s.on_told {g = λ x ts. head_of c.in-Some.link x ts >>=
     (λ p. Some (Some p.0, p.1))} c.in_ok-look.ensures.looks c.in_ok-link.ensures.tells
     (λ x ts same e told. link.head_takes (not c.args.no_call) c.in-Some.link x ts (told ∙ c.in-Some.is)))
-    (s.unheard_call (λ x p. Some (Some p.0, p.1)) (λ x ts. refl) (c.in_err-head.ensures.covered-params sure)))
+    (s.unheard_call (λ x p. Some (Some p.0, p.1)) (λ x ts. refl) (c.in_err-head.ensures.begins sure)))
 
 pub returns-clause-begins : goal.returns-clause-begins
 returns-clause-begins g c = λ sure.
     s.on_then (s.on_told {g = λ x ts. head_of c.in-Some.link x ts >>=
     (λ p. Some (Some p.0, p.1))} c.in_ok-look.ensures.looks c.in_ok-link.ensures.tells
     (λ x ts same e told. link.head_takes (not c.args.no_call) c.in-Some.link x ts (told ∙ c.in-Some.is)))
-    (s.on_call (λ x p. Some (Some p.0, p.1)) (λ x ts. refl) (c.in_ok-head.ensures.covered-params sure).on)
+    (s.on_call (λ x p. Some (Some p.0, p.1)) (λ x ts. refl) (c.in_ok-head.ensures.begins sure).on)

@@ -1396,7 +1396,7 @@ parse_subscripts-returns-in_err-head g t c =
     let l = tree_of c.loop-head.p.nodes c.loop-head.obj in
     m.refused_more c.from_residual.ensures.1
     (s.unheard_after c.loop-head.invariant.0 (s.unheard_call _ (link.links_splits _ b l)
-    (c.in_err-head.ensures.covered-params g.B.Bodies.is_faithful))) c.loop-head.invariant.2
+    (c.in_err-head.ensures.begins g.B.Bodies.is_faithful))) c.loop-head.invariant.2
 
 pub parse_subscripts-returns-in-None : goal.parse_subscripts-returns-in-None
 parse_subscripts-returns-in-None g t c =
@@ -1404,14 +1404,14 @@ parse_subscripts-returns-in-None g t c =
     let l = tree_of c.loop-head.p.nodes c.loop-head.obj in
     m.on (Ok _)
     (s.on_then c.loop-head.invariant.0 (s.on_call _ (link.links_splits _ b l)
-    (s.on_answer c.in-None.is (c.in_ok-head.ensures.covered-params g.B.Bodies.is_faithful))))
+    (s.on_answer c.in-None.is (c.in_ok-head.ensures.begins g.B.Bodies.is_faithful))))
     c.loop-head.invariant.2 c.loop-head.invariant.3
 
 pub parse_subscripts-returns-in_err-obj-in-Name : goal.parse_subscripts-returns-in_err-obj-in-Name
 parse_subscripts-returns-in_err-obj-in-Name g t c =
     m.passed_more c.from_residual-in_err-obj-in-Name.ensures.1
     (chain.not_linked g.B.BodyForms.forms c.args.p.now c.loop-head.p _ c.loop-head.invariant c.in-Some.is
-    (c.in_ok-head.ensures.covered-params g.B.Bodies.is_faithful)
+    (c.in_ok-head.ensures.begins g.B.Bodies.is_faithful)
     (m.after (Err _) (s.on_here {f = link_tail _ c.in-Some.head (tree_of c.loop-head.p.nodes c.loop-head.obj)}
     g.met.I.Tokens.laws _
     (λ x ts. link.tail_name _ c.in-Some.head c.in-Name.optional _ x ts c.in-Name.is))
@@ -1420,7 +1420,7 @@ parse_subscripts-returns-in_err-obj-in-Name g t c =
 pub parse_subscripts-loop-head-preserved-in-Name : goal.parse_subscripts-loop-head-preserved-in-Name
 parse_subscripts-loop-head-preserved-in-Name g t c =
     chain.linked g.B.BodyForms.forms c.args.p.now c.loop-head.p _ c.loop-head.invariant c.in-Some.is
-    (c.in_ok-head.ensures.covered-params g.B.Bodies.is_faithful) c.in_ok-head.ensures.falls
+    (c.in_ok-head.ensures.begins g.B.Bodies.is_faithful) c.in_ok-head.ensures.falls
     (m.after (Ok _) (s.on_here {f = link_tail _ c.in-Some.head (tree_of c.loop-head.p.nodes c.loop-head.obj)}
     g.met.I.Tokens.laws _
     (λ x ts. link.tail_name _ c.in-Some.head c.in-Name.optional _ x ts c.in-Name.is))
@@ -1434,7 +1434,7 @@ parse_subscripts-returns-in_err-expr-in-Computed g t c =
     let l = tree_of c.loop-head.p.nodes c.loop-head.obj in
     m.passed_more c.from_residual-in_err-expr-in-Computed.ensures.1
     (chain.not_linked g.B.BodyForms.forms c.args.p.now c.loop-head.p _ c.loop-head.invariant c.in-Some.is
-    (c.in_ok-head.ensures.covered-params g.B.Bodies.is_faithful)
+    (c.in_ok-head.ensures.begins g.B.Bodies.is_faithful)
     (m.no (s.unheard_call (λ x p. computed_close c.in-Computed.optional c.in-Computed.start l p.0 x p.1)
     (λ x ts. link.tail_computed _ c.in-Some.head c.in-Computed.start c.in-Computed.optional l x ts c.in-Computed.is)
     inner.reads) inner.grows))
@@ -1456,7 +1456,7 @@ parse_subscripts-returns-in_err-obj-in-Computed g t c =
     c.in_ok-expr-in-Computed.ensures.context in
     m.passed_more c.from_residual-in_err-obj-in-Computed.ensures.1
     (chain.not_linked g.B.BodyForms.forms c.args.p.now c.loop-head.p _ c.loop-head.invariant c.in-Some.is
-    (c.in_ok-head.ensures.covered-params g.B.Bodies.is_faithful)
+    (c.in_ok-head.ensures.begins g.B.Bodies.is_faithful)
     (m.tail (Err _) (λ v x p. computed_close c.in-Computed.optional c.in-Computed.start v p.0 x p.1)
     (λ x ts. link.tail_computed _ c.in-Some.head c.in-Computed.start c.in-Computed.optional _ x ts c.in-Computed.is)
     inner.reads inner.grows c.loop-head.invariant.3 (m.weaker (Err _) c.in_err-obj-in-Computed.ensures)))
@@ -1468,7 +1468,7 @@ parse_subscripts-loop-head-preserved-in-Computed g t c =
     c.parse_expr-read.ensures c.in_ok-expr-in-Computed.ensures.answer c.in_ok-expr-in-Computed.ensures.moves
     c.in_ok-expr-in-Computed.ensures.context in
     chain.linked g.B.BodyForms.forms c.args.p.now c.loop-head.p _ c.loop-head.invariant c.in-Some.is
-    (c.in_ok-head.ensures.covered-params g.B.Bodies.is_faithful) c.in_ok-head.ensures.falls
+    (c.in_ok-head.ensures.begins g.B.Bodies.is_faithful) c.in_ok-head.ensures.falls
     (m.tail (Ok _) (λ v x p. computed_close c.in-Computed.optional c.in-Computed.start v p.0 x p.1)
     (λ x ts. link.tail_computed _ c.in-Some.head c.in-Computed.start c.in-Computed.optional _ x ts c.in-Computed.is)
     inner.reads inner.grows c.loop-head.invariant.3 (m.weaker (Ok _) c.in_ok-obj-in-Computed.ensures))
@@ -1478,7 +1478,7 @@ parse_subscripts-returns-in_err-list-in-Call g t c =
     let l = tree_of c.loop-head.p.nodes c.loop-head.obj in
     m.passed_more c.from_residual-in_err-list-in-Call.ensures.1
     (chain.not_linked g.B.BodyForms.forms c.args.p.now c.loop-head.p _ c.loop-head.invariant c.in-Some.is
-    (c.in_ok-head.ensures.covered-params g.B.Bodies.is_faithful)
+    (c.in_ok-head.ensures.begins g.B.Bodies.is_faithful)
     (m.no (s.unheard_call (λ x p. call_node c.in-Call.optional l p.0 x p.1)
     (λ x ts. link.tail_call _ c.in-Some.head c.in-Call.optional l x ts c.in-Call.is)
     c.in_err-list-in-Call.ensures.reads) c.parse_args.ensures.grows))
@@ -1492,7 +1492,7 @@ pub parse_subscripts-returns-in_err-obj-in-Call : goal.parse_subscripts-returns-
 parse_subscripts-returns-in_err-obj-in-Call g t c =
     m.passed_more c.from_residual-in_err-obj-in-Call.ensures.1
     (chain.not_linked g.B.BodyForms.forms c.args.p.now c.loop-head.p _ c.loop-head.invariant c.in-Some.is
-    (c.in_ok-head.ensures.covered-params g.B.Bodies.is_faithful)
+    (c.in_ok-head.ensures.begins g.B.Bodies.is_faithful)
     (m.tail (Err _) (λ v x p. call_node c.in-Call.optional v p.0 x p.1)
     (λ x ts. link.tail_call _ c.in-Some.head c.in-Call.optional _ x ts c.in-Call.is)
     c.in_ok-list-in-Call.ensures.reads c.parse_args.ensures.grows c.loop-head.invariant.3 c.in_err-obj-in-Call.ensures))
@@ -1500,7 +1500,7 @@ parse_subscripts-returns-in_err-obj-in-Call g t c =
 pub parse_subscripts-loop-head-preserved-in-Call : goal.parse_subscripts-loop-head-preserved-in-Call
 parse_subscripts-loop-head-preserved-in-Call g t c =
     chain.linked g.B.BodyForms.forms c.args.p.now c.loop-head.p _ c.loop-head.invariant c.in-Some.is
-    (c.in_ok-head.ensures.covered-params g.B.Bodies.is_faithful) c.in_ok-head.ensures.falls
+    (c.in_ok-head.ensures.begins g.B.Bodies.is_faithful) c.in_ok-head.ensures.falls
     (m.tail (Ok _) (λ v x p. call_node c.in-Call.optional v p.0 x p.1)
     (λ x ts. link.tail_call _ c.in-Some.head c.in-Call.optional _ x ts c.in-Call.is)
     c.in_ok-list-in-Call.ensures.reads c.parse_args.ensures.grows c.loop-head.invariant.3 c.in_ok-obj-in-Call.ensures)
@@ -1510,7 +1510,7 @@ parse_subscripts-returns-in_err-parts-in-Template g t c =
     let l = tree_of c.loop-head.p.nodes c.loop-head.obj in
     m.passed_more c.from_residual-in_err-parts-in-Template.ensures.1
     (chain.not_linked g.B.BodyForms.forms c.args.p.now c.loop-head.p _ c.loop-head.invariant c.in-Some.is
-    (c.in_ok-head.ensures.covered-params g.B.Bodies.is_faithful)
+    (c.in_ok-head.ensures.begins g.B.Bodies.is_faithful)
     (m.no (s.unheard_call (λ x p. tagged_node c.in-Template.start l p.0 x p.1)
     (λ x ts. link.tail_template _ c.in-Some.head c.in-Template.start l x ts c.in-Template.is)
     (s.unheard_inner c.in_err-parts-in-Template.ensures.reads)) c.parse_tpl_elements.ensures.grows))
@@ -1524,7 +1524,7 @@ pub parse_subscripts-returns-in_err-obj-in-Template : goal.parse_subscripts-retu
 parse_subscripts-returns-in_err-obj-in-Template g t c =
     m.passed_more c.from_residual-in_err-obj-in-Template.ensures.1
     (chain.not_linked g.B.BodyForms.forms c.args.p.now c.loop-head.p _ c.loop-head.invariant c.in-Some.is
-    (c.in_ok-head.ensures.covered-params g.B.Bodies.is_faithful)
+    (c.in_ok-head.ensures.begins g.B.Bodies.is_faithful)
     (m.tail (Err _) (λ v x p. tagged_node c.in-Template.start v p.0 x p.1)
     (λ x ts. link.tail_template _ c.in-Some.head c.in-Template.start _ x ts c.in-Template.is)
     (s.heard_inner c.in_ok-parts-in-Template.ensures.reads) c.parse_tpl_elements.ensures.grows c.loop-head.invariant.3
@@ -1533,7 +1533,7 @@ parse_subscripts-returns-in_err-obj-in-Template g t c =
 pub parse_subscripts-loop-head-preserved : goal.parse_subscripts-loop-head-preserved
 parse_subscripts-loop-head-preserved g t c =
     chain.linked g.B.BodyForms.forms c.args.p.now c.loop-head.p _ c.loop-head.invariant c.in-Some.is
-    (c.in_ok-head.ensures.covered-params g.B.Bodies.is_faithful) c.in_ok-head.ensures.falls
+    (c.in_ok-head.ensures.begins g.B.Bodies.is_faithful) c.in_ok-head.ensures.falls
     (m.tail (Ok _) (λ v x p. tagged_node c.in-Template.start v p.0 x p.1)
     (λ x ts. link.tail_template _ c.in-Some.head c.in-Template.start _ x ts c.in-Template.is)
     (s.heard_inner c.in_ok-parts-in-Template.ensures.reads) c.parse_tpl_elements.ensures.grows c.loop-head.invariant.3
