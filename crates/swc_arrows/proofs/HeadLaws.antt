@@ -20,7 +20,7 @@ use Rattle.swc_steps.proofs.{Rules.operand_splits, Rules.async_name_picked, Keys
 use Rattle.swc_steps.specs.{Args.args_inside, Keys.expected, Lists.eaten, Parsing.begins_async, Readers.named_expr, Readers.operand}
 use Rattle.swc_arrows.specs.Starts.{start_kind}
 use Rattle.swc_arrows.specs.Readers.{others, base_behind, arrow_behind, name_ok, name_behind, name_arrow, is_of_alone, async_param, async_of, async_behind, async_arrow, list_rest, list_head, arrow_on_line}
-use Rattle.swc_arrows.specs.declared.covered-params.StartKind.TheVariants as head
+use Rattle.swc_arrows.specs.declared.starts.StartKind.TheVariants as head
 use Rattle.swc_arrows.proofs.StartKinds.{Picks, head_picks}
 
 no_name : (a b d : Bool) → (a && b) ≡ false → (a && (b && d)) ≡ false

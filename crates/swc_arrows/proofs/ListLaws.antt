@@ -44,8 +44,8 @@ module _ {F C K : Type 0} (hook : Hook F C K) (x : Scope) where
   ends s a ps = take (λ t. check (not t.had_line_break) (check (is_arrow t.token) (read (ArrowBody a) x (λ b.
       peek (λ t. is_block b && is_sign t.token) (gives (arrow_e (to s (span_of b)) a b ps))))))
 
-  abbrev covered-params : Span → Bool → Option (Trees F C K) → Side F C K Assign
-  covered-params s a o = given o ▸ (λ ps. check (arrow_params_ok x.context ps) (ends s a ps))
+  abbrev arrow_side : Span → Bool → Option (Trees F C K) → Side F C K Assign
+  arrow_side s a o = given o ▸ (λ ps. check (arrow_params_ok x.context ps) (ends s a ps))
 
   -- the body, and what is after it
   body_ends : (s : Span) (a : Bool) (ps : Trees F C K) (us : List TokenAndSpan)
@@ -75,7 +75,7 @@ module _ {F C K : Type 0} (hook : Hook F C K) (x : Scope) where
   none_turned false o = refl
 
   params_told : (s : Span) (a : Bool) (ps : Trees F C K) (t : TokenAndSpan) (us : List TokenAndSpan)
-      → exec hook (run hook) None (plan (covered-params s a (Some ps))) (t ∷ us)
+      → exec hook (run hook) None (plan (arrow_side s a (Some ps))) (t ∷ us)
       ≡ told (arrow_params_ok x.context ps) t.had_line_break (is_arrow t.token) (arrow_behind hook s.lo a true ps x us)
   params_told s a ps t us = ap (told (arrow_params_ok x.context ps) t.had_line_break (is_arrow t.token))
       (body_ends s a ps us)
@@ -99,14 +99,14 @@ module _ {F C K : Type 0} (hook : Hook F C K) (x : Scope) where
   commute : (o : Option (Tree F C K)) (s : Span) (es : Tree F C K) (t : TokenAndSpan) (us : List TokenAndSpan)
       → is_arrow t.token ≡ true → (fit names : Bool) → elems_fit Binding (comma_of es) (items_of es) ≡ fit
       → Refines es → names_ok x.context (want_items (items_of es)) ≡ names
-      → exec hook (run hook) None (plan (covered-params s (is_some o) (as_params es))) (t ∷ us)
+      → exec hook (run hook) None (plan (arrow_side s (is_some o) (as_params es))) (t ∷ us)
       ≡ params_closed hook o s es x (t ∷ us)
   commute o s es t us a false names f r n =
       let none : as_params es ≡ None = r.params ∙ ap (λ b. if b then Some (want_items (items_of es)) else None) f in
       let not_taken : takes_params x.context es ≡ false =
       ap (λ b. b && names_ok x.context (want_items (items_of es))) (clear-items (comma_of es) (items_of es) r.valid
       ∙ f) in
-      ap (λ v. exec hook (run hook) None (plan (covered-params s (is_some o) v)) (t ∷ us)) none
+      ap (λ v. exec hook (run hook) None (plan (arrow_side s (is_some o) v)) (t ∷ us)) none
       ∙ none_turned t.had_line_break (arrow_behind hook s.lo (is_some o) true (want_items (items_of es)) x us)
       ∙ sym (closed_turned o s es t us a false t.had_line_break not_taken refl)
   commute o s es t us a true names f r n =
@@ -118,7 +118,7 @@ module _ {F C K : Type 0} (hook : Hook F C K) (x : Scope) where
       let taken : takes_params x.context es ≡ names =
       ap (λ b. b && names_ok x.context ps) (clear-items (comma_of es) (items_of es) r.valid ∙ f) ∙ n in
       let goes : Out (Tree F C K) = arrow_behind hook s.lo (is_some o) true ps x us in
-      ap (λ v. exec hook (run hook) None (plan (covered-params s (is_some o) v)) (t ∷ us)) is
+      ap (λ v. exec hook (run hook) None (plan (arrow_side s (is_some o) v)) (t ∷ us)) is
       ∙ params_told s (is_some o) ps t us
       ∙ ap (λ v. told v t.had_line_break (is_arrow t.token) goes) names_same
       ∙ ap (λ v. told names t.had_line_break v goes) a
@@ -172,24 +172,24 @@ module _ {F C K : Type 0} (hook : Hook F C K) (x : Scope) where
   -- ---- either
 
   paren_params : (s : Span) (es : Tree F C K) (t : TokenAndSpan) (us : List TokenAndSpan) → is_arrow t.token ≡ true
-      → run hook (parens s es) x (t ∷ us) ≡ exec hook (run hook) None (plan (covered-params s false (as_params es)))
+      → run hook (parens s es) x (t ∷ us) ≡ exec hook (run hook) None (plan (arrow_side s false (as_params es)))
       (t ∷ us)
   paren_params s es t us h = knot hook (parens s es) x (t ∷ us) ∙ rw h (by_params (as_params es))
     where
       by_params : (o : Option (Trees F C K)) → exec hook (run hook) (Some 2) (plan (given o ▸ (λ ps.
           check (arrow_params_ok x.context ps) (arrow_tail x (listed None (to s (span_of es)) ps))))) (t ∷ us)
-          ≡ exec hook (run hook) None (plan (covered-params s false o)) (t ∷ us)
+          ≡ exec hook (run hook) None (plan (arrow_side s false o)) (t ∷ us)
       by_params None = refl
       by_params (Some ps) = refl
 
   async_params : (n : Spelling) (es : Tree F C K) (t : TokenAndSpan) (us : List TokenAndSpan) → is_arrow t.token ≡ true
-      → run hook (asyncs n es) x (t ∷ us) ≡ exec hook (run hook) None (plan (covered-params n.at true (as_params es)))
+      → run hook (asyncs n es) x (t ∷ us) ≡ exec hook (run hook) None (plan (arrow_side n.at true (as_params es)))
       (t ∷ us)
   async_params n es t us h = knot hook (asyncs n es) x (t ∷ us) ∙ rw h (by_params (as_params es))
     where
       by_params : (o : Option (Trees F C K)) → exec hook (run hook) (Some 2) (plan (given o ▸ (λ ps.
           check (arrow_params_ok x.context ps) (async_arrow_tail x n (listed None n.at ps))))) (t ∷ us)
-          ≡ exec hook (run hook) None (plan (covered-params n.at true o)) (t ∷ us)
+          ≡ exec hook (run hook) None (plan (arrow_side n.at true o)) (t ∷ us)
       by_params None = refl
       by_params (Some ps) = refl
 

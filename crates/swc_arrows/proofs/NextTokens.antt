@@ -8,7 +8,7 @@ use Rattle.swc_grammar.specs.{Clean.first, Clean.second, Words.rest}
 use Rattle.swc_steps.specs.Parsing.{seen, seen_of, Told}
 use Rattle.swc_steps.proofs.Ahead.{told_here, told_behind}
 use Rattle.swc_arrows.specs.Starts.{first_kind, next_token, next_kind, head_by, start_kind}
-use Rattle.swc_arrows.specs.{declared.covered-params.FirstKind.FirstKind, declared.covered-params.NextKind.NextKind, declared.covered-params.NextKind.NextKind as next_is, declared.covered-params.StartKind.StartKind}
+use Rattle.swc_arrows.specs.{declared.starts.FirstKind.FirstKind, declared.starts.NextKind.NextKind, declared.starts.NextKind.NextKind as next_is, declared.starts.StartKind.StartKind}
 
 pub second_rest : (ts : List TokenAndSpan) → second ts ≡ first (rest ts)
 second_rest [] = refl

@@ -10,7 +10,7 @@ use Rattle.swc_grammar.specs.Scope.{Scope}
 use Rattle.swc_grammar.specs.Tokens.{is_lparen, is_put_off, is_reference}
 use Rattle.swc_steps.proofs.Words.{is_same}
 use Rattle.swc_arrows.specs.Starts.{word_kind, token_kind, first_kind, next_token, next_kind, head_by, start_kind}
-use Rattle.swc_arrows.specs.{declared.covered-params.FirstKind.FirstKind, declared.covered-params.FirstKind.FirstKind as first_is, declared.covered-params.NextKind.NextKind, declared.covered-params.NextKind.NextKind as next_is, declared.covered-params.StartKind.StartKind, declared.covered-params.StartKind.StartKind as head}
+use Rattle.swc_arrows.specs.{declared.starts.FirstKind.FirstKind, declared.starts.FirstKind.FirstKind as first_is, declared.starts.NextKind.NextKind, declared.starts.NextKind.NextKind as next_is, declared.starts.StartKind.StartKind, declared.starts.StartKind.StartKind as head}
 
 -- ---- the first token
 

@@ -5,7 +5,7 @@ use Rattle.swc_input.specs.{declared.token.Token.Token, declared.token.Token.Tok
 use Rattle.swc_bodies.specs.Readings.{is_async as is_async_token}
 use Rattle.swc_grammar.specs.Tokens.{is_put_off, is_reference, may_be_reference}
 use Rattle.swc_grammar.specs.{Arrows.is_arrow_word, Clean.first, Clean.second}
-use Rattle.swc_arrows.specs.{declared.covered-params.FirstKind.FirstKind, declared.covered-params.FirstKind.FirstKind as first_is, declared.covered-params.NextKind.NextKind, declared.covered-params.NextKind.NextKind as next_is, declared.covered-params.StartKind.StartKind, declared.covered-params.StartKind.StartKind as head}
+use Rattle.swc_arrows.specs.{declared.starts.FirstKind.FirstKind, declared.starts.FirstKind.FirstKind as first_is, declared.starts.NextKind.NextKind, declared.starts.NextKind.NextKind as next_is, declared.starts.StartKind.StartKind, declared.starts.StartKind.StartKind as head}
 
 -- the first token
 abbrev pub word_kind : Context → Word → FirstKind

@@ -24,8 +24,8 @@ use Rattle.swc_steps.proofs.Building.{apart-lower}
 use Rattle.swc_steps.specs.Parsing.{scope, seen, seen_of, Heard, Here, On, Told}
 use Rattle.swc_steps.proofs.Steps.{Reader, on_told, read_scope}
 use Rattle.swc_arrows.specs.Starts.{first_kind, head_by, start_kind, next_kind, next_token, token_kind}
-use Rattle.swc_arrows.specs.declared.covered-params.StartKind.{StartKind}
-use Rattle.swc_arrows.specs.declared.covered-params.NextKind.TheVariants as next_is
+use Rattle.swc_arrows.specs.declared.starts.StartKind.{StartKind}
+use Rattle.swc_arrows.specs.declared.starts.NextKind.TheVariants as next_is
 use Rattle.swc_ast.specs.declared.expr.ExprOrSpread.{ExprOrSpread}
 use Rattle.swc_nodes.specs.GrowingNodes.{first_start, last_end, Grows}
 use Rattle.swc_nodes.specs.NodeParts.{args_parts}

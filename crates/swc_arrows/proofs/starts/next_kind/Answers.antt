@@ -1,7 +1,7 @@
 use Rattle.std.proofs.Common.{sym, ap, subst, if◌then◌else◌}
 use Rattle.swc_grammar.specs.Clean.{second}
 use Rattle.swc_steps.specs.Parsing.{Told}
-use Rattle.swc_arrows.specs.{Starts.next_kind, declared.covered-params.NextKind.NextKind as next_is}
+use Rattle.swc_arrows.specs.{Starts.next_kind, declared.starts.NextKind.NextKind as next_is}
 use Rattle.swc_arrows.proofs.NextTokens.{told_as, told_next}
 use Rattle.swc_arrows.proofs.starts.next_kind.Goals as goal
 

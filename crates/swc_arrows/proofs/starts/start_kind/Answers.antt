@@ -1,6 +1,6 @@
 use Rattle.std.proofs.Common.{false, refl, sym, ◌∙◌}
 use Rattle.swc_input.specs.Buffer.{context}
-use Rattle.swc_arrows.specs.{declared.covered-params.FirstKind.FirstKind as first_is, declared.covered-params.StartKind.StartKind as head}
+use Rattle.swc_arrows.specs.{declared.starts.FirstKind.FirstKind as first_is, declared.starts.StartKind.StartKind as head}
 use Rattle.swc_arrows.proofs.NextTokens.{told_first, told_head}
 use Rattle.swc_arrows.proofs.starts.start_kind.Goals as goal
 
