@@ -10,7 +10,7 @@ import sys
 # What isn't written, and what is written in its place.
 WORDS = {
     r'behind': 'after',
-    r'stands?(?! (in )?for\b)': 'is, comes',
+    r'stands?(?! (in )?for\b|$)': 'is, comes',
     r'stood(?! (in )?for\b)': 'was',
     r'wants? of( memory)?': 'out of memory',
     r'round (it|them|that|the|this)': 'around',
