@@ -52,7 +52,8 @@ impl<I: Tokens, B: Bodies<I>> Parser<I, B> {
     /// The parameters of an arrow function, as `parse_arrow_params` reads them: the numbers of their patterns among the
     /// nodes.
     pub fn parse_arrow_params_id(&mut self) -> PResult<Vec<PatId>>
-        ensures promised { Promised I.model B.is_faithful B.forms arrow_params_by_number ArrowParams self.old result self.new }
+        ensures promised { Promised I.model B.is_faithful B.forms arrow_params_by_number ArrowParams
+            self.old result self.new }
         ensures binds { has_failed self.old ≡ false
             → BoundItems I.model (pats_tree (pat_at (nodes_of self.new)))
             (buffer_of self.old) result (buffer_of self.new) }
@@ -79,7 +80,8 @@ impl<I: Tokens, B: Bodies<I>> Parser<I, B> {
     /// `reparse_expr_as_pat` records of a `BindingElement`; a method, a getter or a setter in one is refused as
     /// `InvalidPat`, at the property.
     pub fn parse_arrow_params(&mut self) -> PResult<Vec<PatOf<B>>>
-        ensures promised { Promised I.model B.is_faithful B.forms arrow_params_in_boxes ArrowParams self.old result self.new }
+        ensures promised { Promised I.model B.is_faithful B.forms arrow_params_in_boxes ArrowParams
+            self.old result self.new }
         ensures binds { has_failed self.old ≡ false
             → BoundItems I.model (pats_tree (pat_tree _ _ _ B.Fun.place B.Class.place B.Block.place))
             (buffer_of self.old) result (buffer_of self.new) }

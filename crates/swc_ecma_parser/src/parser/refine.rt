@@ -67,10 +67,10 @@ impl<I: Tokens, B: Bodies<I>> Parser<I, B> {
         }
     }
 
-    /// As `reparse_expr_as_pat`, of an expression by its number, as `parse_expr_id` returns it. Its nodes become those of
-    /// the pattern, in place: the number that is returned takes the place of the expression's. Nodes below all nodes of
-    /// the expression stay, with their numbers (ECMA-262, 13.15.5). Commas are those of the nodes; what is remembered of
-    /// them (`trailing_comma`) stays.
+    /// As `reparse_expr_as_pat`, of an expression by its number, as `parse_expr_id` returns it. Its nodes become those
+    /// of the pattern, in place: the number that is returned takes the place of the expression's. Nodes below all nodes
+    /// of the expression stay, with their numbers (ECMA-262, 13.15.5). Commas are those of the nodes; what is
+    /// remembered of them (`trailing_comma`) stays.
     ///
     /// The expression and its parts have to be among the nodes: no node of theirs was moved out or dropped since. After
     /// a call that is refused, the number has no expression any more.
