@@ -1,4 +1,4 @@
-use Rattle.std.proofs.Common.{◌≡◌, map, sym, ◌∙◌}
+use Rattle.std.proofs.Common.{◌≡◌, map, refl, sym, ◌∙◌}
 use Rattle.swc_input.specs.{Buffer.last_position, Recording.no_memory}
 use Rattle.swc_ast.specs.{Tree.trees, TreeOf.pat_tree, Trees.are_valid, Trees.all_unmarked}
 use Rattle.swc_cover.specs.{Items.want_items, Refining.pats_at}

@@ -1,4 +1,4 @@
-use Rattle.std.proofs.Common.{sym, ◌∙◌}
+use Rattle.std.proofs.Common.{refl, sym, ◌∙◌}
 use Rattle.swc_ast.specs.{TreeOf.pat_tree, Trees.is_valid, Trees.unmarked}
 use Rattle.swc_cover.specs.PatTypes.{want_as}
 use Rattle.swc_nodes.specs.{GrowingNodes.count, NodeParts.one_pat}

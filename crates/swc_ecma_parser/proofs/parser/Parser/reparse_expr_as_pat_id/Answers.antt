@@ -1,20 +1,21 @@
-use Rattle.std.proofs.Common.{refl, sym, subst}
+use Rattle.std.proofs.Common.{◌≡◌, refl, sym, subst}
 use Rattle.std.proofs.lemmas.Result.{err_from_is_err_and}
 use Rattle.swc_input.specs.{Buffer.context, Buffer.last_position, Recording.no_memory}
 use Rattle.swc_ast.specs.Trees.{is_valid}
 use Rattle.swc_cover.specs.{Moving.KeptTo, Noting.JudgesBy, PatTypes.pattern_as, PatTypes.verdict_as, PatTypes.want_as}
+use Rattle.swc_cover.specs.Refining.{Refined}
 use Rattle.swc_cover.proofs.Kept.{none-kept}
-use Rattle.swc_nodes.specs.{GrowingNodes.first_at, GrowingNodes.tree_at, NodeParts.one_pat}
+use Rattle.swc_nodes.specs.{GrowingNodes.first_at, GrowingNodes.tree_at, GrowingNodes.From, NodeParts.one_pat, NodeParts.pat_part}
 use Rattle.swc_patterns.specs.Answers.{pat_at}
 use Rattle.swc_ecma_parser.specs.Calls.{buffer_of, nodes_of, commas_of}
 use Rattle.swc_ecma_parser.specs.Refinement.{PromisedRefinement}
 use Rattle.swc_ecma_parser.proofs.{Recast.recasts-number, Refined.if-ok, Refined.meets-refinement, Refined.promised-refinement, Refined.refinement-again, Refined.unmoved, Refined.whichever}
 use Rattle.swc_ecma_parser.proofs.parser.Parser.reparse_expr_as_pat_id.Goals as goal
 
-pub returns_in_err-begin-clause-promised : goal.returns_in_err-begin-clause-promised
-returns_in_err-begin-clause-promised g c =
+pub returns-in_err-begin-clause-promised : goal.returns-in_err-begin-clause-promised
+returns-in_err-begin-clause-promised g c =
     let p = err_from_is_err_and c.from_residual.result c.from_residual.ensures.1 in
-    rw (p.1, p.2) (refinement-again (none-kept c.args.requires) c.in_err-begin.ensures.again)
+    rw (p.1, p.2) (refinement-again (none-kept c.requires) c.in_err-begin.ensures.again)
 
 pub returns-clause-promised : goal.returns-clause-promised
 returns-clause-promised g c =
@@ -27,7 +28,7 @@ returns-clause-promised g c =
     let in_strict = (context model (buffer_of p)).strict in
     let read = tree_at (nodes_of p) id.0 in
     let answer = c.reparse_expr_as_pat-answer.result in
-    let recasts = recasts-number model p q c.args.pat_type id c.args.requires answer made.refined made.unrefined in
+    let recasts = recasts-number model p q c.args.pat_type id c.requires answer made.refined made.unrefined in
     subst (λ ns. PromisedRefinement model (is_valid read) (pattern_as in_strict c.args.pat_type read)
     (want_as c.args.pat_type read) (λ t. t) (pat_at ns)
     (JudgesBy model (verdict_as in_strict c.args.pat_type read)) (KeptTo (first_at (nodes_of p) id.0))
@@ -44,5 +45,9 @@ returns-clause-promised g c =
 pub returns-clause-placed : goal.returns-clause-placed
 returns-clause-placed g c =
     let done = c.finish.ensures in
+    let p = c.args.self.now in
+    let q = c.reparse_expr_as_pat-answer.new.p in
     let answer = c.reparse_expr_as_pat-answer.result in
-    rw (done.answer, done.nodes) (if-ok _ _ answer c.reparse_expr_as_pat-answer.ensures.refined (λ x w. w.made.from))
+    rw (done.answer, done.nodes) (if-ok (λ x. Refined g.I.Tokens.model c.args.pat_type c.args.id p.productions x q)
+    (λ x. From (first_at (nodes_of p) c.args.id.0) q.nodes (pat_part x)) answer
+    c.reparse_expr_as_pat-answer.ensures.refined (λ x w. w.made.from))
