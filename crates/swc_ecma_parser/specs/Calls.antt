@@ -1,9 +1,9 @@
 -- What the calls of a parser do.
-use Rattle.std.specs.Prelude.{◌≡◌, ℕ, List, map, Bool, true, false, None, Some, IsSome, Option, Result, Ok, Err, IfOk, IfErr, OnOk, MatchResult}
+use Rattle.std.specs.Prelude.{◌≡◌, ℕ, List, map, Bool, true, false, None, IsSome, Option, Result, Ok, Err, IfOk, IfErr, OnOk, MatchResult}
 use Rattle.std.specs.{declared.alloc.Global.Global, declared.boxed.Box.Box, declared.vec.Vec.Vec}
 use Rattle.swc_context.specs.{declared.error.Error.Error, declared.error.SyntaxError.TheVariants.ParserFailed, declared.span.BytePos.BytePos, declared.span.Span.Span}
 use Rattle.swc_input.specs.Buffer.{ReadSome, Looked, current, last_position, previous, state_of}
-use Rattle.swc_input.specs.{declared.buffer.Buffer.Buffer, declared.token.TokenAndSpan.TokenAndSpan, Source.Model, Recording.no_memory, Recordings.Judges}
+use Rattle.swc_input.specs.{declared.buffer.Buffer.Buffer, Source.Model, Recording.no_memory, Recordings.Judges}
 use Rattle.swc_ast.specs.Tree.{Tree, object, node, trees, args, no_span}
 use Rattle.swc_ast.specs.TreeOf.{boxed_tree, pat_tree, pat_prop_tree, prop_or_spread_tree}
 use Rattle.swc_ast.specs.{Parts.param_tree, declared.expr.Expr.Expr, declared.function.Param.Param, declared.pat.ObjectPatProp.ObjectPatProp, declared.pat.Pat.Pat, declared.prop.PropOrSpread.PropOrSpread, declared.spanned.Spanned.Ghosts}

@@ -9,7 +9,7 @@ use Rattle.swc_ast.specs.Trees.{is_valid, are_valid, unmarked, all_unmarked}
 use Rattle.swc_ast.specs.{Parts.item_trees, TreeOf.pat_tree, declared.expr.Expr.Expr, declared.expr.ExprOrSpread.ExprOrSpread, declared.pat.Pat.Pat, declared.spanned.Spanned.Ghosts}
 use Rattle.swc_grammar.specs.Cover.{binding, as_elements, arrow_params_ok}
 use Rattle.swc_nodes.specs.Marking.{Marker, marked_by, all_marked_by}
-use Rattle.swc_nodes.specs.GrowingNodes.{count, first_at, tree_at, Apart, SameNodes}
+use Rattle.swc_nodes.specs.GrowingNodes.{first_at, tree_at, Apart, SameNodes}
 use Rattle.swc_nodes.specs.{Commas.comma_at, NodeParts.Part, declared.node.ExprId.ExprId, declared.node.PatId.PatId, declared.nodes.Nodes.Nodes}
 use Rattle.swc_cover.specs.Noting.{names_bound, JudgesBy, JudgesParams}
 use Rattle.swc_cover.specs.PatTypes.{pattern_as, verdict_as, want_as}
