@@ -1,19 +1,19 @@
 // Calls of the parser, by their names.
-use crate::hooks::{TestBodies, consume};
-use crate::kept::call_source;
-use crate::numbered::show_in;
 use crate::objects::{make_literal, make_object, make_pattern};
-use crate::parsing::{TestExpr, TestParser, TestPat};
+use crate::parsing::TestParser;
 use crate::reaching::{show_reached, show_reached_params, show_reached_pat};
 use crate::refining::{
     params_of_items, reparse, reparse_id, reparse_invalid, reparse_other, verify, verify_expr,
     verify_other,
 };
-use crate::row::show_unread;
-use crate::shown::{Shown, show, show_faults, show_label, show_refusal};
-use crate::source::TestInput;
-use crate::tokens::span_of;
-use crate::trees::{show_id, show_pat_id};
+use lower_rows::hooks::{TestBodies, consume};
+use lower_rows::kept::call_source;
+use lower_rows::numbered::show_in;
+use lower_rows::row::show_unread;
+use lower_rows::shown::{Shown, show, show_faults, show_label, show_refusal};
+use lower_rows::source::TestInput;
+use lower_rows::tokens::span_of;
+use lower_rows::trees::{TestExpr, TestPat, show_id, show_pat_id};
 use std::alloc::AllocError;
 use swc_ast::target::ExprExt;
 use swc_context::span::{BytePos, Span};

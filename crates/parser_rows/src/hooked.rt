@@ -1,10 +1,10 @@
 // Calls of a parser over a hook that does otherwise at one of its calls.
-use crate::hooks::TestBodies;
 use crate::parsing::{TestParser, parser_over};
-use crate::row::{Row, show_unread};
-use crate::settings::input_of;
-use crate::shown::{begin_part, show, show_faults, show_refusal};
-use crate::tokens::tokens_of;
+use lower_rows::hooks::TestBodies;
+use lower_rows::row::{Row, show_unread};
+use lower_rows::settings::input_of;
+use lower_rows::shown::{begin_part, show, show_faults, show_refusal};
+use lower_rows::tokens::tokens_of;
 use std::alloc::{AllocError, Global};
 use swc_context::span::Span;
 use swc_input::tokens::Tokens;

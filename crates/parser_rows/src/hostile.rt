@@ -1,11 +1,11 @@
 // Calls over lists of tokens that no reader gives, and with hooks that do otherwise than they might.
 use crate::calls::call;
-use crate::hooks::{Manner, TestBodies};
 use crate::parsing::{TestParser, parser_over};
-use crate::row::{Row, UNREAD, show_unread};
-use crate::settings::{setting_of, test_input};
-use crate::source::TestInput;
-use crate::tokens::tokens_of;
+use lower_rows::hooks::{Manner, TestBodies};
+use lower_rows::row::{Row, UNREAD, show_unread};
+use lower_rows::settings::{setting_of, test_input};
+use lower_rows::source::TestInput;
+use lower_rows::tokens::tokens_of;
 use std::alloc::{AllocError, Global};
 use swc_context::error::{Error, SyntaxError};
 use swc_context::span::Span;

@@ -1,7 +1,8 @@
 // Long texts, each a few pieces many times over.
-use crate::parsing::{TestNodes, TestParser, parser_of};
-use crate::row::{Row, show_unread, unescaped};
-use crate::shown::show_refused;
+use crate::parsing::{TestParser, parser_of};
+use crate::texts::show_refused;
+use lower_rows::row::{Row, show_unread, unescaped};
+use lower_rows::trees::TestNodes;
 use reporting::{LEVELS, Refusal};
 use std::alloc::{AllocError, Global};
 use swc_context::error::Error;

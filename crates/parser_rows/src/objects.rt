@@ -1,8 +1,8 @@
 // Calls that read properties, and make objects of them.
-use crate::parsing::{TestExpr, TestParser, TestPat};
-use crate::shown::{NO_MEMORY, show, show_refusal};
-use crate::tokens::span_of;
-use crate::trees::push_prop;
+use crate::parsing::TestParser;
+use lower_rows::shown::{NO_MEMORY, show, show_refusal};
+use lower_rows::tokens::span_of;
+use lower_rows::trees::{TestExpr, TestPat, push_prop};
 use std::alloc::{AllocError, Global};
 use std::mem::forget;
 use swc_ast::prop::PropOrSpread;

@@ -1,27 +1,17 @@
 // Parsers, and rows of their calls.
 use crate::calls::{call, show_left};
-use crate::hooks::TestBodies;
-use crate::numbered::by_number;
-use crate::row::{Row, show_unread};
-use crate::settings::input_of;
-use crate::shown::{begin_part, show_faults};
-use crate::source::TestInput;
+use lower_rows::hooks::TestBodies;
+use lower_rows::numbered::by_number;
+use lower_rows::row::{Row, show_unread};
+use lower_rows::settings::input_of;
+use lower_rows::shown::{begin_part, show_faults};
+use lower_rows::source::TestInput;
 use std::alloc::{AllocError, Global};
-use swc_ast::expr::Expr;
-use swc_ast::pat::Pat;
-use swc_bodies::token_body::TokenBody;
 use swc_ecma_parser::parser::Parser;
 use swc_input::capturing::Capturing;
-use swc_nodes::nodes::Nodes;
 
 /// The parser of all rows: so nothing is generic over sources and hooks.
 pub(crate) type TestParser = Parser<Capturing<TestInput>, TestBodies>;
-
-pub(crate) type TestNodes = Nodes<TokenBody, TokenBody, TokenBody>;
-
-pub(crate) type TestExpr = Expr<TokenBody, TokenBody, TokenBody>;
-
-pub(crate) type TestPat = Pat<TokenBody, TokenBody, TokenBody>;
 
 /// How a row is run: as it is written, or with calls by number, and in a pedantic syntax or not.
 #[derive(Clone, Copy)]

@@ -1,9 +1,10 @@
 // Calls that make patterns of expressions, and those that look for names with values left over in them.
-use crate::hooks::TestBodies;
-use crate::numbered::show_in;
-use crate::parsing::{TestExpr, TestParser};
-use crate::shown::{NO_MEMORY, show, show_faults, show_refusal};
-use crate::tokens::tokens_of;
+use crate::parsing::TestParser;
+use lower_rows::hooks::TestBodies;
+use lower_rows::numbered::show_in;
+use lower_rows::shown::{NO_MEMORY, show, show_faults, show_refusal};
+use lower_rows::tokens::tokens_of;
+use lower_rows::trees::TestExpr;
 use std::alloc::{AllocError, Global};
 use std::mem::forget;
 use swc_ast::expr::{Expr, Invalid};

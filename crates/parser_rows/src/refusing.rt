@@ -1,16 +1,16 @@
 // The calls of one row, for runs in which a request for memory is refused. What they answer is written into memory that
 // was asked for before.
 use crate::calls::call;
-use crate::hooks::TestBodies;
-use crate::lexed::show_lexed;
-use crate::parsing::{TestExpr, TestParser, parser_over};
-use crate::row::{Row, UNREAD, show_unread};
-use crate::settings::input_of;
-use crate::shown::{NO_MEMORY, show, show_refusal};
-use crate::source::TestInput;
+use crate::parsing::{TestParser, parser_over};
 use crate::texts::show_text;
-use crate::tokens::tokens_of;
-use crate::trees::show_id;
+use lower_rows::hooks::TestBodies;
+use lower_rows::lexed::show_lexed;
+use lower_rows::row::{Row, UNREAD, show_unread};
+use lower_rows::settings::input_of;
+use lower_rows::shown::{NO_MEMORY, show, show_refusal};
+use lower_rows::source::TestInput;
+use lower_rows::tokens::tokens_of;
+use lower_rows::trees::{TestExpr, show_id};
 use std::alloc::{AllocError, Global};
 use std::str;
 use swc_context::context::{Context, EsVersion};

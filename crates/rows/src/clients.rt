@@ -1,7 +1,8 @@
 // What the clients make of texts.
 use expr_layout::layout::layout;
-use parser_rows::row::{Row, show_unread};
-use parser_rows::shown::{begin_part, show_refused};
+use lower_rows::row::{Row, show_unread};
+use lower_rows::shown::begin_part;
+use parser_rows::texts::show_refused;
 use program_layout::layout::layout as layout_program;
 use program_names::names::{Use, names};
 use reporting::expr::{parse_part, read_expr, read_part};

@@ -1,8 +1,8 @@
 // Files of rows, written as they are read, with what is answered in place of what they say.
 use crate::clients::{show_client, show_program};
 use crate::long::show_long;
+use lower_rows::row::{Row, UNREAD, unescaped};
 use parser_rows::kinds::show_answers;
-use parser_rows::row::{Row, UNREAD, unescaped};
 use std::alloc::{AllocError, Global};
 use std::io;
 use std::io::{ErrorKind, Write};

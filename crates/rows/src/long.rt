@@ -1,8 +1,8 @@
 // What the clients make of long texts, each a few pieces many times over.
 use expr_layout::layout::layout;
+use lower_rows::row::{Row, unescaped};
 use parser_rows::long;
-use parser_rows::row::{Row, unescaped};
-use parser_rows::shown::show_refused;
+use parser_rows::texts::show_refused;
 use program_names::names::names;
 use reporting::expr::read_expr;
 use reporting::{LEVELS, Refusal};

@@ -1,4 +1,0 @@
-use Rattle.parser_rows.proofs.trees.put_exprs.Given as goal
-
-abbrev pub decreases-loop-expr : goal.decreases-loop-expr
-decreases-loop-expr l = goal.left-loop-expr l

@@ -1,4 +1,0 @@
-use Rattle.parser_rows.proofs.trees.put_pats.Given as goal
-
-abbrev pub decreases-loop-pat : goal.decreases-loop-pat
-decreases-loop-pat l = goal.left-loop-pat l
