@@ -6,7 +6,9 @@
 They are tried by hand: the gate tries those of crates/NAME/must-fail alone. Edits that change different functions are made together in a copy of
 their crate, since each function is proved by itself. These functions are checked then, over the proved libraries below and what earlier checks of the
 crate kept. An edit is refused if the check says so of its function. Otherwise it is made alone, and the whole crate is checked. N checks run at a time,
-by default one a processor.
+by default one a processor. An edit of a macro changes each function of the file that calls the macro.
+
+The productions are proved apart (tests/apart.py), each over the contracts of the others: nothing else of the crate is checked then.
 
 Without --libs, `rt lib` first proves of each crate, and of those below it, what has changed. FOLDER has other libraries of the same sources, as
 NAME.rlib, and as kept/NAME what their checks kept; it is only read.
@@ -26,6 +28,9 @@ from contextlib import contextmanager, suppress
 from pathlib import Path
 from threading import Lock
 
+sys.dont_write_bytecode = True
+import apart
+
 TOP = Path(__file__).parent.parent
 FOLDER = TOP / 'tests/wrong'
 RESULTS = FOLDER / 'RESULTS.md'
@@ -40,6 +45,7 @@ TOGETHER = 8
 # The first line of a function, after its blanks, and the head of an impl.
 FUNCTION = re.compile(r'^ *(?:pub(?:\([\w ]+\))? )?(?:const )?fn (\w+)', re.M)
 IMPL = re.compile(r'^impl\b(?:<[^{]*?>(?= ))? *(?:([\w:]+)(?:<[^{]*?>)? for )?([\w:]+)', re.M)
+MACRO = re.compile(r'^macro_rules! (\w+) .*\n(?:(?!\}).*\n)*\}', re.M)
 # A line of a proof file that names what the edit took away, or that cites such a proof.
 NAMES = re.compile(r'(\./)?proofs/.*(has no field|is not in scope|has no `|was not admitted)')
 # A line that says that the text of a clause or of the edited file can't be read.
@@ -61,16 +67,26 @@ def edited(text, crate):
     for line in text.splitlines():
         word, _, rest = line.partition(': ')
         if word == 'file':
-            path = rest.strip()
+            path = apart.place_of(crate, rest.strip())
             texts.setdefault(path, (crate / path).read_text(encoding='utf-8'))
         elif word == 'old':
             old = rest
         elif word in ('new', 'new:'):
             if texts[path].count(old) != 1:
                 raise BadEdit('its old text is in %s %d times' % (path, texts[path].count(old)))
-            functions.append((path, function_at(texts[path], texts[path].index(old)) if path.startswith('src/') else None))
+            found = functions_at(texts[path], texts[path].index(old)) if path.startswith('src/') else []
+            functions += [(path, function) for function in found or [None]]
             texts[path] = texts[path].replace(old, rest)
     return texts, [] if any(function is None for _, function in functions) else [*dict.fromkeys(functions)]
+
+
+def functions_at(text, place):
+    """The function around a place, or those that call the macro around it."""
+    macros = [found for found in MACRO.finditer(text) if found.start() <= place < found.end()]
+    if not macros:
+        return [function_at(text, place)]
+    calls = [found.start() for found in re.finditer(r'\b%s!' % macros[0][1], text)]
+    return [*dict.fromkeys(function for function in (function_at(text, call) for call in calls) if function)]
 
 
 def function_at(text, place):
@@ -122,15 +138,32 @@ class Libraries:
 def try_edits(libraries, crate, names):
     """What is said of each edit, and the first line that a check has on it."""
     with tempfile.TemporaryDirectory(prefix='wrong-') as room:
-        copy, kept = Path(room, crate), Path(room, 'kept')
+        whole, kept = Path(room, crate), Path(room, 'kept')
         for part in ('src', 'specs', 'proofs'):
             if (TOP / 'crates' / crate / part).is_dir():
-                shutil.copytree(TOP / 'crates' / crate / part, copy / part)
+                shutil.copytree(TOP / 'crates' / crate / part, whole / part)
         shutil.copytree(libraries.kept(crate), kept)
         command = libraries.command(crate, kept)
-        said = try_together(command, copy, crate, names) if len(names) > 1 else {}
+        copy, words = whole, command
+        if crate == apart.CRATE.name:
+            copy, words = Path(room, 'apart'), command + ['--allow-holes']
+            shutil.copytree(whole, copy)
+            apart.take_apart(copy)
+            look_apart(words, copy, crate, names)
+        said = try_together(words, copy, crate, names) if len(names) > 1 else {}
         for name in names:
-            yield name, *(said.get(name) or try_alone(command, copy, FOLDER / crate / (name + '.edit')))
+            edit = FOLDER / crate / (name + '.edit')
+            yield name, *(said.get(name) or try_functions(words, copy, edit) or try_whole(command, whole, edit))
+
+
+def look_apart(command, copy, crate, names):
+    """Stops unless a check of the functions that the edits change says nothing of them as they are."""
+    with changed(copy) as texts:
+        places = [place for name in names for place in make(copy, texts, FOLDER / crate / (name + '.edit'))]
+    lines = check(command + [word for _, function in places for word in ('--only', function)], copy)[1]
+    wrong = [line for line in told_of(lines) if any(is_about(line, copy, *at) for at in places)]
+    if wrong or not lines[-1].startswith('only='):
+        raise SystemExit('a production apart, as it is: ' + (wrong or lines[-1:])[0])
 
 
 def try_together(command, copy, crate, names):
@@ -147,13 +180,20 @@ def try_together(command, copy, crate, names):
     return {name: found for name, found in said.items() if found[0] == 'refused'}
 
 
-def try_alone(command, copy, edit):
-    """What a check of the function that the edit changes says of it, or else one of the whole crate."""
+def try_functions(command, copy, edit):
+    """What a check of the functions that the edit changes says of it, if that is a refusal."""
+    with suppress(BadEdit, OSError), changed(copy) as texts:
+        only = [word for _, function in make(copy, texts, edit) for word in ('--only', function)]
+        said = judge(*check(command + only, copy), texts) if only else ('', '')
+        return said if said[0].startswith('refused') else None
+
+
+def try_whole(command, copy, edit):
+    """What a check of the whole crate says of the edit."""
     try:
         with changed(copy) as texts:
-            only = [word for _, function in make(copy, texts, edit) for word in ('--only', function)]
-            said, why = judge(*check(command + only, copy), texts) if only else ('', '')
-            return (said, why) if said.startswith('refused') else judge(*check(command, copy), texts)
+            make(copy, texts, edit)
+            return judge(*check(command, copy), texts)
     except (BadEdit, OSError) as error:
         return 'BAD EDIT', str(error)
 

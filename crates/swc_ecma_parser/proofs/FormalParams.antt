@@ -17,7 +17,8 @@ use Rattle.swc_laws.proofs.PedanticTrees.{all-covers-unmarked, all-privates-unma
 use Rattle.swc_nodes.specs.Commas.{comma_at, commas_in, commas_of_all, part_commas, recalled, Recalls}
 use Rattle.swc_nodes.specs.GrowingNodes.{tree_at, bare_at, Apart, CutTo}
 use Rattle.swc_nodes.specs.{NodeParts.flat, NodeParts.param_parts, declared.commas.TrailingCommas.TrailingCommas, declared.node.PatId.PatId, declared.nodes.Nodes.Nodes}
-use Rattle.swc_patterns.specs.{Answers.params_at, Answers.params_of, Params.params_close, ParamsRead.AllReadAlone}
+use Rattle.swc_steps.specs.Params.{params_at, params_of, params_close}
+use Rattle.swc_patterns.specs.ParamsRead.{AllReadAlone}
 use Rattle.swc_steps.specs.Parsing.{scope, recorded, Checks, Loud, Acts, On, Unheard}
 use Rattle.swc_steps.specs.{Keys.expected, Lists.eaten}
 use Rattle.swc_steps.proofs.Hearing.{same_faults}

@@ -19,7 +19,7 @@ use Rattle.swc_cover.specs.PatTypes.{fits_as, pattern_as, want_as}
 use Rattle.swc_cover.specs.Refining.{Refined, Unrefined, RefinedItems, UnrefinedItems, items_at, items_floor, params_ok, pats_at, takes_arrow_params}
 use Rattle.swc_cover.specs.{Items.want_items, Moving.KeptTo, Fits.Binding, Fits.elems_fit, declared.pat_type.PatType.PatType}
 use Rattle.swc_cover.proofs.{Refines.expr-formed, Ties.pattern-is}
-use Rattle.swc_patterns.specs.Answers.{pat_at}
+use Rattle.swc_steps.specs.Params.{pat_at}
 use Rattle.swc_steps.specs.declared.productions.Productions.{Productions}
 use Rattle.swc_trees.specs.Moving.{boxed_in}
 use Rattle.swc_ecma_parser.specs.Calls.{buffer_of, nodes_of, tree_by}

@@ -3,7 +3,7 @@ ghost use Rattle.std.specs.Prelude.{◌≡◌, string_bytes, IfOk};
 ghost use Rattle.swc_lexer.specs.Inputs.{new_state, text_state};
 ghost use Rattle.swc_grammar.specs.Symbols.{Expr, Pat};
 ghost use Rattle.swc_nodes.specs.{NodeParts.expr_part, NodeParts.pat_part, GrowingNodes.From};
-ghost use Rattle.swc_patterns.specs.Answers.{pat_at};
+ghost use Rattle.swc_steps.specs.Params.{pat_at};
 ghost use Rattle.swc_steps.specs.Parsing.{tree_of};
 ghost use Rattle.swc_ecma_parser.specs.{TextList.text_tokens, TextList.IsModern, WholeList.IsHeeded, WholeList.Headline};
 

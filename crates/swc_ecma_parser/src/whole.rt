@@ -3,7 +3,7 @@ ghost use Rattle.std.specs.Prelude.{◌≡◌, List, false, IfOk};
 ghost use Rattle.swc_input.specs.declared.token.TokenAndSpan.{TokenAndSpan};
 ghost use Rattle.swc_grammar.specs.Symbols.{Expr, Pat};
 ghost use Rattle.swc_nodes.specs.{NodeParts.expr_part, NodeParts.pat_part, GrowingNodes.From};
-ghost use Rattle.swc_patterns.specs.Answers.{pat_at};
+ghost use Rattle.swc_steps.specs.Params.{pat_at};
 ghost use Rattle.swc_steps.specs.Parsing.{tree_of};
 ghost use Rattle.swc_ecma_parser.specs.Calls.{has_failed, nodes_of};
 ghost use Rattle.swc_ecma_parser.specs.WholeList.{plain_list, IsHeeded, Headline, Lists, Tries};

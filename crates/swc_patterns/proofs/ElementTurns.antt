@@ -16,7 +16,8 @@ use Rattle.swc_steps.proofs.Steps as s
 use Rattle.swc_steps.proofs.Steps.{Reader, give}
 use Rattle.swc_patterns.specs.Arrays.{put_elements, next_element, item_read, elements_left, behind_element, elements_with}
 use Rattle.swc_patterns.specs.Rests.{Stage, behind_item, separated_item, rest_node}
-use Rattle.swc_patterns.specs.{Answers.pat_itself, Answers.pat_at, declared.pat.NextElement.NextElement, declared.pat.NextElement.NextElement as next}
+use Rattle.swc_steps.specs.Params.{pat_at}
+use Rattle.swc_patterns.specs.{Answers.pat_itself, declared.pat.NextElement.NextElement, declared.pat.NextElement.NextElement as next}
 use Rattle.swc_patterns.proofs.Arrays.{elements_turn, behind_element_splits}
 
 module _ {S F C K : Type 0} {model : Model S} {sure : Bool} (hook : Hook F C K) {f : Reader (Tree F C K)}

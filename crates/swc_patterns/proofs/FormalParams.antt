@@ -17,7 +17,8 @@ use Rattle.swc_steps.specs.Lists.{eaten, eaten_by, closed, separated, put_before
 use Rattle.swc_steps.specs.{Keys.expected, Keys.expected_by, Parsing.seen_of}
 use Rattle.swc_steps.proofs.Keys.{then_calls}
 use Rattle.swc_steps.proofs.Lists.{calls, binds, bind_same, twice}
-use Rattle.swc_patterns.specs.Params.{next_param, param_head, params_close, rest_by, rest_end, params_by, params_left, behind_param, params_with}
+use Rattle.swc_steps.specs.Params.{params_close}
+use Rattle.swc_patterns.specs.Params.{next_param, param_head, rest_by, rest_end, params_by, params_left, behind_param, params_with}
 use Rattle.swc_patterns.specs.Rests.{Stage, going, closing, never, is_never, behind_rest, stage_of, has_comma, has_rest, separated_item, rest_node}
 use Rattle.swc_patterns.specs.{declared.params.NextParam.NextParam, declared.params.NextParam.NextParam as next, declared.rest.SeenRest.SeenRest, declared.rest.SeenRest.SeenRest as seen}
 use Rattle.swc_patterns.proofs.{Closing.closing_by, Closing.rest_closes, Objects.answer, Objects.again}

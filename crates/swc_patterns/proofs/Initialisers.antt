@@ -12,7 +12,8 @@ use Rattle.swc_steps.specs.Parsing.{Produces, GoesOn, itself, tree_of}
 use Rattle.swc_steps.specs.{Readers.inside, declared.productions.Productions.Productions}
 use Rattle.swc_steps.proofs.{Endings.ended, Rules.inside_assign}
 use Rattle.swc_steps.proofs.Making as m
-use Rattle.swc_patterns.specs.{Answers.pat_itself, Answers.pat_at, Arrays.default_value}
+use Rattle.swc_steps.specs.Params.{pat_at}
+use Rattle.swc_patterns.specs.{Answers.pat_itself, Arrays.default_value}
 
 module _ {F C K : Type 0} (hook : Hook F C K) where
   pub default_value_splits : (l : Tree F C K) (x : Scope) (ts : List TokenAndSpan) → default_value hook l x ts

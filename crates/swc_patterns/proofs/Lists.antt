@@ -7,7 +7,8 @@ use Rattle.swc_nodes.specs.NodeParts.{flat, if_some, one_pat, param_parts}
 use Rattle.swc_nodes.specs.GrowingNodes.{tree_at, Apart, Grows}
 use Rattle.swc_nodes.specs.{declared.node.PatId.PatId, declared.nodes.Nodes.Nodes}
 use Rattle.swc_nodes.proofs.Lists.{SameTrees, same_first, same-front, same-back, apart-trees, list-more}
-use Rattle.swc_patterns.specs.Answers.{pat_at, if_there}
+use Rattle.swc_steps.specs.Params.{pat_at}
+use Rattle.swc_patterns.specs.Answers.{if_there}
 
 map-more : {X Y : Type 0} (f : X → Y) (xs : List X) (x : X) → map f (xs ++ x ∷ []) ≡ map f xs ++ f x ∷ []
 map-more f [] x = refl

@@ -15,9 +15,10 @@ use Rattle.swc_steps.specs.{Lists.eaten, Readers.nothing, declared.productions.P
 use Rattle.swc_steps.proofs.Making as m
 use Rattle.swc_steps.proofs.Steps as s
 use Rattle.swc_steps.proofs.Steps.{Reader, give}
-use Rattle.swc_patterns.specs.Params.{next_param, params_close, rest_by, rest_end, param_read, params_left, behind_param, params_with}
+use Rattle.swc_steps.specs.Params.{params_close, pat_at}
+use Rattle.swc_patterns.specs.Params.{next_param, rest_by, rest_end, param_read, params_left, behind_param, params_with}
 use Rattle.swc_patterns.specs.Rests.{Stage, separated_item, rest_node}
-use Rattle.swc_patterns.specs.{Answers.pat_itself, Answers.pat_at, declared.params.NextParam.NextParam, declared.params.NextParam.NextParam as next}
+use Rattle.swc_patterns.specs.{Answers.pat_itself, declared.params.NextParam.NextParam, declared.params.NextParam.NextParam as next}
 use Rattle.swc_patterns.proofs.FormalParams.{params_turn, behind_param_splits, rest_end_splits}
 
 module _ {S F C K : Type 0} {model : Model S} {sure : Bool} (hook : Hook F C K) {f : Reader (Tree F C K)}

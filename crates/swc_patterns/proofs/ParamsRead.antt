@@ -12,9 +12,10 @@ use Rattle.swc_nodes.specs.{GrowingNodes.Grows, declared.node.PatId.PatId}
 use Rattle.swc_steps.specs.Parsing.{scope, recorded, Leads, Loud, On, Unheard}
 use Rattle.swc_steps.specs.{Lists.eaten, declared.productions.Productions.Productions}
 use Rattle.swc_steps.proofs.Steps.{give, less, loud_after, more_recorded, read_scope}
-use Rattle.swc_patterns.specs.Params.{param_read, params_close, rest_by, rest_end}
+use Rattle.swc_steps.specs.Params.{params_close, params_at, params_of}
+use Rattle.swc_patterns.specs.Params.{param_read, rest_by, rest_end}
 use Rattle.swc_patterns.specs.ParamsRead.{ReadAlone, element, dotted, AllReadAlone, LeavesParams}
-use Rattle.swc_patterns.specs.{Answers.params_at, Answers.params_of, Rests.rest_node}
+use Rattle.swc_patterns.specs.Rests.{rest_node}
 use Rattle.swc_patterns.proofs.FormalParams.{rest_end_splits, rest_read}
 
 abbrev tree_or : {F C K : Type 0} → Tree F C K → Out (Tree F C K) → Tree F C K

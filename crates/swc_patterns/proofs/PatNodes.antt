@@ -14,7 +14,8 @@ use Rattle.swc_steps.specs.Parsing.{On, Heard, Produces, GoesOn}
 use Rattle.swc_steps.specs.declared.productions.Productions.{Productions}
 use Rattle.swc_steps.proofs.Making.{yes, on}
 use Rattle.swc_steps.proofs.Steps.{Reader, give, node_parses, node_continues}
-use Rattle.swc_patterns.specs.Answers.{pat_itself, pat_at, if_there}
+use Rattle.swc_steps.specs.Params.{pat_at}
+use Rattle.swc_patterns.specs.Answers.{pat_itself, if_there}
 use Rattle.swc_patterns.specs.Arrays.{put_elements, put_elem, without_holes}
 
 -- ---- the elements of an array pattern, where the holes at the end are dropped

@@ -14,7 +14,8 @@ use Rattle.swc_steps.specs.Parsing.{On, Heard, Produces, itself, key_of, key_at,
 use Rattle.swc_steps.specs.{Readers.inside, declared.productions.Productions.Productions}
 use Rattle.swc_steps.proofs.Steps.{heard_after, heard_answer, heard_call_read}
 use Rattle.swc_steps.proofs.{Building.apart-lower, Endings.ended, Rules.inside_assign}
-use Rattle.swc_patterns.specs.Answers.{pat_at, pat_prop_at, pat_prop_of}
+use Rattle.swc_steps.specs.Params.{pat_at}
+use Rattle.swc_patterns.specs.Answers.{pat_prop_at, pat_prop_of}
 use Rattle.swc_patterns.specs.Objects.{default_node, key_or, name_node, pat_prop_item, pat_prop_left}
 use Rattle.swc_patterns.specs.declared.object.AfterPatKey.{AfterPatKey, AfterPatKey as after}
 

@@ -1,25 +1,22 @@
 -- What answers of productions of patterns hold of numbers, and which trees they stand for among nodes.
-use Rattle.std.specs.Prelude.{◌≡◌, ◌≤◌, ℕ, Bool, List, [], ◌∷◌, Option, Some, None, Result, MatchResult, OnOk, IfOk, map}
-use Rattle.std.specs.{declared.alloc.Global.Global, declared.vec.Vec.Vec}
+use Rattle.std.specs.Prelude.{◌≤◌, ℕ, Bool, List, Option, Some, None, Result, MatchResult, OnOk, IfOk, map}
 use Rattle.swc_context.specs.declared.error.Error.{Error}
 use Rattle.swc_input.specs.{declared.token.TokenAndSpan.TokenAndSpan, Source.Model, Buffer.to_come}
-use Rattle.swc_ast.specs.Tree.{Tree, Trees, nil, trees, span_of}
-use Rattle.swc_ast.specs.{Trees.listed, declared.function.Param.Param, declared.spanned.Spanned.Ghosts}
+use Rattle.swc_ast.specs.Tree.{Tree, nil}
+use Rattle.swc_ast.specs.{Trees.listed, declared.spanned.Spanned.Ghosts}
 use Rattle.swc_grammar.specs.{Scope.Scope, Clean.Out}
 use Rattle.swc_nodes.specs.GrowingNodes.{tree_at, From, Apart, Grows}
 use Rattle.swc_nodes.specs.Lists.{pat_elem_parts, pat_props_parts, pat_props_trees}
-use Rattle.swc_nodes.specs.NodeParts.{pat_part, pat_prop_parts, param_parts, flat}
+use Rattle.swc_nodes.specs.NodeParts.{pat_part, pat_prop_parts}
 use Rattle.swc_nodes.specs.{NodeTree.pat_prop_of as pat_prop_tree, declared.node.PatId.PatId, declared.node.PatPropNode.PatPropNode, declared.nodes.Nodes.Nodes}
 use Rattle.swc_steps.specs.{Parsing.On, Parsing.Unheard, declared.productions.Productions.Productions, declared.tokens.Listed.Listed}
+use Rattle.swc_steps.specs.Params.{pat_at}
 use Rattle.swc_patterns.specs.Arrays.{put_elements}
 
 module _ {F C K : Type 0} {fg : Ghosts F} {cg : Ghosts C} {kg : Ghosts K} where
   -- of a pattern
   abbrev pub pat_itself : ℕ → Nodes F C K fg cg kg → PatId → Type 0
   pat_itself k ns id = From k ns (pat_part id)
-
-  abbrev pub pat_at : Nodes F C K fg cg kg → PatId → Tree F C K
-  pat_at ns id = tree_at ns id.0
 
   -- of the elements of an array pattern, with holes among them, of which those at the end leave nothing
   abbrev pub pat_elems_of : ℕ → Nodes F C K fg cg kg → Listed (Option PatId) → Type 0
@@ -44,17 +41,6 @@ module _ {F C K : Type 0} {fg : Ghosts F} {cg : Ghosts C} {kg : Ghosts K} where
 
   abbrev pub pat_props_at : Nodes F C K fg cg kg → Listed PatPropNode → Tree F C K
   pat_props_at ns l = listed l.trailing_comma l.end (pat_props_trees fg.place cg.place kg.place (tree_at ns) l.items)
-
-  -- of formal parameters, each of which lies where its pattern does
-  abbrev pub placed : Nodes F C K fg cg kg → List (Param PatId) → Type 0
-  placed ns [] = Unit {0}
-  placed ns (p ∷ ps) = (p.span ≡ span_of (pat_at ns p.pat)) × placed ns ps
-
-  abbrev pub params_of : ℕ → Nodes F C K fg cg kg → Vec (Param PatId) Global → Type 0
-  params_of k ns ps = Apart k ns (flat param_parts ps.items) × placed ns ps.items
-
-  abbrev pub params_at : Nodes F C K fg cg kg → Vec (Param PatId) Global → Trees F C K
-  params_at ns ps = trees (map (λ p. pat_at ns p.pat) ps.items)
 
 module _ {S H F C K : Type 0} {fg : Ghosts F} {cg : Ghosts C} {kg : Ghosts K} (model : Model S) (sure : Bool)
     {T A : Type 0} (held : ℕ → Nodes F C K fg cg kg → T → Type 0) (f : Scope → List TokenAndSpan → Out A)

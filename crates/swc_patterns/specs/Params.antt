@@ -4,13 +4,14 @@ use Rattle.std.specs.Prelude.{Bool, true, false, if◌then◌else◌, List, ◌�
 use Rattle.swc_context.specs.declared.span.Span.{Span}
 use Rattle.swc_input.specs.declared.token.TokenAndSpan.{TokenAndSpan}
 use Rattle.swc_ast.specs.Tree.{Tree, Trees, nil, cons}
-use Rattle.swc_ast.specs.Trees.{listed, trees_append}
+use Rattle.swc_ast.specs.Trees.{trees_append}
 use Rattle.swc_bodies.specs.Readings.{Hook}
 use Rattle.swc_grammar.specs.Symbols.{Pat, Element, Params}
 use Rattle.swc_grammar.specs.Tokens.{is_rparen, is_dots, is_equals}
 use Rattle.swc_grammar.specs.Clean.{Out, first, sym, run}
 use Rattle.swc_grammar.specs.{Scope.Scope, Words.◌>>=◌}
-use Rattle.swc_steps.specs.{Keys.expected, Keys.ends_params, Lists.eaten, Lists.put_before}
+use Rattle.swc_steps.specs.{Keys.ends_params, Lists.eaten, Lists.put_before}
+use Rattle.swc_steps.specs.Params.{params_close}
 use Rattle.swc_patterns.specs.Rests.{Stage, going, closing, never, separated_item, rest_node}
 use Rattle.swc_patterns.specs.declared.params.NextParam.{NextParam, NextParam as next}
 
@@ -33,10 +34,6 @@ goes_on (next.Item (Some s)) = true
 goes_on n = false
 
 module _ {F C K : Type 0} where
-  -- after all parameters: the parenthesis that closes them
-  unfoldable pub params_close : Trees F C K → Scope → List TokenAndSpan → Out (Tree F C K)
-  params_close before c ts = expected is_rparen c ts >>= (λ p. Some (listed None p.0 before, p.1))
-
   -- after the pattern of a rest whose dots are at s: its node; an initialiser there is a fault
   abbrev pub rest_by : Span → Tree F C K → Option Span → List TokenAndSpan → Out (Tree F C K)
   rest_by s t None ts = Some (rest_node s t, ts)

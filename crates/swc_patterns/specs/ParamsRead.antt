@@ -11,7 +11,7 @@ use Rattle.swc_grammar.specs.{Scope.Scope, Clean.sym, Clean.run}
 use Rattle.swc_nodes.specs.{GrowingNodes.Grows, declared.node.PatId.PatId}
 use Rattle.swc_steps.specs.Parsing.{scope, recorded, Loud, On, Unheard}
 use Rattle.swc_steps.specs.declared.productions.Productions.{Productions}
-use Rattle.swc_patterns.specs.{Answers.params_at, Answers.params_of, Params.params_close}
+use Rattle.swc_steps.specs.Params.{params_at, params_of, params_close}
 
 module _ {F C K : Type 0} (hook : Hook F C K) (c : Scope) where
   -- a parameter: an element, or a rest

@@ -6,7 +6,8 @@ ghost use Rattle.swc_input.specs.{Buffer.context, Buffer.to_come, Recordings.Jud
 ghost use Rattle.swc_ast.specs.{Patterns.holds_ident, Trees.items_of};
 ghost use Rattle.swc_nodes.specs.{GrowingNodes.Apart, Lists.pat_props_parts, NodeParts.pat_prop_parts};
 ghost use Rattle.swc_steps.specs.Parsing.{Checked, ContinuesAlone, GoesOn};
-ghost use Rattle.swc_patterns.specs.Answers.{pat_itself, pat_at, pat_prop_at, pat_props_at};
+ghost use Rattle.swc_steps.specs.Params.{pat_at};
+ghost use Rattle.swc_patterns.specs.Answers.{pat_itself, pat_prop_at, pat_props_at};
 ghost use Rattle.swc_patterns.specs.Objects.{after_pat_key, after_name, bound, object_pat_from, is_rest, props_stage, is_value, key_or, rests_checked, last_stage};
 ghost use Rattle.swc_patterns.specs.RestFaults.{earlier_faults, last_faults, last_refused};
 

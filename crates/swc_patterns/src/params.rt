@@ -5,7 +5,8 @@ ghost use Rattle.swc_ast.specs.Tree.{span_of};
 ghost use Rattle.swc_nodes.specs.{GrowingNodes.first_at, GrowingNodes.From, NodeParts.expr_part, NodeParts.pat_part};
 ghost use Rattle.swc_steps.specs.{Parsing.ContinuesAlone, Parsing.GoesOn, Readers.nothing};
 ghost use Rattle.swc_patterns.specs.Params.{next_param, param_head, goes_on};
-ghost use Rattle.swc_patterns.specs.{Answers.pat_itself, Answers.pat_at, Rests.stage_of};
+ghost use Rattle.swc_steps.specs.Params.{pat_at};
+ghost use Rattle.swc_patterns.specs.{Answers.pat_itself, Rests.stage_of};
 
 use crate::pat::{made, rest_pat};
 use crate::rest::{SeenRest, check_comma, check_last};

@@ -5,7 +5,8 @@ ghost use Rattle.swc_grammar.specs.{Names.may_bind, Words.word, Tokens.is_word};
 ghost use Rattle.swc_nodes.specs.GrowingNodes.{count, end_at, first_at, Apart, From};
 ghost use Rattle.swc_nodes.specs.{Lists.pat_elem_parts, NodeParts.expr_part, NodeParts.pat_part};
 ghost use Rattle.swc_steps.specs.Parsing.{seen, binding_spelling, tree_of, ContinuesAlone, GoesOn, ParsesAlone, Heard, Produces};
-ghost use Rattle.swc_patterns.specs.Answers.{pat_itself, pat_at, pat_elems_at};
+ghost use Rattle.swc_steps.specs.Params.{pat_at};
+ghost use Rattle.swc_patterns.specs.Answers.{pat_itself, pat_elems_at};
 ghost use Rattle.swc_patterns.specs.Arrays.{default_to, pat_kind, plain_pat, next_element, element_head, array_from, is_item, ends_in_hole, without_holes};
 ghost use Rattle.swc_patterns.specs.Rests.{rest_node, stage_of};
 

@@ -16,8 +16,7 @@ use Rattle.swc_nodes.specs.NodeParts.{flat, param_parts, pat_part}
 use Rattle.swc_nodes.specs.GrowingNodes.{count, seat_at, Apart, From}
 use Rattle.swc_nodes.specs.{Lists.first_param_pat, declared.node.PatId.PatId, declared.nodes.Nodes.Nodes}
 use Rattle.swc_nodes.proofs.{Chains.chain-bound, Held.from-apart}
-use Rattle.swc_patterns.specs.Answers.{pat_at, params_at, placed}
-use Rattle.swc_patterns.specs.Params.{params_close}
+use Rattle.swc_steps.specs.Params.{pat_at, params_at, placed, params_close}
 use Rattle.swc_primary.specs.declared.modifiers.MethodKind.{MethodKind, MethodKind as kind}
 use Rattle.swc_primary.specs.Methods.{async_in, generator_in, accessor_ok, function_ok, just_one, misses_param, in_params, method_function_node, method_function_of, method_block_by, method_end, method_close, method_left, method_inside, method_by, method_function}
 use Rattle.swc_steps.specs.Parsing.{scope, Leads, Checks, On, Continues, shell_at}

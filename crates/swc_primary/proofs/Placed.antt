@@ -6,7 +6,7 @@ use Rattle.swc_nodes.specs.GrowingNodes.{count, tree_at, Apart, From, Grows}
 use Rattle.swc_nodes.specs.{declared.node.PatId.PatId, declared.nodes.Nodes.Nodes}
 use Rattle.swc_nodes.proofs.Held.{apart-from}
 use Rattle.swc_nodes.proofs.Lists.{SameTrees, same_first, same_rest, apart-list-more, apart-trees}
-use Rattle.swc_patterns.specs.Answers.{pat_at, placed}
+use Rattle.swc_steps.specs.Params.{pat_at, placed}
 
 module _ {F C K : Type 0} {fg : Ghosts F} {cg : Ghosts C} {kg : Ghosts K} where
   placed-same : (ns ms : Nodes F C K fg cg kg) (ps : List (Param PatId))

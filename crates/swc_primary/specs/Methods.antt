@@ -12,7 +12,7 @@ use Rattle.swc_grammar.specs.Tokens.{is_get, is_set, is_star, is_lparen, is_rpar
 use Rattle.swc_grammar.specs.Clean.{Out, sym, run}
 use Rattle.swc_grammar.specs.{Scope.Scope, Scope.in_context, Words.◌>>=◌}
 use Rattle.swc_nodes.specs.{Lists.first_param_pat, declared.node.ExprId.ExprId, declared.node.PatId.PatId, declared.node.PropNode.PropNode, declared.node.PropNode.PropNode as prop, declared.nodes.Nodes.Nodes}
-use Rattle.swc_patterns.specs.Answers.{pat_at}
+use Rattle.swc_steps.specs.Params.{pat_at}
 use Rattle.swc_primary.specs.declared.modifiers.MethodKind.{MethodKind, MethodKind as kind}
 use Rattle.swc_steps.specs.Parsing.{shell_of, Heard, Moves, Unheard}
 use Rattle.swc_steps.specs.{Keys.expected, Keys.method_body, Readers.inside}

@@ -3,6 +3,7 @@ pub mod Contexts
 pub mod Keys
 pub mod Lists
 pub mod Loops
+pub mod Params
 pub mod Parsing
 pub mod Readers
 pub mod Regexes

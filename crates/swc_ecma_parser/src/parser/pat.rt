@@ -2,7 +2,7 @@
 ghost use Rattle.std.specs.Prelude.{◌≡◌, false};
 ghost use Rattle.swc_ast.specs.TreeOf.{pat_tree};
 ghost use Rattle.swc_grammar.specs.Symbols.{Pat, Element};
-ghost use Rattle.swc_patterns.specs.Answers.{pat_at};
+ghost use Rattle.swc_steps.specs.Params.{pat_at};
 ghost use Rattle.swc_ecma_parser.specs.Calls.{buffer_of, nodes_of, has_failed};
 ghost use Rattle.swc_ecma_parser.specs.Promise.{Promised, Bound, pat_in_boxes, pat_by_number};
 

@@ -4,7 +4,7 @@ ghost use Rattle.swc_ast.specs.Trees.{is_valid, are_valid};
 ghost use Rattle.swc_cover.specs.{Faults.params_verdict, Items.want_items, Noting.JudgesBy, Noting.JudgesParams, PatTypes.want_as, Refining.pats_at};
 ghost use Rattle.swc_nodes.specs.{Lists.pats_parts, GrowingNodes.count, GrowingNodes.first_at, GrowingNodes.Apart, GrowingNodes.CutTo, GrowingNodes.From};
 ghost use Rattle.swc_nodes.specs.NodeParts.{expr_part, one_pat, pat_part};
-ghost use Rattle.swc_patterns.specs.Answers.{pat_at};
+ghost use Rattle.swc_steps.specs.Params.{pat_at};
 ghost use Rattle.swc_ecma_parser.specs.Calls.{buffer_of, nodes_of, commas_of, has_failed, tree_by, MovesOut};
 ghost use Rattle.swc_ecma_parser.specs.Refinement.{boxed_items, marked_expr, marked_items, params_of, pattern_of, names_of, verdict_of, Recasts, RefinesExpr, RefinesItems, RefinesNumber};
 

@@ -1,5 +1,5 @@
 use Rattle.swc_grammar.specs.Symbols.{Pat}
-use Rattle.swc_patterns.specs.Answers.{pat_at}
+use Rattle.swc_steps.specs.Params.{pat_at}
 use Rattle.show.proofs.Judging.{judged_by}
 use Rattle.show.proofs.answer.answer_pat.Goals as goal
 

@@ -1,6 +1,6 @@
 use Rattle.std.proofs.Common.{true, false, refl, subst}
 use Rattle.swc_nodes.proofs.Standing.{grows-same}
-use Rattle.swc_patterns.specs.Answers.{pat_at}
+use Rattle.swc_steps.specs.Params.{pat_at}
 use Rattle.swc_patterns.proofs.PartlyRead.{refused}
 use Rattle.swc_steps.specs.Parsing.{ident_spelling, On}
 use Rattle.swc_steps.proofs.Steps as s

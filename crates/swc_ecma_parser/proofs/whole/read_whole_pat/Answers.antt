@@ -2,7 +2,7 @@ use Rattle.std.proofs.Common.{ap, ◌∙◌}
 use Rattle.swc_input.specs.Buffer.{last_position}
 use Rattle.swc_grammar.specs.Symbols.{Pat}
 use Rattle.swc_nodes.specs.NodeParts.{pat_part}
-use Rattle.swc_patterns.specs.Answers.{pat_at}
+use Rattle.swc_steps.specs.Params.{pat_at}
 use Rattle.swc_ecma_parser.specs.Calls.{buffer_of, nodes_of}
 use Rattle.swc_ecma_parser.proofs.WholeList.{headline}
 use Rattle.swc_ecma_parser.proofs.whole.read_whole_pat.Goals as goal

@@ -4,7 +4,7 @@ use Rattle.swc_nodes.proofs.{Held.from-down, Standing.grows-same, Standing.grows
 use Rattle.swc_steps.specs.Readers.{nothing}
 use Rattle.swc_steps.proofs.Making as m
 use Rattle.swc_steps.proofs.Steps as s
-use Rattle.swc_patterns.specs.Answers.{pat_at}
+use Rattle.swc_steps.specs.Params.{pat_at}
 use Rattle.swc_patterns.proofs.PatNodes.{pat_made}
 use Rattle.swc_patterns.proofs.params.rest_default.Goals as goal
 

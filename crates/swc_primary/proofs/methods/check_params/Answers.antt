@@ -1,5 +1,5 @@
 use Rattle.std.proofs.Common.{rules}
-use Rattle.swc_patterns.specs.Answers.{params_at}
+use Rattle.swc_steps.specs.Params.{params_at}
 use Rattle.swc_primary.specs.Methods.{accessor_ok}
 use Rattle.swc_steps.proofs.Steps.{check_passes}
 use Rattle.swc_primary.proofs.methods.check_params.Goals as goal

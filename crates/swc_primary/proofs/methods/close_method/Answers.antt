@@ -3,7 +3,7 @@ use Rattle.swc_grammar.specs.{Tokens.is_rparen, Words.◌>>=◌}
 use Rattle.swc_nodes.specs.{NodeParts.flat, NodeParts.param_parts, GrowingNodes.count}
 use Rattle.swc_nodes.proofs.Lists.{apart-later}
 use Rattle.swc_nodes.proofs.Standing.{grows-count, grows-same, grows-then}
-use Rattle.swc_patterns.specs.Answers.{params_at}
+use Rattle.swc_steps.specs.Params.{params_at}
 use Rattle.swc_steps.specs.{Keys.expected, Parsing.shell_at}
 use Rattle.swc_steps.proofs.Building.{apart-lower, grows-kept}
 use Rattle.swc_steps.proofs.Making as m

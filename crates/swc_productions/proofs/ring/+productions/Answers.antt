@@ -8,8 +8,7 @@ use Rattle.swc_context.specs.Spans.{from_to}
 use Rattle.swc_context.specs.declared.error.SyntaxError.TheVariants.{OutOfMemory}
 use Rattle.swc_nodes.specs.NodeParts.{param_parts}
 use Rattle.swc_ast.specs.Trees.{items_of}
-use Rattle.swc_patterns.specs.Answers.{params_at}
-use Rattle.swc_patterns.specs.Answers.{placed}
+use Rattle.swc_steps.specs.Params.{params_at, placed, pat_at}
 use Rattle.swc_nodes.specs.GrowingNodes.{From}
 use Rattle.swc_primary.proofs.Placed.{params-more as placed-more}
 use Rattle.swc_input.specs.Plain.{plain}
@@ -128,7 +127,7 @@ use Rattle.swc_nodes.specs.Lists.{pat_elem_parts, pat_props_parts}
 use Rattle.swc_nodes.specs.NodeParts.{one_pat, pat_part}
 use Rattle.swc_patterns.proofs.Lists.{holed-more, params-more}
 use Rattle.swc_patterns.proofs.Rests.{passed_stage}
-use Rattle.swc_patterns.specs.Answers.{pat_at, pat_props_at, if_there, pat_itself}
+use Rattle.swc_patterns.specs.Answers.{pat_props_at, if_there, pat_itself}
 use Rattle.swc_patterns.specs.Arrays.{default_by, pat_kind, array_from as array_pat_from, array_pat_tail, elements_left}
 use Rattle.swc_patterns.specs.Arrays.{is_item, item_read}
 use Rattle.swc_patterns.specs.Objects.{props_done}

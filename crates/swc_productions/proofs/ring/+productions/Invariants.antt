@@ -25,7 +25,8 @@ use Rattle.swc_patterns.specs.Loops.{PatPropsRead}
 use Rattle.swc_grammar.specs.Symbols.{PatElements, Params}
 use Rattle.swc_nodes.specs.Lists.{pat_elem_parts}
 use Rattle.swc_nodes.specs.NodeParts.{flat, param_parts}
-use Rattle.swc_patterns.specs.Answers.{if_there, params_at, placed}
+use Rattle.swc_steps.specs.Params.{params_at, placed}
+use Rattle.swc_patterns.specs.Answers.{if_there}
 use Rattle.swc_patterns.specs.Arrays.{elements_left}
 use Rattle.swc_patterns.specs.Params.{params_left}
 use Rattle.swc_patterns.specs.ParamsRead.{AllReadAlone}

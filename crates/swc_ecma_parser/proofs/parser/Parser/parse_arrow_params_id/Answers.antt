@@ -1,6 +1,6 @@
 use Rattle.std.proofs.{Common.refl, Common.sym, lemmas.Result.err_from_is_err_and}
 use Rattle.swc_nodes.specs.{GrowingNodes.Apart, Lists.pats_parts}
-use Rattle.swc_patterns.specs.Answers.{pat_at}
+use Rattle.swc_steps.specs.Params.{pat_at}
 use Rattle.swc_ecma_parser.specs.Calls.{buffer_of, nodes_of, commas_of, pats_tree}
 use Rattle.swc_ecma_parser.specs.ArrowParams.{params_items}
 use Rattle.swc_ecma_parser.proofs.ArrowPromise.{bound-kept, arrow-params-checked, kept-recalled, meets-kept}

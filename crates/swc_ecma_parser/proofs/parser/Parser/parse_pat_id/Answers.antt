@@ -1,6 +1,6 @@
 use Rattle.std.proofs.{Common.refl, lemmas.Result.err_from_is_err_and}
 use Rattle.swc_nodes.specs.GrowingNodes.{tree_at}
-use Rattle.swc_patterns.specs.Answers.{pat_at}
+use Rattle.swc_steps.specs.Params.{pat_at}
 use Rattle.swc_ecma_parser.specs.Calls.{buffer_of, nodes_of}
 use Rattle.swc_ecma_parser.proofs.{Calling.promised-again, Left.pat-left, Patterns.bound-marked, Top.pat-stops, Wholes.promised-numbered}
 use Rattle.swc_ecma_parser.proofs.parser.Parser.parse_pat_id.Goals as goal

@@ -2,7 +2,7 @@ use Rattle.std.proofs.Common.{refl, sym, ◌∙◌}
 use Rattle.swc_ast.specs.{TreeOf.pat_tree, Trees.is_valid, Trees.unmarked}
 use Rattle.swc_cover.specs.PatTypes.{want_as}
 use Rattle.swc_nodes.specs.{GrowingNodes.count, NodeParts.one_pat}
-use Rattle.swc_patterns.specs.Answers.{pat_at}
+use Rattle.swc_steps.specs.Params.{pat_at}
 use Rattle.swc_ecma_parser.specs.Calls.{nodes_of, commas_of, tree_by}
 use Rattle.swc_ecma_parser.specs.Refinement.{marked_expr, pattern_of}
 use Rattle.swc_ecma_parser.proofs.Refined.{cut-kept, meets-refinement, of-answer, promised-refinement, records-moved, refinement-again, whichever}

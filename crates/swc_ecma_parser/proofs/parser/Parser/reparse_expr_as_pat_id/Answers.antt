@@ -6,7 +6,7 @@ use Rattle.swc_cover.specs.{Moving.KeptTo, Noting.JudgesBy, PatTypes.pattern_as,
 use Rattle.swc_cover.specs.Refining.{Refined}
 use Rattle.swc_cover.proofs.Kept.{none-kept}
 use Rattle.swc_nodes.specs.{GrowingNodes.first_at, GrowingNodes.tree_at, GrowingNodes.From, NodeParts.one_pat, NodeParts.pat_part}
-use Rattle.swc_patterns.specs.Answers.{pat_at}
+use Rattle.swc_steps.specs.Params.{pat_at}
 use Rattle.swc_ecma_parser.specs.Calls.{buffer_of, nodes_of, commas_of}
 use Rattle.swc_ecma_parser.specs.Refinement.{PromisedRefinement}
 use Rattle.swc_ecma_parser.proofs.{Recast.recasts-number, Refined.if-ok, Refined.meets-refinement, Refined.promised-refinement, Refined.refinement-again, Refined.unmoved, Refined.whichever}
