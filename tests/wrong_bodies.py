@@ -8,7 +8,7 @@ their crate, since each function is proved by itself. These functions are checke
 crate kept. An edit is refused if the check says so of its function. Otherwise it is made alone, and the whole crate is checked. N checks run at a time,
 by default one a processor. An edit of a macro changes each function of the file that calls the macro.
 
-The productions are proved apart (tests/apart.py), each over the contracts of the others: nothing else of the crate is checked then.
+The productions are proved one by one (tests/alone.py), each over the contracts of the others: nothing else of the crate is checked then.
 
 Without --libs, `rt lib` first proves of each crate, and of those below it, what has changed. FOLDER has other libraries of the same sources, as
 NAME.rlib, and as kept/NAME what their checks kept; it is only read.
@@ -29,7 +29,7 @@ from pathlib import Path
 from threading import Lock
 
 sys.dont_write_bytecode = True
-import apart
+import alone
 
 TOP = Path(__file__).parent.parent
 FOLDER = TOP / 'tests/wrong'
@@ -67,7 +67,7 @@ def edited(text, crate):
     for line in text.splitlines():
         word, _, rest = line.partition(': ')
         if word == 'file':
-            path = apart.place_of(crate, rest.strip())
+            path = alone.place_of(crate, rest.strip())
             texts.setdefault(path, (crate / path).read_text(encoding='utf-8'))
         elif word == 'old':
             old = rest
@@ -145,25 +145,25 @@ def try_edits(libraries, crate, names):
         shutil.copytree(libraries.kept(crate), kept)
         command = libraries.command(crate, kept)
         copy, words = whole, command
-        if crate == apart.CRATE.name:
-            copy, words = Path(room, 'apart'), command + ['--allow-holes']
+        if crate == alone.CRATE.name:
+            copy, words = Path(room, 'alone'), command + ['--allow-holes']
             shutil.copytree(whole, copy)
-            apart.take_apart(copy)
-            look_apart(words, copy, crate, names)
+            alone.separate(copy)
+            look_alone(words, copy, crate, names)
         said = try_together(words, copy, crate, names) if len(names) > 1 else {}
         for name in names:
             edit = FOLDER / crate / (name + '.edit')
             yield name, *(said.get(name) or try_functions(words, copy, edit) or try_whole(command, whole, edit))
 
 
-def look_apart(command, copy, crate, names):
+def look_alone(command, copy, crate, names):
     """Stops unless a check of the functions that the edits change says nothing of them as they are."""
     with changed(copy) as texts:
         places = [place for name in names for place in make(copy, texts, FOLDER / crate / (name + '.edit'))]
     lines = check(command + [word for _, function in places for word in ('--only', function)], copy)[1]
     wrong = [line for line in told_of(lines) if any(is_about(line, copy, *at) for at in places)]
     if wrong or not lines[-1].startswith('only='):
-        raise SystemExit('a production apart, as it is: ' + (wrong or lines[-1:])[0])
+        raise SystemExit('a production by itself, as it is: ' + (wrong or lines[-1:])[0])
 
 
 def try_together(command, copy, crate, names):

@@ -1,11 +1,11 @@
 #!/usr/bin/env python3
 """Makes a copy of swc_productions in which each production is proved by itself.
 
-    tests/apart.py FOLDER     the copy is FOLDER, which must not be there
+    tests/alone.py FOLDER     the copy is FOLDER, which must not be there
 
 In the crate all productions call one another, and the prover checks them as one proof: twenty minutes after any change. In the copy `src/ring.rt` has
-their contracts alone, with bodies that stop. The bodies are in `src/apart.rt`, each as a function `NAME_apart` that calls those of `ring`, with its
-answers in `proofs/apart`. So `--only NAME_apart --allow-holes` checks one in a minute or two: what it ensures, if all others do what their contracts
+their contracts alone, with bodies that stop. The bodies are in `src/alone.rt`, each as a function `NAME_alone` that calls those of `ring`, with its
+answers in `proofs/alone`. So `--only NAME_alone --allow-holes` checks one in a minute or two: what it ensures, if all others do what their contracts
 say, but not the measure that all have in common.
 """
 import re
@@ -15,7 +15,7 @@ from pathlib import Path
 
 CRATE = Path(__file__).parent.parent / 'crates/swc_productions'
 RING = 'proofs/ring/+productions'
-SUFFIX = '_apart'
+SUFFIX = '_alone'
 # A production: its doc comment and attributes, its first line and contract, and its body.
 PRODUCTION = re.compile(r'((?:^///.*\n|^#\[.*\n)*^#\[cycle\(productions\)\]\n(?:^#\[.*\n)*)'
                         r'^(pub )?fn (\w+)(<.*\n(?:(?!\{\n).*\n)*)(\{\n(?:(?!\}\n).*\n)*\}\n)', re.M)
@@ -26,16 +26,16 @@ ABOUT = re.compile(r'^(?:abbrev )?pub (?:invariant-|decreases-)?(\w+)\S*\s+:\s+g
 CONSTRUCTORS = re.compile(r'^use Rattle\.swc_productions\.proofs\.ring\.\+productions\.Goals\.\{(\w+)-.*\n', re.M)
 
 
-def take_apart(crate):
+def separate(crate):
     """Changes the copy of the crate, and answers the names of its productions."""
     ring = (crate / 'src/ring.rt').read_text(encoding='utf-8')
     names = [found[3] for found in PRODUCTION.finditer(ring)]
-    alone = PRODUCTION.sub(lambda it: 'pub fn %s%s%s%s' % (it[3], SUFFIX, it[4], it[5]), ring)
+    bodies = PRODUCTION.sub(lambda it: 'pub fn %s%s%s%s' % (it[3], SUFFIX, it[4], it[5]), ring)
     imports = 'use crate::ring::{%s};\n' % ', '.join(names)
-    write(crate / 'src/apart.rt', re.sub(r'^use ', lambda it: imports + it[0], alone, count=1, flags=re.M))
+    write(crate / 'src/alone.rt', re.sub(r'^use ', lambda it: imports + it[0], bodies, count=1, flags=re.M))
     write(crate / 'src/ring.rt', PRODUCTION.sub(lambda it: 'pub fn %s%s%s' % (it[3], it[4], STOP), ring))
     root = crate / 'src/lib.rt'
-    write(root, root.read_text(encoding='utf-8') + 'pub mod apart;\n')
+    write(root, root.read_text(encoding='utf-8') + 'pub mod alone;\n')
     for name in names:
         write(crate / 'proofs/ring' / name / 'Answers.antt', HOLE % name)
     for kind in ('Answers', 'Invariants'):
@@ -45,8 +45,8 @@ def take_apart(crate):
 
 
 def place_of(crate, path):
-    """Where the bodies are that a path has, in a crate that may be taken apart."""
-    return 'src/apart.rt' if path == 'src/ring.rt' and (crate / 'src/apart.rt').exists() else path
+    """Where the bodies are that a path has, in a crate whose productions may be separate."""
+    return 'src/alone.rt' if path == 'src/ring.rt' and (crate / 'src/alone.rt').exists() else path
 
 
 def part_proofs(crate, kind, text):
@@ -57,15 +57,15 @@ def part_proofs(crate, kind, text):
         parts.setdefault(ABOUT.match(part)[1], []).append(part)
     for name, about in parts.items():
         measure = 'abbrev pub decreases-%s :' % name
-        kept = [alone(part, name) for part in about if not part.startswith(measure)]
+        kept = [renamed(part, name) for part in about if not part.startswith(measure)]
         if kept:
             own = CONSTRUCTORS.sub(lambda it: it[0].replace(name + '-', '') if it[1] == name else '', head + '\n')
-            own = own.replace('proofs.ring.+productions.', 'proofs.apart.%s%s.' % (name, SUFFIX))
-            write(crate / 'proofs/apart' / (name + SUFFIX) / (kind + '.antt'), '\n\n'.join([own.rstrip(), *kept]) + '\n')
+            own = own.replace('proofs.ring.+productions.', 'proofs.alone.%s%s.' % (name, SUFFIX))
+            write(crate / 'proofs/alone' / (name + SUFFIX) / (kind + '.antt'), '\n\n'.join([own.rstrip(), *kept]) + '\n')
 
 
-def alone(part, name):
-    """The text for the production by itself: names aren't said to be its own, and no other production's proof is passed."""
+def renamed(part, name):
+    """The text for the production by itself: no name says whose it is, and no proof of the others is passed."""
     part = re.sub(r'(?<![\w.+-])((?:invariant-|decreases-)?)%s-' % name, r'\1', part)
     part = re.sub(r'\bgoal\.((?:invariant-|decreases-)?)%s-' % name, r'goal.\1', part)
     return re.sub(r'^(\S+) g t c =', r'\1 g c =', part, flags=re.M)
@@ -83,7 +83,7 @@ def main():
     for part in ('src', 'specs', 'proofs'):
         if (CRATE / part).is_dir():
             shutil.copytree(CRATE / part, copy / part)
-    print(*take_apart(copy))
+    print(*separate(copy))
 
 
 if __name__ == '__main__':
