@@ -2,6 +2,8 @@
 ghost use Rattle.std.specs.Prelude.{◌<◌, length, IfSome, IsSome};
 
 use std::alloc::{AllocError, Global};
+use swc_context::operator::BinOpToken;
+use swc_context::span::Span;
 use swc_context::word::{Keyword, Word};
 use swc_input::token::{Token, TokenAndSpan};
 
@@ -165,13 +167,36 @@ impl Bracketed {
         (next > at).then_some(next)
     }
 
+    /// The number of `function` or `class`, with which the body begins, or which is after its `async`.
+    fn keyword(&self, first: usize) -> Option<usize> {
+        match &self.get(first)?.token {
+            Token::Word(Word::Keyword(Keyword::Class | Keyword::Function)) => Some(first),
+            _ => first.checked_add(1),
+        }
+    }
+
     /// The number of the `{` of the body that begins with the token, a function, a class or a block.
     fn brace(&self, first: usize) -> Option<usize> {
         match &self.get(first)?.token {
             Token::LBrace => Some(first),
-            Token::Word(Word::Keyword(Keyword::Class | Keyword::Function)) => self.partner(first),
-            _ => self.partner(first.checked_add(1)?),
+            _ => self.partner(self.keyword(first)?),
         }
+    }
+
+    /// The place of what is in place of the name of the function or the class that begins with the token, if it has
+    /// none.
+    pub fn missing_name(&self, first: usize) -> Option<Span> {
+        let after = self.keyword(first)?.checked_add(1)?;
+        let name = match &self.get(after)?.token {
+            Token::BinOp(BinOpToken::Mul) => after.checked_add(1)?,
+            _ => after,
+        };
+        let found = self.get(name)?;
+        let is_missing = matches!(
+            &found.token,
+            Token::LParen | Token::LBrace | Token::Word(Word::Keyword(Keyword::Extends))
+        );
+        is_missing.then_some(found.span)
     }
 
     /// The numbers of the braces of the body that begins with the token: a function, from `function` or from `async`; a

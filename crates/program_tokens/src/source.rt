@@ -5,7 +5,7 @@ use crate::brackets::Bracketed;
 use std::alloc::{AllocError, Global};
 use swc_context::context::{Context, EsVersion, Syntax, TokenContexts};
 use swc_context::error::Error;
-use swc_context::span::BytePos;
+use swc_context::span::{BytePos, Span};
 use swc_input::listed::TokensInput;
 use swc_input::token::TokenAndSpan;
 use swc_input::tokens::Tokens;
@@ -88,6 +88,11 @@ impl ProgramInput {
     /// is one of a class (ECMA-262, 15.7), and the body of no function.
     pub fn is_after_static(&self, start: BytePos) -> bool {
         self.list.is_after_static(self.list.index_of(start.0))
+    }
+
+    /// The place of what is in place of the name of the function or the class that begins there, if it has none.
+    pub fn missing_name(&self, start: BytePos) -> Option<Span> {
+        self.list.missing_name(self.list.index_of(start.0))
     }
 
     /// Notes a number or an escape of old scripts (ECMA-262, 12.9.3.1 and 12.9.4.1), which strict code has none of.

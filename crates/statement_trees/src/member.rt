@@ -108,13 +108,14 @@ impl Reader {
     {
         let is_async = self.eat_modifier("async");
         let is_generator = self.eat(&STAR);
-        let is_getter = self.eat_modifier("get");
+        let is_plain = !is_async && !is_generator;
+        let is_getter = is_plain && self.eat_modifier("get");
         let modifiers = Modifiers {
             is_static,
             is_async,
             is_generator,
             is_getter,
-            is_setter: !is_getter && self.eat_modifier("set"),
+            is_setter: is_plain && !is_getter && self.eat_modifier("set"),
         };
         let key = self.key()?;
         if modifiers.is_method() || self.at(&Token::LParen) {

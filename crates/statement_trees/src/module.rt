@@ -336,6 +336,7 @@ impl Reader {
         let from = self.start();
         if self.at_function() {
             let function = self.read_fun()?;
+            self.check_name(function)?;
             self.finish(from, StatementKind::Function(function))?;
         } else {
             self.declaration(from)?;

@@ -9,7 +9,7 @@ use crate::tree::{StatementId, StatementKind, SwitchCase, VariableKind};
 use swc_ecma_parser::ast::ident::Ident;
 use swc_ecma_parser::context::context::Context;
 use swc_ecma_parser::context::error::{Error, PResult, SyntaxError, Wanted};
-use swc_ecma_parser::context::span::BytePos;
+use swc_ecma_parser::context::span::{BytePos, Span};
 use swc_ecma_parser::context::word::Keyword;
 use swc_ecma_parser::input::token::Token;
 use swc_ecma_parser::nodes::node::ExprId;
@@ -313,6 +313,7 @@ impl Reader {
         let kind = match self.keyword() {
             Some(Keyword::Class) => {
                 let class = self.read_class()?;
+                self.check_name(class)?;
                 return self.finish(start, StatementKind::Class(class));
             }
             Some(Keyword::Let) => VariableKind::Let,
@@ -323,6 +324,17 @@ impl Reader {
         self.end_statement()?;
         variables.span = self.span_from(start);
         self.finish(start, StatementKind::Variables(variables))
+    }
+
+    /// Refuses a declaration of a function or a class without a name, as `ExpectedIdent` at what is in its place.
+    pub(crate) fn check_name(&mut self, place: Span) -> PResult<()>
+        ensures context { context_of self.new ≡ context_of self.old }
+        ensures lower { work self.new ≤ work self.old }
+    {
+        match self.parser.input().missing_name(place.lo) {
+            Some(span) => Err(Error::new(span, SyntaxError::ExpectedIdent)),
+            None => Ok(()),
+        }
     }
 
     /// A statement that begins with no keyword of its own, up to its first part.
@@ -338,6 +350,7 @@ impl Reader {
         }
         if self.at_function() {
             let function = self.read_fun()?;
+            self.check_name(function)?;
             return self.finish(start, StatementKind::Function(function));
         }
         if self.at_label() {
