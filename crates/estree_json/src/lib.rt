@@ -6,6 +6,9 @@
 //!
 //! Beyond acorn, attributes of imports and exports are written as ESTree has them from 2025 on, and so are the options
 //! of an import by an expression.
+//!
+//! Where the parser's trees aren't those of ECMA-262, what is written isn't acorn's: an array pattern has no holes at its
+//! end, and in scripts `await x` is an operator.
 #![tactic(auto)]
 
 mod function;
