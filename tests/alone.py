@@ -11,6 +11,7 @@ say, but not the measure that all have in common.
 import re
 import shutil
 import sys
+from itertools import accumulate
 from pathlib import Path
 
 CRATE = Path(__file__).parent.parent / 'crates/swc_productions'
@@ -38,8 +39,9 @@ def separate(crate):
     write(root, root.read_text(encoding='utf-8') + 'pub mod alone;\n')
     for name in names:
         write(crate / 'proofs/ring' / name / 'Answers.antt', HOLE % name)
+    asked_by = {found[3]: re.findall(r'^    requires (\w+) ', found[4], re.M) for found in PRODUCTION.finditer(ring)}
     for kind in ('Answers', 'Invariants'):
-        part_proofs(crate, kind, (crate / RING / (kind + '.antt')).read_text(encoding='utf-8'))
+        part_proofs(crate, kind, (crate / RING / (kind + '.antt')).read_text(encoding='utf-8'), asked_by)
     shutil.rmtree(crate / RING)
     return names
 
@@ -49,7 +51,7 @@ def place_of(crate, path):
     return 'src/alone.rt' if path == 'src/ring.rt' and (crate / 'src/alone.rt').exists() else path
 
 
-def part_proofs(crate, kind, text):
+def part_proofs(crate, kind, text, asked_by):
     """Writes the answers or the invariants of each production to a file of its own."""
     head, *others = re.split(r'\n\n(?=(?:abbrev )?pub )', text)
     parts = {}
@@ -57,15 +59,40 @@ def part_proofs(crate, kind, text):
         parts.setdefault(ABOUT.match(part)[1], []).append(part)
     for name, about in parts.items():
         measure = 'abbrev pub decreases-%s :' % name
-        kept = [renamed(part, name) for part in about if not part.startswith(measure)]
+        kept = [renamed(part, name, asked_by) for part in about if not part.startswith(measure)]
         if kept:
             own = CONSTRUCTORS.sub(lambda it: it[0].replace(name + '-', '') if it[1] == name else '', head + '\n')
             own = own.replace('proofs.ring.+productions.', 'proofs.alone.%s%s.' % (name, SUFFIX))
             write(crate / 'proofs/alone' / (name + SUFFIX) / (kind + '.antt'), '\n\n'.join([own.rstrip(), *kept]) + '\n')
 
 
-def renamed(part, name):
+def without_measure(part, asked_by):
+    """The answer for what a call asks, without the measure and the other facts that a call within the ring asks before it."""
+    head, found, rest = part.partition('λ κs outlives.')
+    if not found:
+        return part
+    opened = re.match(r'(?:\s*\(\s*search rules,)*', rest)[0]
+    asked, *comments = rest[len(opened):].split('\n\n')
+    for _ in range(opened.count('(')):
+        asked = re.sub(r',?\s*\)\s*$', '', asked)
+    facts = facts_of(asked.strip(), asked_by.get(re.match(r'pub \w+?-(\w+)', part)[1], []))
+    return '\n\n'.join(['%s(%s)' % (head, facts), *comments])
+
+
+def facts_of(text, names):
+    """The fact, or those of all the names as a record: they are pairs within the ring, as `(a, (b, c))`."""
+    facts = []
+    for name in names[:-1]:
+        depths = accumulate((char in '([{') - (char in ')]}') for char in text)
+        comma = next(at for at, (char, depth) in enumerate(zip(text, depths)) if char == ',' and depth == 1)
+        facts.append('%s = %s' % (name, text[1:comma].strip()))
+        text = re.sub(r',?\s*\)$', '', text[comma + 1:].strip())
+    return 'record { %s; }' % '; '.join([*facts, '%s = %s' % (names[-1], text)]) if facts else text
+
+
+def renamed(part, name, asked_by):
     """The text for the production by itself: no name says whose it is, and no proof of the others is passed."""
+    part = without_measure(part, asked_by)
     part = re.sub(r'(?<![\w.+-])((?:invariant-|decreases-)?)%s-' % name, r'\1', part)
     part = re.sub(r'\bgoal\.((?:invariant-|decreases-)?)%s-' % name, r'goal.\1', part)
     return re.sub(r'^(\S+) g t c =', r'\1 g c =', part, flags=re.M)
