@@ -87,7 +87,7 @@ def facts_of(text, names):
         comma = next(at for at, (char, depth) in enumerate(zip(text, depths)) if char == ',' and depth == 1)
         facts.append('%s = %s' % (name, text[1:comma].strip()))
         text = re.sub(r',?\s*\)$', '', text[comma + 1:].strip())
-    return 'record { %s; }' % '; '.join([*facts, '%s = %s' % (names[-1], text)]) if facts else text
+    return 'record { %s; }' % '; '.join([*facts, '%s = %s' % (names[-1], text)]) if names else text
 
 
 def renamed(part, name, asked_by):
