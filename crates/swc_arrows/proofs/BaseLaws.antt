@@ -22,7 +22,8 @@ use Rattle.swc_grammar.proofs.{Good.valid, Induct.follows-given}
 use Rattle.swc_nodes.specs.GrowingNodes.{first_start, last_end, Apart}
 use Rattle.swc_nodes.specs.{NodeParts.args_parts, declared.node.ExprId.ExprId, declared.nodes.Nodes.Nodes}
 use Rattle.swc_steps.specs.Args.{args_inside, paren_closed, paren_of, paren_from}
-use Rattle.swc_steps.specs.Parsing.{scope, args_at, Here, Told, On, Heard}
+use Rattle.swc_input.specs.Calls.{Here}
+use Rattle.swc_steps.specs.Parsing.{scope, args_at, Told, On, Heard}
 use Rattle.swc_steps.specs.{Keys.expected, Keys.expected_by, Lists.eaten, Lists.eaten_by, declared.tokens.Listed.Listed}
 use Rattle.swc_steps.proofs.Steps.{Reader, give, on_call_read, on_then, on_told, heard_after, heard_more}
 use Rattle.swc_steps.proofs.{Args.inside_args, Steps.Inner.inner_is}

@@ -4,7 +4,8 @@ use Rattle.std.proofs.lemmas.Bool.{cases_lt}
 use Rattle.swc_context.specs.declared.error.Error.{Error}
 use Rattle.swc_input.specs.{declared.buffer.Buffer.Buffer, declared.token.TokenAndSpan.TokenAndSpan, Source.Model, Laws.Known-after, Laws.Known-Future}
 use Rattle.swc_grammar.specs.{Scope.Scope, Clean.Out, Clean.first, Words.◌>>=◌}
-use Rattle.swc_steps.specs.Parsing.{scope, recorded, seen, Loud, Leads, Here, Refuses, Tries, On, Heard, Unheard}
+use Rattle.swc_input.specs.Calls.{recorded, Loud, Leads, Here, Refuses, Tries}
+use Rattle.swc_steps.specs.Parsing.{scope, seen, On, Heard, Unheard}
 use Rattle.swc_steps.proofs.Steps.{Reader, onward_then, onward_later, more_recorded, loud_after, refuses_later, forgoes_later, on_seen}
 use Rattle.swc_steps.proofs.{Steps.Calls.on_call, Steps.Calls.on_call_read, Steps.Consumed.leads_then, Steps.Consumed.spent, Steps.Tokens.on_then}
 use Rattle.swc_arrows.specs.Answers.{Doomed, Fails, Opens}

@@ -9,7 +9,8 @@ use Rattle.swc_grammar.specs.{Arrows.is_block, Arrows.is_sign, Clean.Out, Clean.
 use Rattle.swc_nodes.specs.GrowingNodes.{count, seat_before, tree_at, Apart, From, Grows, Made}
 use Rattle.swc_nodes.specs.{NodeParts.expr_part, NodeParts.body_parts, NodeTree.marked_tree, declared.node.ExprId.ExprId, declared.node.Node.Node, declared.node.Node.Node as n, declared.nodes.Nodes.Nodes}
 use Rattle.swc_nodes.proofs.{ArrowNodes.body-from, Lists.apart-none, Standing.get_stood}
-use Rattle.swc_steps.specs.Parsing.{scope, seen, breaks_at, recorded, Here, Loud, On, Tries, Unheard, by_hook}
+use Rattle.swc_input.specs.Calls.{recorded, Here, Loud, Tries}
+use Rattle.swc_steps.specs.Parsing.{scope, seen, breaks_at, On, Unheard, by_hook}
 use Rattle.swc_steps.specs.declared.productions.Productions.{Productions}
 use Rattle.swc_steps.proofs.Steps.{Reader, less, on_answer}
 use Rattle.swc_arrows.specs.Answers.{has_block, body_at, Doomed, EndsArrow}

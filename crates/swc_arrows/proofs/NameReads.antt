@@ -14,7 +14,8 @@ use Rattle.swc_nodes.specs.declared.node.PatId.{PatId}
 use Rattle.swc_nodes.proofs.{Held.apart-from, Standing.grows-then}
 use Rattle.swc_patterns.specs.{Answers.Leaves, Arrays.plain_pat}
 use Rattle.swc_patterns.proofs.PartlyRead.{left}
-use Rattle.swc_steps.specs.Parsing.{breaks_at, scope, seen, seen_of, Here, Tells, On, Unheard}
+use Rattle.swc_input.specs.Calls.{Here}
+use Rattle.swc_steps.specs.Parsing.{breaks_at, scope, seen, seen_of, Tells, On, Unheard}
 use Rattle.swc_steps.specs.{Keys.expected, declared.productions.Productions.Productions}
 use Rattle.swc_steps.proofs.Steps.{Reader, give, less, read_scope, here_leads, forgoes_later, forgoes_here, on_told, unheard_after, unheard_memory}
 use Rattle.swc_steps.proofs.{Lists.binds, Steps.Consumed.here, Steps.Tokens.on_then}

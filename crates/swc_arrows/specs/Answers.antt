@@ -10,7 +10,8 @@ use Rattle.swc_grammar.specs.{Reads.Reads, Scope.Scope, Symbols.Left, Tokens.is_
 use Rattle.swc_nodes.specs.GrowingNodes.{tree_at, Apart, From, Grows}
 use Rattle.swc_nodes.specs.NodeParts.{Part, body_parts, expr_part, one_expr}
 use Rattle.swc_nodes.specs.{Lists.pats_parts, Lists.pat_trees, declared.node.ExprId.ExprId, declared.node.PatId.PatId, declared.nodes.Nodes.Nodes}
-use Rattle.swc_steps.specs.Parsing.{scope, recorded, Loud, Leads, Onward, On, Heard, Unheard}
+use Rattle.swc_input.specs.Calls.{recorded, Loud, Leads}
+use Rattle.swc_steps.specs.Parsing.{scope, Onward, On, Heard, Unheard}
 use Rattle.swc_steps.specs.declared.productions.Productions.{Productions}
 use Rattle.swc_arrows.specs.Readers.{others, base_behind, arrow_behind, list_rest, no_sign, operand_behind}
 use Rattle.swc_arrows.specs.{declared.bodies.ArrowOrBase.ArrowOrBase, declared.bodies.ArrowOrBase.ArrowOrBase as arrow_or, declared.lists.ListStart.ListStart, declared.names.ArrowHead.ArrowHead, declared.names.Beginning.Beginning, declared.names.Beginning.Beginning as begins}

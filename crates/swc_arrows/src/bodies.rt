@@ -7,7 +7,8 @@ ghost use Rattle.swc_input.specs.Buffer.{context, current, to_come};
 ghost use Rattle.swc_input.specs.Kinds.{at_token};
 ghost use Rattle.swc_nodes.specs.GrowingNodes.{count, tree_at, body_end, Apart};
 ghost use Rattle.swc_nodes.specs.{Lists.pats_parts, Lists.pat_trees, NodeParts.body_parts};
-ghost use Rattle.swc_steps.specs.Parsing.{seen, Looks, Moves, Produces, On, Tries, Unheard};
+ghost use Rattle.swc_input.specs.Calls.{Looks, Tries};
+ghost use Rattle.swc_steps.specs.Parsing.{seen, Moves, Produces, On, Unheard};
 ghost use Rattle.swc_arrows.specs.Answers.{has_block, body_at, body_of, EndsArrow, SignChecked};
 ghost use Rattle.swc_arrows.specs.Readers.{arrow_end, block_inside, no_sign, ends_statement, statement_ends};
 

@@ -6,7 +6,8 @@ ghost use Rattle.swc_input.specs.Buffer.{context, current, last_position, peeked
 ghost use Rattle.swc_input.specs.Kinds.{at_token};
 ghost use Rattle.swc_nodes.specs.GrowingNodes.{count};
 ghost use Rattle.swc_patterns.specs.Answers.{Leaves};
-ghost use Rattle.swc_steps.specs.Parsing.{seen, ident_spelling, Checked, ContinuesAlone, Tells};
+ghost use Rattle.swc_input.specs.Calls.{Checked};
+ghost use Rattle.swc_steps.specs.Parsing.{seen, ident_spelling, ContinuesAlone, Tells};
 ghost use Rattle.swc_arrows.specs.Answers.{beginning_of, beginning_behind, HearsBase, IsArrow, IsBase, OneParam, Opens};
 ghost use Rattle.swc_arrows.specs.Readers.{name_arrow, async_arrow, async_base, async_of, name_ok, of_alone, of_base, arrow_on_line};
 

@@ -8,7 +8,7 @@ use Rattle.swc_cover.specs.Faults.{Verdict, clean, Recorded}
 use Rattle.swc_cover.specs.{ReservedNames.has_none, Refining.ChecksWhole, Refining.Unfitting, declared.faults.Fault.Fault}
 use Rattle.swc_steps.proofs.Steps.{check_passes, checks_and, forgoes_here, forgoes_refuses, refuses_later, more_recorded, loud_after}
 use Rattle.swc_steps.proofs.{Ahead.is_some_none, Steps.Consumed.leads_then}
-use Rattle.swc_steps.specs.Parsing.{Checks, Forgoes, Leads, Loud, Refuses, recorded}
+use Rattle.swc_input.specs.Calls.{Checks, Forgoes, Leads, Loud, Refuses, recorded}
 
 -- ---- lists that are gone through
 

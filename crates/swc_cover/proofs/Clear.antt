@@ -8,7 +8,8 @@ use Rattle.swc_grammar.specs.Clean.{no_error}
 use Rattle.swc_cover.proofs.{Quiet.params-quiet, Quiet.quiet-params, Typed.quiet-as, Typed.fits-quietly}
 use Rattle.swc_cover.specs.Faults.{Verdict, Recorded, clean, params_verdict}
 use Rattle.swc_cover.specs.{Clear.is_clear, Fits.Binding, Fits.elems_fit, ReservedNames.has_none, ReservedNames.names_ok, PatTypes.fits_as, PatTypes.verdict_as, declared.faults.Fault.Fault, declared.pat_type.PatType.PatType}
-use Rattle.swc_steps.specs.Parsing.{Checks, seen_of}
+use Rattle.swc_input.specs.Calls.{Checks}
+use Rattle.swc_steps.specs.Parsing.{seen_of}
 use Rattle.swc_steps.proofs.Steps.{checks_and}
 
 and-true : (a : Bool) → (a && true) ≡ a

@@ -9,7 +9,7 @@ use Rattle.swc_grammar.specs.Cover.{binding, as_elements, arrow_params_ok}
 use Rattle.swc_nodes.specs.NodeParts.{pat_part, flat, item_parts}
 use Rattle.swc_nodes.specs.GrowingNodes.{count, seat_at, tree_at, first_at, Made}
 use Rattle.swc_nodes.specs.{NumberedTrees.floor, declared.node.ExprId.ExprId, declared.node.PatId.PatId, declared.nodes.Nodes.Nodes}
-use Rattle.swc_steps.specs.Parsing.{Leads, Loud, Refuses, recorded}
+use Rattle.swc_input.specs.Calls.{Leads, Loud, Refuses, recorded}
 use Rattle.swc_steps.specs.declared.productions.Productions.{Productions}
 
 module _ {S : Type 0} (model : Model S) where

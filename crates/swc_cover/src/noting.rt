@@ -10,7 +10,8 @@ ghost use Rattle.swc_input.specs.{Kinds.at_token, Recordings.NotesAll};
 ghost use Rattle.swc_grammar.specs.Clean.{no_error};
 ghost use Rattle.swc_nodes.specs.NodeParts.{expr_part, flat, item_parts};
 ghost use Rattle.swc_nodes.specs.GrowingNodes.{tree_at, Apart, From};
-ghost use Rattle.swc_steps.specs.Parsing.{Checked, Checks, Refuses, seen};
+ghost use Rattle.swc_input.specs.Calls.{Checked, Checks, Refuses};
+ghost use Rattle.swc_steps.specs.Parsing.{seen};
 
 use crate::faults::{Fault, FaultKind, find_faults, find_item_faults};
 use crate::pat_type::PatType;

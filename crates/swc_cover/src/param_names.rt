@@ -10,7 +10,7 @@ ghost use Rattle.swc_nodes.specs.NodeParts.{pat_part, one_pat, flat};
 ghost use Rattle.swc_nodes.specs.GrowingNodes.{tree_at, Apart, From};
 ghost use Rattle.swc_nodes.specs.Lists.{pat_props_trees, held_elem_tree, held_elem_trees};
 ghost use Rattle.swc_nodes.specs.NodeTree.{pat_prop_of, part_tree};
-ghost use Rattle.swc_steps.specs.Parsing.{Checked};
+ghost use Rattle.swc_input.specs.Calls.{Checked};
 
 use std::alloc::AllocError;
 use swc_ast::ident::BindingIdent;

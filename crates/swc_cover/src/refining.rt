@@ -8,7 +8,8 @@ ghost use Rattle.swc_cover.specs.{Clear.is_clear, Faults.params_verdict, Reserve
 ghost use Rattle.swc_grammar.specs.Clean.{no_error};
 ghost use Rattle.swc_input.specs.Kinds.{at_token};
 ghost use Rattle.swc_input.specs.Buffer.{context, current, to_come};
-ghost use Rattle.swc_steps.specs.Parsing.{Checks, seen};
+ghost use Rattle.swc_input.specs.Calls.{Checks};
+ghost use Rattle.swc_steps.specs.Parsing.{seen};
 ghost use Rattle.swc_nodes.specs.NodeParts.{expr_part, flat, item_parts};
 ghost use Rattle.swc_nodes.specs.GrowingNodes.{tree_at, Apart, From};
 

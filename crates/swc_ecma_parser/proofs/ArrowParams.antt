@@ -24,7 +24,8 @@ use Rattle.swc_cover.specs.{Clear.is_clear, Faults.params_verdict, Fits.Binding,
 use Rattle.swc_cover.proofs.{Bound.params-are, Clear.clear-items, Kept.grows-kept}
 use Rattle.swc_arrows.specs.Readers.{takes_params}
 use Rattle.swc_arrows.proofs.ListLaws.{Refines, refines_at}
-use Rattle.swc_steps.specs.Parsing.{scope, args_at, Checks, Heard, On, Produces, Refuses, Unheard}
+use Rattle.swc_input.specs.Calls.{Checks, Refuses}
+use Rattle.swc_steps.specs.Parsing.{scope, args_at, Heard, On, Produces, Unheard}
 use Rattle.swc_steps.specs.{Args.args_inside, Args.counted, Keys.expected, declared.productions.Productions.Productions, declared.tokens.Listed.Listed}
 use Rattle.swc_steps.proofs.{Building.apart-down, Building.apart-lower, Endings.read-valid, Keys.then_token, Lists.bind_same, Lists.binds, Steps.Reader, Steps.give, Steps.Calls.on_call_read, Steps.Tokens.heard_then}
 use Rattle.swc_steps.proofs.Making as making

@@ -6,7 +6,7 @@ use Rattle.swc_input.specs.Recording.{error_here, error_list, is_silent, no_memo
 use Rattle.swc_input.specs.Source.{Keeps, Laws, Model}
 use Rattle.swc_input.specs.{declared.buffer.Buffer.Buffer, declared.token.TokenAndSpan.TokenAndSpan, Recordings.RecordsAll}
 use Rattle.swc_ecma_parser.specs.Faults.{cover_faults}
-use Rattle.swc_steps.specs.Parsing.{recorded}
+use Rattle.swc_input.specs.Calls.{recorded}
 use Rattle.swc_steps.proofs.Steps.{check_passes}
 use Rattle.swc_ecma_parser.specs.Finishing.{no_places, ChecksCovers, ChecksItem}
 

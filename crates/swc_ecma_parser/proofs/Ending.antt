@@ -3,7 +3,7 @@ use Rattle.std.proofs.Common.{◌≡◌, Bool, true, false, None, Result, Ok, Er
 use Rattle.swc_context.specs.declared.error.Error.{Error}
 use Rattle.swc_input.specs.Buffer.{Looked, current, last_position, state_of}
 use Rattle.swc_input.specs.{declared.buffer.Buffer.Buffer, Source.Model, Recording.no_memory}
-use Rattle.swc_steps.specs.Parsing.{Looks}
+use Rattle.swc_input.specs.Calls.{Looks}
 use Rattle.swc_ecma_parser.specs.Calls.{SeesEnd}
 
 module _ {S : Type 0} {model : Model S} where

@@ -21,7 +21,8 @@ use Rattle.swc_nodes.specs.{NodeParts.expr_part, NodeParts.for_head_parts, decla
 use Rattle.swc_cover.specs.PatTypes.{stands_whole, verdict_as, want_as}
 use Rattle.swc_cover.specs.{Clear.is_clear, declared.pat_type.PatType.TheVariants.AssignPat}
 use Rattle.swc_cover.proofs.{Formed.Formed, Clear.clear-fits, Refines.expr-formed, Ties.pattern-is}
-use Rattle.swc_steps.specs.Parsing.{scope, recorded, seen, tree_of, Checks, Heard, Here, Leads, Loud, On, Parses, Refuses, Unheard}
+use Rattle.swc_input.specs.Calls.{recorded, Checks, Here, Leads, Loud, Refuses}
+use Rattle.swc_steps.specs.Parsing.{scope, seen, tree_of, Heard, On, Parses, Unheard}
 use Rattle.swc_steps.proofs.Steps.{Reader, give, consumes_of, more_recorded, read_scope}
 use Rattle.swc_steps.proofs.{Endings.read-valid, Steps.Calls.on_call_read}
 use Rattle.swc_ecma_parser.specs.{CoverNames.covers_left, CoverNames.parts_covers_left, declared.parser.Parser.Parser}

@@ -19,7 +19,8 @@ use Rattle.swc_nodes.specs.GrowingNodes.{tree_at, bare_at, Apart, CutTo}
 use Rattle.swc_nodes.specs.{NodeParts.flat, NodeParts.param_parts, declared.commas.TrailingCommas.TrailingCommas, declared.node.PatId.PatId, declared.nodes.Nodes.Nodes}
 use Rattle.swc_steps.specs.Params.{params_at, params_of, params_close}
 use Rattle.swc_patterns.specs.ParamsRead.{AllReadAlone}
-use Rattle.swc_steps.specs.Parsing.{scope, recorded, Checks, Loud, Acts, On, Unheard}
+use Rattle.swc_input.specs.Calls.{recorded, Checks, Loud}
+use Rattle.swc_steps.specs.Parsing.{scope, Acts, On, Unheard}
 use Rattle.swc_steps.specs.{Keys.expected, Lists.eaten}
 use Rattle.swc_steps.proofs.Hearing.{same_faults}
 use Rattle.swc_steps.proofs.Steps.{Reader, forgoes_later, forgoes_refuses, on_checked_in, on_then, on_within_call, spent, more_recorded, unheard_call, unheard_memory}

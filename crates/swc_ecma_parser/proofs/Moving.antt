@@ -17,7 +17,8 @@ use Rattle.swc_nodes.specs.Commas as recall
 use Rattle.swc_nodes.specs.declared.node.Node.TheVariants as n
 use Rattle.swc_nodes.proofs.{Chains.chain-down, Chains.floor-under, Standing.cut_kept, Standing.grows-same, Unmarked.unmarked-node}
 use Rattle.swc_steps.specs.declared.tokens.Listed.{Listed}
-use Rattle.swc_steps.specs.Parsing.{args_at, Loud, Heard, Unheard, Parses}
+use Rattle.swc_input.specs.Calls.{Loud}
+use Rattle.swc_steps.specs.Parsing.{args_at, Heard, Unheard, Parses}
 use Rattle.swc_productions.specs.Pieces.{tpl_at}
 use Rattle.swc_steps.proofs.Steps.{Reader, spent, heard_call, unheard_call, unheard_memory}
 use Rattle.swc_ecma_parser.specs.Calls.{tree_by, Kept}

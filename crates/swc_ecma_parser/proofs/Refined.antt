@@ -11,7 +11,8 @@ use Rattle.swc_ast.specs.declared.spanned.Spanned.{Ghosts}
 use Rattle.swc_nodes.specs.GrowingNodes.{count, CutTo, SameNodes}
 use Rattle.swc_nodes.specs.{NodeParts.Part, declared.commas.TrailingCommas.TrailingCommas, declared.node.PatId.PatId, declared.nodes.Nodes.Nodes}
 use Rattle.swc_cover.specs.Moving.{KeptTo}
-use Rattle.swc_steps.specs.Parsing.{Acts, Loud}
+use Rattle.swc_input.specs.Calls.{Loud}
+use Rattle.swc_steps.specs.Parsing.{Acts}
 use Rattle.swc_steps.proofs.{Hearing.same_faults, Steps.spent, Steps.forgoes_refuses}
 use Rattle.swc_ecma_parser.specs.Calls.{buffer_of, nodes_of, commas_of, has_failed, wants_memory, parser_failed, pats_tree}
 use Rattle.swc_ecma_parser.specs.{Promise.Unmarred, Refinement.PromisedRefinement, Refinement.Recasts, declared.parser.Parser.Parser}

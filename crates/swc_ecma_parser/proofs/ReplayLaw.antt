@@ -15,7 +15,8 @@ use Rattle.swc_grammar.specs.{Scope.Scope, Symbols.Expr}
 use Rattle.swc_grammar.proofs.One.{one-reading}
 use Rattle.swc_laws.specs.Replay.{Joined}
 use Rattle.swc_laws.proofs.{Replay.replay, Wanted.replay-wanted}
-use Rattle.swc_steps.specs.Parsing.{Here, Loud, scope, scope_of}
+use Rattle.swc_input.specs.Calls.{Here, Loud}
+use Rattle.swc_steps.specs.Parsing.{scope, scope_of}
 use Rattle.swc_steps.proofs.Hearing.{same_faults}
 use Rattle.swc_ecma_parser.specs.BothWays.{Fresh, Left, faults}
 use Rattle.swc_ecma_parser.specs.Promise.{Derives, Finished, Promised, Unmarred, covers_done, in_boxes}

@@ -5,7 +5,7 @@ use Rattle.swc_context.specs.{declared.error.Error.Error, declared.span.Span.Spa
 use Rattle.swc_input.specs.{Recordings.Judges, Recordings.NotesAll, Source.Model, Source.Laws, declared.buffer.Buffer.Buffer}
 use Rattle.swc_ast.specs.Tree.{Tree, Trees, nil, cons, trees}
 use Rattle.swc_steps.proofs.Emitted.{notes-none, notes-then}
-use Rattle.swc_steps.specs.Parsing.{Leads}
+use Rattle.swc_input.specs.Calls.{Leads}
 use Rattle.swc_patterns.specs.RestFaults.{earlier_faults, faults_before, last_faults, last_refused, last_rest, rest_at, rests_faults, rests_refused}
 use Rattle.swc_patterns.specs.declared.object.RestProp.{RestProp}
 

@@ -16,7 +16,8 @@ use Rattle.swc_grammar.proofs.Complete as clean_all
 use Rattle.swc_grammar.proofs.Complete.{stops-expr, stops-assign, stops-level, stops-unary, stops-element}
 use Rattle.swc_grammar.proofs.{Cut.cut-append, Good.grouped, Good.valid, Literals.literal-read, Marks.same-grouped, Marks.same-valid}
 use Rattle.swc_laws.proofs.{PedanticTrees.privates-unmarked, Privates.privates}
-use Rattle.swc_steps.specs.Parsing.{scope, recorded, Loud, Consumes, Heard, Parses, TookLiteral}
+use Rattle.swc_input.specs.Calls.{recorded, Loud}
+use Rattle.swc_steps.specs.Parsing.{scope, Consumes, Heard, Parses, TookLiteral}
 use Rattle.swc_ecma_parser.specs.Promise.{Derivation, Anywhere, EndsAt, Unmarred, Derives, DerivesOnly, Sound, Complete, OneTree, Grouped, Valid, PrivatesPlaced, PromisedLit, only_items, items_and_comma, ReadsAs}
 use Rattle.swc_steps.proofs.{Hearing.same_faults, Steps.Reader, Steps.consumes_of}
 use Rattle.swc_ecma_parser.proofs.Placed.{PrivatesLeft}

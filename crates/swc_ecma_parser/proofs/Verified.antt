@@ -9,7 +9,7 @@ use Rattle.swc_nodes.specs.GrowingNodes.{bare_at, tree_at, Made, SameNodes}
 use Rattle.swc_nodes.specs.{NodeParts.expr_part, declared.commas.TrailingCommas.TrailingCommas, declared.node.ExprId.ExprId, declared.nodes.Nodes.Nodes}
 use Rattle.swc_ecma_parser.specs.{CoverNames.cover_names, declared.parser.Parser.Parser}
 use Rattle.swc_ecma_parser.specs.Faults.{cover_faults, begins_fit, Appends}
-use Rattle.swc_steps.specs.Parsing.{Loud, Tries}
+use Rattle.swc_input.specs.Calls.{Loud, Tries}
 use Rattle.swc_steps.proofs.Steps.{spent}
 use Rattle.swc_ecma_parser.specs.Calls.{buffer_of, nodes_of, commas_of, has_failed, wants_memory}
 use Rattle.swc_ecma_parser.specs.Verification.{PromisedVerification, RecordsFaults, TriesFaults}

@@ -11,7 +11,8 @@ use Rattle.swc_ast.specs.{Tree.Tree, declared.spanned.Spanned.Ghosts}
 use Rattle.swc_bodies.specs.Readings.{Hook}
 use Rattle.swc_grammar.specs.{Scope.Scope, Symbols.Symbol, Reads.Reads}
 use Rattle.swc_nodes.specs.{NodeParts.Part, declared.nodes.Nodes.Nodes}
-use Rattle.swc_steps.specs.Parsing.{scope_of, scope, Loud}
+use Rattle.swc_input.specs.Calls.{Loud}
+use Rattle.swc_steps.specs.Parsing.{scope_of, scope}
 use Rattle.swc_ecma_parser.specs.Calls.{buffer_of, has_failed, nodes_of, with_bound}
 use Rattle.swc_ecma_parser.specs.Promise.{EndsAt, Finished, Unmarred, covers_done}
 use Rattle.swc_ecma_parser.specs.WholeList.{plain_list, IsHeeded, Headline, Lists, Tries, tried, refused, lost}

@@ -9,7 +9,8 @@ use Rattle.swc_ast.specs.{TreeOf.pat_tree, declared.function.Param.Param, declar
 use Rattle.swc_bodies.specs.Readings.{Hook}
 use Rattle.swc_grammar.specs.{Clean.first, Patterns.all_bind_names, Symbols.ArrowParams, Tokens.is_lparen, Tokens.is_rparen}
 use Rattle.swc_laws.specs.Bound.{Spelled, is_free_name, is_kept_name}
-use Rattle.swc_steps.specs.Parsing.{scope, scope_of, Loud}
+use Rattle.swc_input.specs.Calls.{Loud}
+use Rattle.swc_steps.specs.Parsing.{scope, scope_of}
 use Rattle.swc_ecma_parser.specs.Promise.{Promised, PromisedParams, arrow_params_in_boxes, params_in_boxes, pats_of}
 use Rattle.swc_ecma_parser.specs.{Calls.buffer_of, Calls.has_failed, WholeList.IsHeeded, declared.parser.Parser.Parser}
 

@@ -10,7 +10,8 @@ use Rattle.swc_ast.specs.{Parts.param_tree, declared.expr.Expr.Expr, declared.fu
 use Rattle.swc_nodes.specs.Commas.{Remembers, Recalls, part_commas}
 use Rattle.swc_nodes.specs.{NodeParts.Part, declared.commas.TrailingCommas.TrailingCommas, declared.nodes.Nodes.Nodes, GrowingNodes.tree_at, GrowingNodes.bare_at}
 use Rattle.swc_patterns.specs.{Objects.rests_checked, Objects.props_stage, RestFaults.rests_faults, RestFaults.rests_refused}
-use Rattle.swc_steps.specs.Parsing.{is_memory, ContinuesAlone, Looks}
+use Rattle.swc_input.specs.Calls.{Looks}
+use Rattle.swc_steps.specs.Parsing.{is_memory, ContinuesAlone}
 use Rattle.swc_ecma_parser.specs.declared.parser.Parser.{Parser}
 
 -- the buffer that a parser reads from

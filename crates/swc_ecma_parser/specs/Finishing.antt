@@ -5,7 +5,8 @@ use Rattle.swc_input.specs.{Buffer.last_position, Buffer.state_of, Recording.is_
 use Rattle.swc_ast.specs.{Tree.Tree, declared.spanned.Spanned.Ghosts}
 use Rattle.swc_grammar.specs.Scope.{Scope}
 use Rattle.swc_nodes.specs.{GrowingNodes.tree_at, GrowingNodes.CutTo, NodeParts.Part}
-use Rattle.swc_steps.specs.Parsing.{scope, Checks, Forgoes}
+use Rattle.swc_input.specs.Calls.{Checks, Forgoes}
+use Rattle.swc_steps.specs.Parsing.{scope}
 use Rattle.swc_ecma_parser.specs.{CoverNames.parts_covers_left, declared.parser.Parser.Parser}
 use Rattle.swc_ecma_parser.specs.Calls.{buffer_of, nodes_of, has_failed, wants_memory, with_buffer, Kept, MovesOut, RemembersParts}
 

@@ -14,7 +14,8 @@ use Rattle.swc_grammar.specs.ForHead.{ForHead, for_target, for_expr, for_context
 use Rattle.swc_grammar.specs.{Arrows.is_of, Reads.Reads, Reads.ReadsUnmarked, Scope.Scope, Symbols.Symbol, Symbols.Expr}
 use Rattle.swc_nodes.specs.GrowingNodes.{tree_at, Apart, SameNodes}
 use Rattle.swc_nodes.specs.{Commas.commas_in, Commas.Recalls, NodeParts.for_head_parts, declared.commas.TrailingCommas.TrailingCommas, declared.node.ForHeadId.ForHeadId, declared.node.ForHeadId.ForHeadId as number, declared.nodes.Nodes.Nodes}
-use Rattle.swc_steps.specs.Parsing.{scope, seen, Loud, Consumes}
+use Rattle.swc_input.specs.Calls.{Loud}
+use Rattle.swc_steps.specs.Parsing.{scope, seen, Consumes}
 use Rattle.swc_ecma_parser.specs.Calls.{buffer_of, nodes_of, commas_of, tree_by, has_failed, wants_memory, parser_failed}
 use Rattle.swc_ecma_parser.specs.Promise.{Answer, AddsParts, Complete, Derivation, Finished, Promised, Unmarred, covers_done}
 use Rattle.swc_ecma_parser.specs.declared.parser.Parser.{Parser}

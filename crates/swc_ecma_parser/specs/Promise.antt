@@ -27,7 +27,8 @@ use Rattle.swc_nodes.specs.NodeParts.{Part, expr_part, pat_part, key_parts, para
 use Rattle.swc_nodes.specs.GrowingNodes.{count, Apart, From, Grows, SameNodes}
 use Rattle.swc_nodes.specs.{Lists.pats_parts, declared.commas.TrailingCommas.TrailingCommas, declared.node.ExprId.ExprId, declared.node.PatId.PatId, declared.nodes.Nodes.Nodes}
 use Rattle.swc_steps.specs.Params.{pat_at, params_at}
-use Rattle.swc_steps.specs.Parsing.{scope, Loud, Acts, Consumes, key_at, tree_of}
+use Rattle.swc_input.specs.Calls.{Loud}
+use Rattle.swc_steps.specs.Parsing.{scope, Acts, Consumes, key_at, tree_of}
 use Rattle.swc_ecma_parser.specs.Calls.{buffer_of, nodes_of, commas_of, tree_by, pats_tree, has_failed, wants_memory, parser_failed}
 use Rattle.swc_ecma_parser.specs.declared.parser.Parser.{Parser}
 

@@ -15,7 +15,8 @@ use Rattle.swc_cover.specs.Noting.{names_bound, JudgesBy, JudgesParams}
 use Rattle.swc_cover.specs.PatTypes.{pattern_as, verdict_as, want_as}
 use Rattle.swc_cover.specs.{Faults.Verdict, Faults.params_verdict, Items.want_items, Moving.KeptTo, Refining.ChecksWhole, Refining.Unfitting, declared.pat_type.PatType.PatType}
 use Rattle.swc_steps.specs.Params.{pat_at}
-use Rattle.swc_steps.specs.Parsing.{Acts, Loud}
+use Rattle.swc_input.specs.Calls.{Loud}
+use Rattle.swc_steps.specs.Parsing.{Acts}
 use Rattle.swc_ecma_parser.specs.Calls.{buffer_of, nodes_of, commas_of, has_failed, parser_failed, tree_by, wants_memory}
 use Rattle.swc_ecma_parser.specs.{Promise.Unmarred, declared.parser.Parser.Parser}
 

@@ -9,7 +9,7 @@ use Rattle.swc_nodes.specs.GrowingNodes.{count, Made, SameNodes}
 use Rattle.swc_nodes.specs.{NodeParts.expr_part, declared.node.ExprId.ExprId}
 use Rattle.swc_ecma_parser.specs.{CoverNames.cover_names, declared.parser.Parser.Parser}
 use Rattle.swc_ecma_parser.specs.Faults.{cover_faults, begins_fit, Appends}
-use Rattle.swc_steps.specs.Parsing.{Forgoes, Leads, Loud, Tries}
+use Rattle.swc_input.specs.Calls.{Forgoes, Leads, Loud, Tries}
 use Rattle.swc_ecma_parser.specs.Calls.{buffer_of, nodes_of, commas_of, has_failed, parser_failed, tree_by, wants_memory}
 
 -- What is promised of a call that is given the tree of an expression, from the parser p to q, where it answers r.

@@ -1,3 +1,4 @@
+pub mod Calls
 pub mod Captured
 pub mod Emits
 pub mod Ends

@@ -1,4 +1,5 @@
 pub mod Buffer
+pub mod Calls
 pub mod Capturing
 pub mod Kept
 pub mod Kinds

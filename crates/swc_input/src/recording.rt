@@ -1,9 +1,10 @@
 // Faults that are recorded, refusals, and out of memory.
-ghost use Rattle.std.specs.Prelude.{◌≡◌, ◌≢◌, true, false, List, [], ◌∷◌, ◌++◌, None, IsSome, IsOk, OnOk, IfOk, IfErr};
-ghost use Rattle.swc_context.specs.declared.error.SyntaxError.TheVariants.{OutOfMemory, Eof};
+ghost use Rattle.std.specs.Prelude.{◌≡◌, ◌≢◌, ◌≤◌, ◌<◌, not, true, false, List, [], ◌∷◌, ◌++◌, None, IsSome, IsOk, OnOk, IfOk, IfErr};
+ghost use Rattle.swc_context.specs.declared.error.SyntaxError.TheVariants.{OutOfMemory, ParserFailed, Eof};
 ghost use Rattle.swc_input.specs.declared.token.TokenAndSpan.{TokenAndSpan};
 ghost use Rattle.swc_input.specs.Source.{with_error, with_module_error, IsFault};
-ghost use Rattle.swc_input.specs.Buffer.{source, last_position, current, state_of, with_source, Read, ReadSome, Lives, Looked};
+ghost use Rattle.swc_input.specs.Buffer.{source, last_position, context, current, state_of, to_come, with_source, Read, ReadSome, Lives, Looked};
+ghost use Rattle.swc_input.specs.Calls.{recorded, Checked, Fits, Loud, Refuses, Tries};
 ghost use Rattle.swc_input.specs.Recording.{is_silent, is_some, no_memory, counted, error_in, error_here, error_list, error_token, unfit, is_fit, refusal, Recorded, Refused, Seen};
 
 use crate::buffer::Buffer;
@@ -170,6 +171,9 @@ impl<I: Tokens> Buffer<I> {
             × (e ≡ no_memory (last_position self.new))) }
         ensures read { ReadSome I.model self.old self.new }
         ensures kept { is_fit (current self.old) ≡ true → current self.new ≡ current self.old }
+        ensures tries { Tries I.model self.old result self.new }
+        ensures notes { Loud I.model self.old → OnOk result (recorded I.model self.old < recorded I.model self.new) }
+        ensures falls { to_come I.model self.new ≤ to_come I.model self.old }
     {
         self.emit_error(Error::new(span, kind))
     }
@@ -186,6 +190,8 @@ impl<I: Tokens> Buffer<I> {
             ≡ with_module_error (record { span = span; kind = kind }) (state_of I.model self.old)) }
         ensures refused { IfErr result (λ e. (e ≡ no_memory (last_position self.old))
             × (state_of I.model self.new ≡ state_of I.model self.old)) }
+        ensures checks { Checked I.model (not (context I.model self.old).module) self.old result self.new }
+        ensures falls { to_come I.model self.new ≤ to_come I.model self.old }
     {
         let error = Error::new(span, kind);
         if self.get_ctx().ignore_error {
@@ -214,7 +220,9 @@ impl<I: Tokens> Buffer<I> {
     /// A refusal of the kind at the place, unless an error token is current: that is consumed, and
     /// its error is the refusal. Where the source has failed, it is out of memory.
     pub fn syntax_error(&mut self, span: Span, kind: SyntaxError) -> Error
-        ensures { Refused I.model self.old (λ here. record { span = span; kind = kind }) result self.new }
+        ensures refused { Refused I.model self.old (λ here. record { span = span; kind = kind }) result self.new }
+        ensures refuses { kind ≢ ParserFailed → Refuses I.model self.old result self.new }
+        ensures falls { to_come I.model self.new ≤ to_come I.model self.old }
     {
         let _ = self.had_line_break_before_cur();
         self.refuse(Error::new(span, kind))
@@ -224,7 +232,10 @@ impl<I: Tokens> Buffer<I> {
     /// the token consumed last ends. An error token and a failed source are refused as by
     /// `syntax_error`.
     pub fn unexpected(&mut self, kind: SyntaxError) -> Error
-        ensures { Refused I.model self.old (λ here. unfit (current here) (last_position here) kind) result self.new }
+        ensures refused { Refused I.model self.old (λ here. unfit (current here) (last_position here) kind) result
+            self.new }
+        ensures refuses { kind ≢ ParserFailed → Refuses I.model self.old result self.new }
+        ensures falls { to_come I.model self.new ≤ to_come I.model self.old }
     {
         let _ = self.had_line_break_before_cur();
         let error = self.unfit(kind);
@@ -237,6 +248,8 @@ impl<I: Tokens> Buffer<I> {
             × (error_here (current self.new) ≡ None)) }
         ensures refused { IfErr result (λ e. (r : Refused I.model self.old
             (λ here. unfit (current here) (last_position here) Eof) e self.new) × (is_fit (current r.here) ≡ false)) }
+        ensures fits { Fits I.model self.old result self.new }
+        ensures falls { to_come I.model self.new ≤ to_come I.model self.old }
     {
         let _ = self.had_line_break_before_cur();
         if self.knows_cur() && !self.is_error() {

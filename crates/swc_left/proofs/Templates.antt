@@ -17,7 +17,8 @@ use Rattle.swc_grammar.specs.Words.{◌>>=◌, rest, one}
 use Rattle.swc_grammar.specs.{Scope.Scope, Grammar.parts-end, Grammar.parts-more}
 use Rattle.swc_grammar.proofs.Knot.{knot}
 use Rattle.swc_nodes.proofs.Lists.{trees_append-assoc, trees_append-nil}
-use Rattle.swc_steps.specs.Parsing.{Refuses, seen, seen_of}
+use Rattle.swc_input.specs.Calls.{Refuses}
+use Rattle.swc_steps.specs.Parsing.{seen, seen_of}
 use Rattle.swc_steps.specs.{Keys.expected, Lists.eaten, Readers.whole_inside}
 use Rattle.swc_left.specs.Templates.{is_template, quasi_with, quasi_by, quasi_of, text_at, tpl_element, parts_before, tagged_node, tpl_end_by, tpl_end, tpl_expr_close, tpl_expr_tail, parts_behind, parts_by, parts_after, template_tail}
 use Rattle.swc_steps.proofs.Lists.{calls, binds, bind_same}

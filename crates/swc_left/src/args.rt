@@ -3,7 +3,8 @@ ghost use Rattle.std.specs.Prelude.{◌≡◌, ◌≤◌, OnOk};
 ghost use Rattle.swc_input.specs.Buffer.{to_come};
 ghost use Rattle.swc_grammar.specs.Tokens.{import_comma_ok};
 ghost use Rattle.swc_steps.specs.Args.{last_comma, separated_args};
-ghost use Rattle.swc_steps.specs.Parsing.{scope, Checked, ContinuesAlone};
+ghost use Rattle.swc_input.specs.Calls.{Checked};
+ghost use Rattle.swc_steps.specs.Parsing.{scope, ContinuesAlone};
 ghost use Rattle.swc_left.specs.Counted.{few_items, counted_ok};
 
 use swc_ast::expr::ExprOrSpread;

@@ -6,7 +6,8 @@ ghost use Rattle.swc_grammar.specs.Tokens.{super_ok};
 ghost use Rattle.swc_nodes.specs.NodeParts.{args_parts, callee_parts, expr_part};
 ghost use Rattle.swc_nodes.specs.GrowingNodes.{count, first_at, Apart, From};
 ghost use Rattle.swc_left.specs.Bases.{super_head, super_here, super_name_tail, super_close, callee_node, import_head, import_member, import_callee, import_node, import_meta_node};
-ghost use Rattle.swc_steps.specs.Parsing.{scope, ContinuesAlone, ParsesAlone, Produces, GoesOn, Checked, Acts, Refuses, itself, tree_of, args_at};
+ghost use Rattle.swc_input.specs.Calls.{Checked, Refuses};
+ghost use Rattle.swc_steps.specs.Parsing.{scope, ContinuesAlone, ParsesAlone, Produces, GoesOn, Acts, itself, tree_of, args_at};
 ghost use Rattle.swc_steps.specs.Readers.{nothing};
 
 use crate::args::check_import_args;

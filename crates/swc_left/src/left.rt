@@ -8,7 +8,8 @@ ghost use Rattle.swc_grammar.specs.{Clean.first, Words.rest};
 ghost use Rattle.swc_nodes.specs.NodeParts.{expr_part, one_expr, args_parts};
 ghost use Rattle.swc_nodes.specs.GrowingNodes.{count, first_at, Apart, From};
 ghost use Rattle.swc_left.specs.Links.{link_at, link_here, chain_at, chain_head, head_of, link_head, member_name, dot_tail, computed_close, call_node, target_tail, new_node};
-ghost use Rattle.swc_steps.specs.Parsing.{seen, ParsesAlone, ContinuesAlone, Produces, GoesOn, Checked, Refuses, Tells, itself, tree_of, args_at, member_name_of, member_name_at};
+ghost use Rattle.swc_input.specs.Calls.{Checked, Refuses};
+ghost use Rattle.swc_steps.specs.Parsing.{seen, ParsesAlone, ContinuesAlone, Produces, GoesOn, Tells, itself, tree_of, args_at, member_name_of, member_name_at};
 
 use swc_ast::expr::{ExprOrSpread, MemberProp, MetaPropKind};
 use swc_ast::ident::Ident;

@@ -6,7 +6,8 @@ ghost use Rattle.swc_ast.specs.Trees.{is_chain};
 ghost use Rattle.swc_grammar.specs.{Parts.cooked_of, Symbols.Template};
 ghost use Rattle.swc_nodes.specs.GrowingNodes.{first_at, Apart, From};
 ghost use Rattle.swc_nodes.specs.{Lists.exprs_parts, NodeParts.expr_part, NodeParts.one_expr};
-ghost use Rattle.swc_steps.specs.Parsing.{seen, ParsesAlone, GoesOn, Checked, itself, tree_of};
+ghost use Rattle.swc_input.specs.Calls.{Checked};
+ghost use Rattle.swc_steps.specs.Parsing.{seen, ParsesAlone, GoesOn, itself, tree_of};
 ghost use Rattle.swc_left.specs.Templates.{is_template, tpl_element, tpl_end, tagged_node, tpl_parts_at};
 
 use swc_ast::expr::TplElement;

@@ -13,7 +13,8 @@ use Rattle.swc_nodes.specs.GrowingNodes.{Apart, From, Grows}
 use Rattle.swc_nodes.specs.{Pending.operand_parts, Pending.first_operand, Rising.waiting, Rising.least_above, NodeParts.expr_part, declared.node.ExprId.ExprId, declared.nodes.Nodes.Nodes, declared.pending.PendingOperator.PendingOperator}
 use Rattle.swc_nodes.proofs.Held.{from-apart, tree-later}
 use Rattle.swc_nodes.proofs.Waiting.{apart-rest, least_more, operands-below, operands-last}
-use Rattle.swc_steps.specs.Parsing.{seen, tree_of, scope, Here, Checks, On, Heard, Unheard}
+use Rattle.swc_input.specs.Calls.{Here, Checks}
+use Rattle.swc_steps.specs.Parsing.{seen, tree_of, scope, On, Heard, Unheard}
 use Rattle.swc_steps.specs.Readers.{turn, bin_op, bin_op_node, operand, turned}
 use Rattle.swc_steps.proofs.Rules as rule
 use Rattle.swc_steps.proofs.Steps as s

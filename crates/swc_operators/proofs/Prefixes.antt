@@ -6,7 +6,8 @@ use Rattle.swc_bodies.specs.Readings.{Hook}
 use Rattle.swc_grammar.specs.{Scope.Scope, Tokens.is_star, Clean.first, Clean.ends_await_at, Words.◌>>=◌}
 use Rattle.swc_operators.specs.Prefixes.{await_is_name, await_names, await_by_name}
 use Rattle.swc_operators.specs.Updates.{await_tail, await_go}
-use Rattle.swc_steps.specs.Parsing.{seen, Here, Looks, Continues}
+use Rattle.swc_input.specs.Calls.{Here, Looks}
+use Rattle.swc_steps.specs.Parsing.{seen, Continues}
 use Rattle.swc_steps.proofs.Steps as s
 use Rattle.swc_operators.proofs.Updates.{if_on, if_off}
 

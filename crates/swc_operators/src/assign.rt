@@ -12,7 +12,8 @@ ghost use Rattle.swc_nodes.specs.declared.node.TargetNode.TheVariants as target;
 ghost use Rattle.swc_cover.specs.Rewriting.{Rewrites};
 ghost use Rattle.swc_operators.specs.Assignments.{assign_at, assign_by, assign_made, assign_tail, fits_op, refines, target_at, target_from, target_number};
 ghost use Rattle.swc_steps.specs.Contexts.{cond_middle, cond_last};
-ghost use Rattle.swc_steps.specs.Parsing.{behind, itself, seen, Checks, GoesOn, Looks, Refuses, tree_of};
+ghost use Rattle.swc_input.specs.Calls.{Checks, Looks, Refuses};
+ghost use Rattle.swc_steps.specs.Parsing.{behind, itself, seen, GoesOn, tree_of};
 
 use swc_bodies::bodies::Bodies;
 use swc_context::context::Context;

@@ -11,7 +11,8 @@ ghost use Rattle.swc_grammar.specs.Clean.{sym, updates, run, operator_at, prefix
 ghost use Rattle.swc_nodes.specs.GrowingNodes.{count, first_at, From};
 ghost use Rattle.swc_nodes.specs.{NodeParts.expr_part, Rising.waiting, Rising.least_above, Pending.all_pending};
 ghost use Rattle.swc_steps.specs.Readers.{unary_op, unary_op_node};
-ghost use Rattle.swc_steps.specs.Parsing.{seen, Refuses, Acts, Tries, Looks, GoesOn, Recovers, Checked, itself, operand_of, tree_of, ParsesAlone};
+ghost use Rattle.swc_input.specs.Calls.{Refuses, Tries, Looks, Checked};
+ghost use Rattle.swc_steps.specs.Parsing.{seen, Acts, GoesOn, Recovers, itself, operand_of, tree_of, ParsesAlone};
 ghost use Rattle.swc_operators.specs.Pending.{operator_above, operator_taken, join};
 ghost use Rattle.swc_operators.specs.Updates.{update_at, update_behind, await_ident};
 

@@ -6,7 +6,8 @@ use Rattle.swc_ast.specs.Tree.{Tree}
 use Rattle.swc_bodies.specs.Readings.{Hook, is_brace}
 use Rattle.swc_grammar.specs.Clean.{Out, sym as at, run}
 use Rattle.swc_grammar.specs.{Grammar.pat-object, Scope.Scope, Symbols.Pat, Symbols.PatProps, Tokens.is_lbracket, Words.◌>>=◌}
-use Rattle.swc_steps.specs.Parsing.{Here, On, Unheard, Parses, Continues, seen}
+use Rattle.swc_input.specs.Calls.{Here}
+use Rattle.swc_steps.specs.Parsing.{On, Unheard, Parses, Continues, seen}
 use Rattle.swc_steps.specs.Readers.{by_production}
 use Rattle.swc_steps.proofs.Rules.{passes_plain}
 use Rattle.swc_steps.proofs.Steps as s

@@ -10,7 +10,8 @@ use Rattle.swc_grammar.specs.{Symbols.Pat, Tokens.is_equals, Tokens.is_rparen, C
 use Rattle.swc_nodes.specs.GrowingNodes.{first_at, From, Grows}
 use Rattle.swc_nodes.specs.{NodeParts.pat_part, declared.node.PatId.PatId}
 use Rattle.swc_nodes.proofs.Held.{from-down, from-later}
-use Rattle.swc_steps.specs.Parsing.{Leads, On, Heard, Unheard, Produces, GoesOn}
+use Rattle.swc_input.specs.Calls.{Leads}
+use Rattle.swc_steps.specs.Parsing.{On, Heard, Unheard, Produces, GoesOn}
 use Rattle.swc_steps.specs.{Lists.eaten, Readers.nothing, declared.productions.Productions.Productions}
 use Rattle.swc_steps.proofs.Making as m
 use Rattle.swc_steps.proofs.Steps as s

@@ -9,7 +9,8 @@ use Rattle.swc_bodies.specs.Readings.{Hook}
 use Rattle.swc_grammar.specs.Clean.{Out, sym as at, run}
 use Rattle.swc_grammar.specs.{Scope.Scope, Symbols.Params, Symbols.Pat, Tokens.is_equals, Tokens.tk, Words.◌>>=◌}
 use Rattle.swc_nodes.specs.{GrowingNodes.Grows, declared.node.PatId.PatId}
-use Rattle.swc_steps.specs.Parsing.{scope, recorded, Leads, Loud, On, Unheard}
+use Rattle.swc_input.specs.Calls.{recorded, Leads, Loud}
+use Rattle.swc_steps.specs.Parsing.{scope, On, Unheard}
 use Rattle.swc_steps.specs.{Lists.eaten, declared.productions.Productions.Productions}
 use Rattle.swc_steps.proofs.Steps.{give, less, loud_after, more_recorded, read_scope}
 use Rattle.swc_steps.specs.Params.{params_close, params_at, params_of}

@@ -12,7 +12,8 @@ use Rattle.swc_nodes.specs.NodeParts.{Part, flat, pat_part}
 use Rattle.swc_nodes.specs.GrowingNodes.{count, seat_at, Apart, Made}
 use Rattle.swc_nodes.specs.{declared.node.PatId.PatId, declared.nodes.Nodes.Nodes}
 use Rattle.swc_nodes.proofs.Chains.{chain-first, chain-second, chain-up, floor-under}
-use Rattle.swc_steps.specs.Parsing.{Checked, Checks, ContinuesAlone}
+use Rattle.swc_input.specs.Calls.{Checked, Checks}
+use Rattle.swc_steps.specs.Parsing.{ContinuesAlone}
 use Rattle.swc_steps.proofs.Emitted.{notes-none}
 use Rattle.swc_steps.proofs.Steps.{not_false, not_true, check_passes, checks_and, on_checked, continues_after, unheard_memory}
 use Rattle.swc_patterns.specs.Objects.{is_rest, props_stage, last_stage, rests_checked}

@@ -9,7 +9,8 @@ use Rattle.swc_bodies.specs.Readings.{Hook}
 use Rattle.swc_grammar.specs.Symbols.{Element, Rest, Params}
 use Rattle.swc_grammar.specs.{Scope.Scope, Clean.sym, Clean.run}
 use Rattle.swc_nodes.specs.{GrowingNodes.Grows, declared.node.PatId.PatId}
-use Rattle.swc_steps.specs.Parsing.{scope, recorded, Loud, On, Unheard}
+use Rattle.swc_input.specs.Calls.{recorded, Loud}
+use Rattle.swc_steps.specs.Parsing.{scope, On, Unheard}
 use Rattle.swc_steps.specs.declared.productions.Productions.{Productions}
 use Rattle.swc_steps.specs.Params.{params_at, params_of, params_close}
 

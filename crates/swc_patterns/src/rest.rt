@@ -5,7 +5,8 @@ ghost use Rattle.swc_context.specs.declared.error.SyntaxError.TheVariants.{OutOf
 ghost use Rattle.swc_input.specs.{Buffer.current, Buffer.to_come, Kinds.at_token};
 ghost use Rattle.swc_grammar.specs.Clean.{no_error};
 ghost use Rattle.swc_steps.specs.Lists.{is_sign_token};
-ghost use Rattle.swc_steps.specs.Parsing.{seen, Checked, ContinuesAlone};
+ghost use Rattle.swc_input.specs.Calls.{Checked};
+ghost use Rattle.swc_steps.specs.Parsing.{seen, ContinuesAlone};
 ghost use Rattle.swc_patterns.specs.Rests.{passed, comma_behind, has_comma, has_rest, stage_of, separated_item};
 
 use swc_context::error::{PResult, SyntaxError};

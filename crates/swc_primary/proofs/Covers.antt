@@ -5,7 +5,7 @@ use Rattle.std.specs.Prelude.{slice_get}
 use Rattle.swc_ast.specs.declared.prop.AssignProp.{AssignProp}
 use Rattle.swc_input.specs.{declared.buffer.Buffer.Buffer, Source.Model}
 use Rattle.swc_nodes.specs.{Lists.is_cover_prop, Lists.has_cover, declared.node.ExprId.ExprId, declared.node.PropNode.PropNode, declared.node.PropNode.PropNode as prop}
-use Rattle.swc_steps.specs.Parsing.{Checks}
+use Rattle.swc_input.specs.Calls.{Checks}
 use Rattle.swc_steps.proofs.Steps.{checks_both}
 
 or_false : (a : Bool) → (a || false) ≡ a

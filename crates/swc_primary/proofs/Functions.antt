@@ -19,7 +19,8 @@ use Rattle.swc_nodes.proofs.{Chains.chain-bound, Held.from-apart}
 use Rattle.swc_steps.specs.Params.{pat_at, params_at, placed, params_close}
 use Rattle.swc_primary.specs.declared.modifiers.MethodKind.{MethodKind, MethodKind as kind}
 use Rattle.swc_primary.specs.Methods.{async_in, generator_in, accessor_ok, function_ok, just_one, misses_param, in_params, method_function_node, method_function_of, method_block_by, method_end, method_close, method_left, method_inside, method_by, method_function}
-use Rattle.swc_steps.specs.Parsing.{scope, Leads, Checks, On, Continues, shell_at}
+use Rattle.swc_input.specs.Calls.{Leads, Checks}
+use Rattle.swc_steps.specs.Parsing.{scope, On, Continues, shell_at}
 use Rattle.swc_steps.specs.{Keys.expected, Keys.method_body, Lists.eaten}
 use Rattle.swc_steps.proofs.Keys.{bind_none, then_calls, token_then, then_token}
 use Rattle.swc_steps.proofs.Lists.{binds, bind_same}

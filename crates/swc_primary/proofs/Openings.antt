@@ -8,7 +8,8 @@ use Rattle.swc_grammar.specs.Tokens.{include_in, is_lparen, is_lbracket, is_back
 use Rattle.swc_grammar.specs.{Scope.Scope, Scope.inner, Parts.lit_of, Words.◌>>=◌}
 use Rattle.swc_ast.specs.{Parts.lit_tree, Tree.Tree, declared.lit.Lit.Lit}
 use Rattle.swc_bodies.specs.Readings.{Hook, is_async, is_brace}
-use Rattle.swc_steps.specs.Parsing.{Here, Moves, On, Parses, seen, begins_async}
+use Rattle.swc_input.specs.Calls.{Here}
+use Rattle.swc_steps.specs.Parsing.{Moves, On, Parses, seen, begins_async}
 use Rattle.swc_steps.specs.Lists.{elements_inside}
 use Rattle.swc_steps.proofs.Lists as list
 use Rattle.swc_steps.proofs.Rules as rule

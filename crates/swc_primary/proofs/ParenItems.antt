@@ -12,7 +12,8 @@ use Rattle.swc_nodes.specs.GrowingNodes.{seat_at, Apart, From}
 use Rattle.swc_nodes.specs.{NumberedTrees.fits, declared.node.ExprId.ExprId, declared.nodes.Nodes.Nodes}
 use Rattle.swc_nodes.proofs.{Chains.both_true, Held.from-apart, Held.from-down}
 use Rattle.swc_steps.specs.Args.{arrow_free, paren_closed}
-use Rattle.swc_steps.specs.Parsing.{Checks, On, Refuses, Unheard}
+use Rattle.swc_input.specs.Calls.{Checks, Refuses}
+use Rattle.swc_steps.specs.Parsing.{On, Unheard}
 use Rattle.swc_steps.proofs.Args.{paren_closed_splits}
 use Rattle.swc_steps.proofs.Steps.{checks_and, give, on_call, refuses_later, unheard_call}
 

@@ -6,7 +6,8 @@ use Rattle.swc_ast.specs.Trees.{to, private_e}
 use Rattle.swc_bodies.specs.Readings.{Hook}
 use Rattle.swc_grammar.specs.{Clean.Out, Clean.first, Grammar.private-expr, Names.Spelling, Names.may_name, Scope.Scope, Tokens.is_in, Words.◌>>=◌, Words.word}
 use Rattle.swc_steps.specs.Args.{hash_name}
-use Rattle.swc_steps.specs.Parsing.{scope, Checked, Continues, On}
+use Rattle.swc_input.specs.Calls.{Checked}
+use Rattle.swc_steps.specs.Parsing.{scope, Continues, On}
 use Rattle.swc_steps.specs.Readers.{before_in, by_production, nothing, private_operand, reading}
 use Rattle.swc_steps.proofs.Rules as rule
 use Rattle.swc_steps.proofs.Steps.{Reader, check_passes, give, on_checked_in, on_then, unheard_after, unheard_memory}

@@ -7,7 +7,8 @@ ghost use Rattle.swc_nodes.specs.GrowingNodes.{count, Apart, Grows};
 ghost use Rattle.swc_nodes.specs.{Lists.first_param_pat, NodeParts.flat, NodeParts.param_parts};
 ghost use Rattle.swc_steps.specs.Params.{params_of, params_at};
 ghost use Rattle.swc_steps.specs.Keys.{method_body};
-ghost use Rattle.swc_steps.specs.Parsing.{Checked, GoesOn, Parses, Tries, by_hook, shell_at};
+ghost use Rattle.swc_input.specs.Calls.{Checked, Tries};
+ghost use Rattle.swc_steps.specs.Parsing.{GoesOn, Parses, by_hook, shell_at};
 ghost use Rattle.swc_primary.specs.Methods.{Opened, NotOpened, async_in, generator_in, accessor_ok, just_one, begins_rest, misses_param, method_function_of, method_shell, method_close, method_node, method_behind, getter_behind, setter_behind};
 
 use crate::modifiers::MethodKind;

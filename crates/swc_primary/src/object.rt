@@ -9,7 +9,8 @@ ghost use Rattle.swc_nodes.specs.NodeParts.{expr_part, key_parts, prop_parts, on
 ghost use Rattle.swc_nodes.specs.GrowingNodes.{first_at, end_at, From};
 ghost use Rattle.swc_steps.specs.Readers.{nothing};
 ghost use Rattle.swc_steps.specs.Keys.{is_key_lit, literal_key, plain_key, key_close};
-ghost use Rattle.swc_steps.specs.Parsing.{Refuses, Checked, Tries, Acts, ParsesAlone, Unheard, Produces, tree_of, key_of, key_at, ident_spelling, prop_at};
+ghost use Rattle.swc_input.specs.Calls.{Refuses, Checked, Tries};
+ghost use Rattle.swc_steps.specs.Parsing.{Acts, ParsesAlone, Unheard, Produces, tree_of, key_of, key_at, ident_spelling, prop_at};
 ghost use Rattle.swc_primary.specs.{Properties.open_name, Properties.cover_name, Begins.Begins, Methods.value_behind};
 
 use crate::modifiers::{

@@ -6,7 +6,8 @@ ghost use Rattle.swc_context.specs.declared.error.SyntaxError.TheVariants.{OutOf
 ghost use Rattle.swc_input.specs.{Recording.is_some, Buffer.state_of, Buffer.to_come};
 ghost use Rattle.swc_nodes.specs.{Lists.is_cover_prop, Lists.has_cover, NodeParts.expr_part, NodeParts.args_parts, GrowingNodes.Apart, GrowingNodes.From};
 ghost use Rattle.swc_steps.specs.Args.{arrow_free};
-ghost use Rattle.swc_steps.specs.Parsing.{Checked, Checks, ContinuesAlone, Refuses, tree_of, args_at};
+ghost use Rattle.swc_input.specs.Calls.{Checked, Checks, Refuses};
+ghost use Rattle.swc_steps.specs.Parsing.{ContinuesAlone, tree_of, args_at};
 
 use swc_ast::expr::ExprOrSpread;
 use swc_bodies::bodies::Bodies;

@@ -13,7 +13,8 @@ ghost use Rattle.swc_nodes.specs.NodeParts.{args_parts};
 ghost use Rattle.swc_nodes.specs.GrowingNodes.{count, first_start, last_end, Apart};
 ghost use Rattle.swc_steps.specs.Args.{paren_from, paren_closed};
 ghost use Rattle.swc_steps.specs.Readers.{by_production, named_expr, private_operand};
-ghost use Rattle.swc_steps.specs.Parsing.{lit_in, seen, Here, ParsesAlone, Produces, GoesOn, Checked, Refuses, ContinuesAlone, TookLiteral, Parses, by_hook, itself, tree_of, args_at, ident_spelling};
+ghost use Rattle.swc_input.specs.Calls.{Here, Checked, Refuses};
+ghost use Rattle.swc_steps.specs.Parsing.{lit_in, seen, ParsesAlone, Produces, GoesOn, ContinuesAlone, TookLiteral, Parses, by_hook, itself, tree_of, args_at, ident_spelling};
 ghost use Rattle.swc_primary.specs.Openings.{in_comes, primary_kind, literal, BeginsPlain};
 ghost use Rattle.swc_primary.specs.{declared.primary.PrimaryKind.TheVariants.Plain, declared.primary.PlainKind.TheVariants.Function, declared.primary.PlainKind.TheVariants.Class};
 

@@ -21,7 +21,8 @@ use Rattle.swc_nodes.specs.NodeParts.{expr_part}
 use Rattle.swc_nodes.specs.declared.node.ExprId.{ExprId}
 use Rattle.swc_nodes.specs.declared.nodes.Nodes.{Nodes}
 use Rattle.swc_steps.proofs.Building.{apart-lower}
-use Rattle.swc_steps.specs.Parsing.{scope, seen, seen_of, Heard, Here, On, Told}
+use Rattle.swc_input.specs.Calls.{Here}
+use Rattle.swc_steps.specs.Parsing.{scope, seen, seen_of, Heard, On, Told}
 use Rattle.swc_steps.proofs.Steps.{Reader, on_told, read_scope}
 use Rattle.swc_arrows.specs.Starts.{first_kind, head_by, start_kind, next_kind, next_token, token_kind}
 use Rattle.swc_arrows.specs.declared.starts.StartKind.{StartKind}

@@ -10,7 +10,8 @@ use Rattle.swc_ast.specs.declared.spanned.Spanned.{Ghosts}
 use Rattle.swc_nodes.specs.GrowingNodes.{Grows}
 use Rattle.swc_nodes.specs.declared.nodes.Nodes.{Nodes}
 use Rattle.swc_steps.specs.declared.productions.Productions.{Productions}
-use Rattle.swc_steps.specs.Parsing.{recorded, Loud, Advances, Recovers, Unheard}
+use Rattle.swc_input.specs.Calls.{recorded, Loud}
+use Rattle.swc_steps.specs.Parsing.{Advances, Recovers, Unheard}
 use Rattle.swc_steps.proofs.Making.{not_recovered}
 use Rattle.swc_steps.proofs.Steps.{Reader, more_recorded, loud_after, onward_later}
 use Rattle.swc_steps.proofs.Steps.Consumed.{leads_refused, leads_then, spent}

@@ -24,7 +24,8 @@ ghost use Rattle.swc_operators.specs.Pending.{pending_reads};
 ghost use Rattle.swc_primary.specs.Methods.{method_function, method_shell};
 ghost use Rattle.swc_steps.specs.Args.{args_inside};
 ghost use Rattle.swc_steps.specs.Readers.{operand};
-ghost use Rattle.swc_steps.specs.Parsing.{seen, Here, Produces, GoesOn, itself, tree_of, item_of, item_at, elems_of, elems_at, key_of, key_at, prop_of, prop_at, props_of, props_at, args_of, args_at, shell_at, Consumes, Recovers};
+ghost use Rattle.swc_input.specs.Calls.{Here};
+ghost use Rattle.swc_steps.specs.Parsing.{seen, Produces, GoesOn, itself, tree_of, item_of, item_at, elems_of, elems_at, key_of, key_at, prop_of, prop_at, props_of, props_at, args_of, args_at, shell_at, Consumes, Recovers};
 ghost use Rattle.swc_context.specs.declared.error.SyntaxError.TheVariants.{ParserFailed};
 
 use crate::room::deeper;

@@ -6,7 +6,8 @@ use Rattle.swc_input.specs.Recording.{error_here, error_in, error_list, is_fit, 
 use Rattle.swc_input.specs.Source.{Keeps, Laws, Model}
 use Rattle.swc_input.specs.{Kinds.at_token, Plain.plain_token, Recordings.NotesAll, Recordings.RecordsAll, declared.buffer.Buffer.Buffer, declared.token.Token.Token, declared.token.Token.Token as token, declared.token.TokenAndSpan.TokenAndSpan}
 use Rattle.swc_grammar.specs.Clean.{no_error}
-use Rattle.swc_steps.specs.Parsing.{Checked, Forgoes, Leads, Loud, recorded, seen_of}
+use Rattle.swc_input.specs.Calls.{Checked, Forgoes, Leads, Loud, recorded}
+use Rattle.swc_steps.specs.Parsing.{seen_of}
 use Rattle.swc_steps.proofs.Steps.{loud_after}
 
 no_fewer : {es fs : List Error} → Keeps es fs → length es ≤ length fs

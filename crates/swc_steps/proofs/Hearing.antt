@@ -7,7 +7,8 @@ use Rattle.swc_input.specs.Buffer.{Known, context, source}
 use Rattle.swc_input.specs.{declared.buffer.Buffer.Buffer, declared.token.TokenAndSpan.TokenAndSpan, Recording.no_memory}
 use Rattle.swc_bodies.specs.Readings.{Reading, Hooked, Faithful}
 use Rattle.swc_grammar.specs.Clean.{Out}
-use Rattle.swc_steps.specs.Parsing.{Loud, recorded, by_hook, Parses}
+use Rattle.swc_input.specs.Calls.{Loud, recorded}
+use Rattle.swc_steps.specs.Parsing.{by_hook, Parses}
 
 no_more : {A : Type 0} (more : List A) → length more ≡ 0 → more ≡ []
 no_more [] h = refl

@@ -1,8 +1,9 @@
 -- What parsing calls do to the buffer, and which clean reading each answers.
 use Rattle.std.specs.Prelude.{◌≡◌, ◌≢◌, ℕ, ◌≤◌, ◌<◌, Bool, true, false, List, [], ◌∷◌, ◌++◌, Option, Some, None, Result, MatchResult, MatchOption, OnOk, IfOk, IfErr, length, ◌&&◌}
 use Rattle.swc_context.specs.{declared.context.Context.Context, declared.context.Syntax.Syntax, declared.error.Error.Error, declared.error.SyntaxError.SyntaxError, declared.error.SyntaxError.TheVariants.OutOfMemory, declared.error.SyntaxError.TheVariants.ParserFailed, declared.operator.BinaryOp.BinaryOp, declared.span.BytePos.BytePos, declared.span.Span.Span, declared.word.Keyword.Keyword as keyword, declared.word.Word.Word, declared.word.Word.Word as word, Contexts.view as deciding}
-use Rattle.swc_input.specs.Buffer.{Took, Read, Lives, Served, Still, Looked, Future, Known, context, to_come}
-use Rattle.swc_input.specs.{declared.buffer.Buffer.Buffer, declared.token.Token.Token, declared.token.TokenAndSpan.TokenAndSpan, Plain.plain, Source.Model, Source.Laws, Recording.is_silent, Kinds.at_token}
+use Rattle.swc_input.specs.Buffer.{Took, Lives, Still, Future, Known, context, to_come}
+use Rattle.swc_input.specs.Calls.{Forgoes, Leads, Loud, Refuses, Tries, recorded}
+use Rattle.swc_input.specs.{declared.buffer.Buffer.Buffer, declared.token.Token.Token, declared.token.TokenAndSpan.TokenAndSpan, Plain.plain, Source.Model, Source.Laws, Kinds.at_token}
 use Rattle.swc_input.specs.declared.token.Token.TheVariants as token
 use Rattle.swc_ast.specs.Parts.{lit_tree, item_tree, item_trees, prop_name_tree, member_prop_tree, function_tree}
 use Rattle.swc_ast.specs.{declared.ident.BindingIdent.BindingIdent, declared.ident.Ident.Ident, declared.ident.IdentName.IdentName, declared.ident.PrivateName.PrivateName, declared.lit.Lit.Lit, Tree.Tree, Trees.listed, declared.expr.ExprOrSpread.ExprOrSpread, declared.expr.MemberProp.MemberProp, declared.function.Function.Function, declared.prop.PropName.PropName, declared.spanned.Spanned.Ghosts}
@@ -77,28 +78,7 @@ module _ {S : Type 0} (model : Model S) where
   abbrev pub scope : Buffer S → Scope
   scope b = scope_of (deciding (context model b)) (model.state b.iter).syntax
 
-  -- how many faults were recorded
-  abbrev pub recorded : Buffer S → ℕ
-  recorded b = length (model.state b.iter).errors
-
-  -- faults are recorded: early errors are on, and not ignored
-  abbrev pub Loud : Buffer S → Type 0
-  Loud b = is_silent (model.state b.iter) ≡ false
-
 module _ {S : Type 0} (model : Model S) where
-  -- from b to c: the tokens that the call consumed, with the context kept and no recorded fault taken out
-  pub record Spends (b c : Buffer S) : Type 0 where
-    pub laws : Laws model
-    pub taken : List TokenAndSpan
-    pub read : Read model b taken c
-
-  -- the same, and the source didn't fail in between
-  pub record Leads (b c : Buffer S) : Type 0 where
-    pub laws : Laws model
-    pub taken : List TokenAndSpan
-    pub read : Read model b taken c
-    pub lives : Lives model b c
-
   -- from b to c the tokens xs were consumed, one at least, and fewer are to come
   pub record Onward (b : Buffer S) (xs : List TokenAndSpan) (c : Buffer S) : Type 0 where
     pub some : 1 ≤ length xs
@@ -106,7 +86,7 @@ module _ {S : Type 0} (model : Model S) where
 
   -- the same, where one token at least was consumed, so that fewer are to come
   pub record Advances (b c : Buffer S) : Type 0 where
-    pub leads : Leads b c
+    pub leads : Leads model b c
     pub onward : Onward b leads.taken c
 
   -- the context was set to another of the same kind of text: nothing was consumed, and no fault recorded or set waiting
@@ -118,40 +98,13 @@ module _ {S : Type 0} (model : Model S) where
     pub lives : Lives model b c
     pub stays : to_come model c ≡ to_come model b
 
-  -- A refusal, which is never that of a failed parser. Where the source has failed, and no token was held before, it is
-  -- out of memory.
-  pub record Refuses (b : Buffer S) (e : Error) (c : Buffer S) : Type 0 where
-    pub spends : Spends b c
-    pub kind : e.kind ≢ ParserFailed
-    pub served : e.kind ≢ OutOfMemory → Served model b c
-
-  -- a refusal when out of memory
-  pub record Forgoes (b : Buffer S) (e : Error) (c : Buffer S) : Type 0 where
-    pub spends : Spends b c
-    pub kind : e.kind ≡ OutOfMemory
-
   -- a call that reads a symbol, which has a token at least
   abbrev pub Consumes : {T : Type 0} → Buffer S → Result T Error → Buffer S → Type 0
-  Consumes b r c = MatchResult r (λ t. Advances b c) (λ e. Refuses b e c)
+  Consumes b r c = MatchResult r (λ t. Advances b c) (λ e. Refuses model b e c)
 
   -- a call that may consume nothing
   abbrev pub Acts : {T : Type 0} → Buffer S → Result T Error → Buffer S → Type 0
-  Acts b r c = MatchResult r (λ t. Leads b c) (λ e. Refuses b e c)
-
-  -- a call that is refused only when out of memory
-  abbrev pub Tries : {T : Type 0} → Buffer S → Result T Error → Buffer S → Type 0
-  Tries b r c = MatchResult r (λ t. Leads b c) (λ e. Forgoes b e c)
-
-  -- a look at c: a token is current, or none is left
-  pub record Here (b c : Buffer S) : Type 0 where
-    pub laws : Laws model
-    pub looked : Looked model b c
-    pub served : Served model b c
-    pub end : c.cur ≡ None → (model.state c.iter).ended ≡ true
-
-  -- such a look, which is refused only when out of memory
-  abbrev pub Looks : {T : Type 0} → Buffer S → Result T Error → Buffer S → Type 0
-  Looks b r c = MatchResult r (λ t. Here b c) (λ e. Forgoes b e c)
+  Acts b r c = MatchResult r (λ t. Leads model b c) (λ e. Refuses model b e c)
 
   -- From b to c nothing was consumed, and it is told what the test gives of the tokens to come, which begin with what
   -- is seen.
@@ -164,30 +117,7 @@ module _ {S : Type 0} (model : Model S) where
 
   -- such a look ahead, which is refused only when out of memory
   abbrev pub Tells : {V : Type 0} → (List TokenAndSpan → V) → Buffer S → Result V Error → Buffer S → Type 0
-  Tells test b r c = MatchResult r (λ v. Told test v b c) (λ e. Forgoes b e c)
-
-  -- a refusal at an error token, or at the end
-  pub record Unfit (b : Buffer S) (e : Error) (c : Buffer S) : Type 0 where
-    pub at : Buffer S
-    pub looked : Looked model b at
-    pub end : at.cur ≡ None → (model.state at.iter).failed ≡ false → (model.state at.iter).ended ≡ true
-    pub unfit : at_token no_error (seen at) ≡ false
-    pub refuses : Refuses at e c
-
-  -- a look that asks for a token which is no error
-  abbrev pub Fits : {T : Type 0} → Buffer S → Result T Error → Buffer S → Type 0
-  Fits b r c = MatchResult r (λ t. Here b c) (λ e. Unfit b e c)
-
-  -- A fault is recorded unless all is well. Where all is, none is recorded and nothing consumed; one may be set
-  -- waiting.
-  pub record Checks (well : Bool) (b c : Buffer S) : Type 0 where
-    pub leads : Leads b c
-    pub passes : well ≡ true → (leads.taken ≡ []) × (recorded model c ≡ recorded model b)
-    pub notes : well ≡ false → Loud model b → recorded model b < recorded model c
-
-  -- such a check, which is refused only when out of memory
-  abbrev pub Checked : {T : Type 0} → Bool → Buffer S → Result T Error → Buffer S → Type 0
-  Checked well b r c = MatchResult r (λ t. Checks well b c) (λ e. Forgoes b e c)
+  Tells test b r c = MatchResult r (λ v. Told test v b c) (λ e. Forgoes model b e c)
 
 -- whether the hook is faithful, so that completeness may be claimed
 module _ {S : Type 0} (model : Model S) (sure : Bool) where

@@ -4,7 +4,8 @@ ghost use Rattle.std.specs.Borrow.{sem, follows};
 ghost use Rattle.swc_input.specs.Buffer.{current, context, state_of, previous, last_position, Looked, source as source_of, with_source};
 ghost use Rattle.swc_input.specs.{Recording.no_memory, Kinds.at_token, contracts.buffer.Buffer.the_row as buffer_row};
 ghost use Rattle.swc_grammar.specs.Tokens.{is_ref};
-ghost use Rattle.swc_steps.specs.Parsing.{is_strict, is_strict_in, seen, Looks};
+ghost use Rattle.swc_input.specs.Calls.{Looks};
+ghost use Rattle.swc_steps.specs.Parsing.{is_strict, is_strict_in, seen};
 ghost use Rattle.swc_steps.specs.{Keys.is_key_lit, contracts.productions.Productions.the_row};
 
 use std::alloc::{AllocError, Global};

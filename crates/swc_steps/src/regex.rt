@@ -4,7 +4,8 @@ ghost use Rattle.swc_input.specs.{Buffer.current, Buffer.to_come, Plain.plain_to
 ghost use Rattle.swc_grammar.specs.Tokens.{begins_regex, is_slash, is_regex};
 ghost use Rattle.swc_grammar.specs.{Parts.is_flag, Parts.flags_ok, Words.rest};
 ghost use Rattle.swc_nodes.specs.GrowingNodes.{count};
-ghost use Rattle.swc_steps.specs.Parsing.{seen, ParsesAlone, Produces, Checked, itself, tree_of, Heard};
+ghost use Rattle.swc_input.specs.Calls.{Checked};
+ghost use Rattle.swc_steps.specs.Parsing.{seen, ParsesAlone, Produces, itself, tree_of, Heard};
 ghost use Rattle.swc_steps.specs.Regexes.{regex_expr, regex_in, regex_alone, regex_text};
 ghost use Rattle.swc_context.specs.declared.span.Span.{Span};
 ghost use Rattle.swc_grammar.specs.Parts as parts;

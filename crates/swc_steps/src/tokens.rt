@@ -5,7 +5,8 @@ ghost use Rattle.swc_input.specs.Buffer.{current, peeked, last_position, state_o
 ghost use Rattle.swc_input.specs.{declared.token.Token.Token, Recording.no_memory, Kinds.at_token};
 ghost use Rattle.swc_bodies.specs.Readings.{at_function, is_async, is_function, is_function_here};
 ghost use Rattle.swc_grammar.specs.{Tokens.may_be_reference, Clean.no_error, Names.may_name, Names.may_refer, Words.rest, Words.word};
-ghost use Rattle.swc_steps.specs.Parsing.{is_memory, ident_spelling, name_spelling, private_spelling, seen, recorded, Loud, Moves, Refuses, Tries, ParsesAlone, ContinuesAlone, Eats, Looks, Fits, Checked, Tells, begins_async, breaks_at};
+ghost use Rattle.swc_input.specs.Calls.{recorded, Loud, Refuses, Tries, Looks, Fits, Checked};
+ghost use Rattle.swc_steps.specs.Parsing.{is_memory, ident_spelling, name_spelling, private_spelling, seen, Moves, ParsesAlone, ContinuesAlone, Eats, Tells, begins_async, breaks_at};
 ghost use Rattle.swc_steps.specs.Lists.{is_named, is_sign_token, separated, closed};
 ghost use Rattle.swc_steps.specs.{Keys.expected, Args.hash_name, Regexes.SkipsSlash};
 

@@ -3,7 +3,8 @@ use Rattle.std.proofs.Common.{◌≡◌, Bool, List, ◌++◌, Some, sym, ap, �
 use Rattle.swc_context.specs.declared.error.Error.{Error}
 use Rattle.swc_input.specs.{declared.buffer.Buffer.Buffer, declared.token.TokenAndSpan.TokenAndSpan, Source.Model, Laws.Future-before}
 use Rattle.swc_grammar.specs.{Scope.Scope, Clean.Out, Words.◌>>=◌}
-use Rattle.swc_steps.specs.Parsing.{scope, recorded, On, Heard, Unheard}
+use Rattle.swc_input.specs.Calls.{recorded}
+use Rattle.swc_steps.specs.Parsing.{scope, On, Heard, Unheard}
 use Rattle.swc_steps.proofs.Steps.Consumed.{Reader, give, read_scope, leads_then, more_recorded}
 use Rattle.swc_steps.proofs.Steps.Tokens.{on_then, heard_then, on_to}
 

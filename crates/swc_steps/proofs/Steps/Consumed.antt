@@ -6,7 +6,8 @@ use Rattle.swc_input.specs.Buffer.{Took, Read, Lives, Served, Bumped, to_come, c
 use Rattle.swc_input.specs.Laws.{held-before, Read-same, Read-then}
 use Rattle.swc_input.specs.{declared.buffer.Buffer.Buffer, declared.token.Token.Token, declared.token.TokenAndSpan.TokenAndSpan, Plain.plain, Recording.no_memory}
 use Rattle.swc_grammar.specs.{Scope.Scope, Scope.in_context, Clean.Out}
-use Rattle.swc_steps.specs.Parsing.{scope_of, scope, recorded, Loud, Spends, Leads, Onward, Advances, Moves, Refuses, Forgoes, Consumes, Acts, Tries}
+use Rattle.swc_input.specs.Calls.{recorded, Loud, Spends, Leads, Refuses, Forgoes, Tries}
+use Rattle.swc_steps.specs.Parsing.{scope_of, scope, Onward, Advances, Moves, Consumes, Acts}
 
 abbrev pub Reader : Type 0 → Type 0
 Reader A = Scope → List TokenAndSpan → Out A

@@ -8,7 +8,8 @@ use Rattle.swc_input.specs.Buffer.{Took, Served, source, held, with_source, cont
 use Rattle.swc_input.specs.Laws.{held-before, Took-then, keeps_same, Keeps-then, Future-before, Known-after}
 use Rattle.swc_input.specs.{declared.buffer.Buffer.Buffer, declared.token.TokenAndSpan.TokenAndSpan}
 use Rattle.swc_grammar.specs.Scope.{Scope, in_context}
-use Rattle.swc_steps.specs.Parsing.{scope, recorded, Loud, Spends, Leads, Onward, Moves, On, Unheard, Parses}
+use Rattle.swc_input.specs.Calls.{recorded, Loud, Spends, Leads}
+use Rattle.swc_steps.specs.Parsing.{scope, Onward, Moves, On, Unheard, Parses}
 use Rattle.swc_steps.proofs.Steps.Consumed.{Reader, give, moved_scope, spent}
 
 none_recorded : (m : Bool) (ws : List Error) → (m ≡ true → ws ≡ []) → recorded_in m ws ≡ []

@@ -6,7 +6,8 @@ use Rattle.swc_input.specs.Source.{Model, Laws, with_module_error, recorded_in}
 use Rattle.swc_input.specs.Buffer.{Read, Lives, Known, current, last_position, context}
 use Rattle.swc_input.specs.{declared.buffer.Buffer.Buffer, declared.token.TokenAndSpan.TokenAndSpan, Laws.Future-before, Recording.no_memory}
 use Rattle.swc_grammar.specs.{Scope.Scope, Clean.Out, Clean.first, Words.◌>>=◌}
-use Rattle.swc_steps.specs.Parsing.{seen, scope, recorded, Loud, Leads, Onward, Forgoes, Tries, Checks, On, Heard, Continues}
+use Rattle.swc_input.specs.Calls.{recorded, Loud, Leads, Forgoes, Tries, Checks}
+use Rattle.swc_steps.specs.Parsing.{seen, scope, Onward, On, Heard, Continues}
 use Rattle.swc_steps.specs.Readers.{nothing}
 use Rattle.swc_steps.proofs.Steps.Consumed.{Reader, give, more_than, read_scope, here, leads_then, onward_then, forgoes_later, more_recorded, loud_after}
 use Rattle.swc_steps.proofs.{Steps.Looks.known_first, Steps.Tokens.heard_then, Steps.Calls.on_call}

@@ -11,7 +11,8 @@ use Rattle.swc_input.specs.declared.token.Token.TheVariants as token
 use Rattle.swc_input.proofs.Refusals.{Refused-kind, unfit-kind}
 use Rattle.swc_grammar.specs.{Parts.lit_of, Clean.first, Clean.no_error}
 use Rattle.swc_ast.specs.Tree.{Tree}
-use Rattle.swc_steps.specs.Parsing.{seen, seen_of, Leads, Refuses, Here, Looks, Unfit, TookLiteral, Told}
+use Rattle.swc_input.specs.Calls.{Leads, Refuses, Here, Looks, Unfit}
+use Rattle.swc_steps.specs.Parsing.{seen, seen_of, TookLiteral, Told}
 use Rattle.swc_steps.proofs.Steps.Consumed.{here, leads_then, served_lives}
 
 seen_in : (f : Token → Bool) (o : Option TokenAndSpan) → at_token f (seen_of o) ≡ true → IsSome o

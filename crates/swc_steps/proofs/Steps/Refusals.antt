@@ -4,7 +4,8 @@ use Rattle.std.proofs.lemmas.Bool.{cases_lt}
 use Rattle.swc_context.specs.{declared.error.Error.Error, declared.error.SyntaxError.TheVariants.OutOfMemory, declared.error.SyntaxError.TheVariants.ParserFailed}
 use Rattle.swc_input.specs.{declared.buffer.Buffer.Buffer, declared.token.TokenAndSpan.TokenAndSpan, Source.Model, Source.Laws, Buffer.Looked, Laws.Known-after, Laws.Known-Future, Kinds.at_token}
 use Rattle.swc_grammar.specs.{Scope.Scope, Clean.first, Clean.no_error}
-use Rattle.swc_steps.specs.Parsing.{seen, scope, recorded, Loud, Spends, Leads, Refuses, Forgoes, Consumes, Tries, Here, Unfit, On, Unheard, Parses, Continues, Told}
+use Rattle.swc_input.specs.Calls.{recorded, Loud, Spends, Leads, Refuses, Forgoes, Tries, Here, Unfit}
+use Rattle.swc_steps.specs.Parsing.{seen, scope, Consumes, On, Unheard, Parses, Continues, Told}
 use Rattle.swc_steps.proofs.Steps.Consumed.{Reader, read_scope, leads_then, spends_then, served_later, leads_refused, onward_later, refuses_later, forgoes_refuses, more_recorded, loud_spent, loud_after}
 use Rattle.swc_steps.proofs.Steps.Looks.{looked_later, here_refused, begins}
 use Rattle.swc_steps.proofs.Steps.Tokens.{on_seen, on_told}

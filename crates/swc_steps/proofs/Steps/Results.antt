@@ -4,7 +4,8 @@ use Rattle.swc_context.specs.{declared.error.Error.Error, declared.span.BytePos.
 use Rattle.swc_input.specs.{declared.buffer.Buffer.Buffer, declared.token.Token.Token, declared.token.TokenAndSpan.TokenAndSpan, Plain.plain, Source.Model, Source.Laws, Buffer.Bumped, Recording.no_memory}
 use Rattle.swc_grammar.specs.{Scope.Scope, Clean.Out, Words.◌>>=◌}
 use Rattle.swc_steps.specs.Lists.{eaten}
-use Rattle.swc_steps.specs.Parsing.{Leads, Onward, Consumes, Acts, Tries, On, Heard, Unheard, Parses, Continues}
+use Rattle.swc_input.specs.Calls.{Leads, Tries}
+use Rattle.swc_steps.specs.Parsing.{Onward, Consumes, Acts, On, Heard, Unheard, Parses, Continues}
 use Rattle.swc_steps.proofs.Steps.Consumed.{Reader, give, leads_then, spent, onward_then, onward_later, refuses_later, forgoes_later, forgoes_here}
 use Rattle.swc_steps.proofs.Steps.Tokens.{on_took, on_then, heard_after, heard_then, heard_first, on_answer}
 use Rattle.swc_steps.proofs.{Steps.Calls.on_call, Steps.Calls.on_call_read, Steps.Refusals.unheard_after, Steps.Refusals.unheard_memory}

@@ -5,7 +5,8 @@ use Rattle.swc_input.specs.Buffer.{Looked, Bumped, current}
 use Rattle.swc_input.specs.Laws.{Read-then, Future-before, Known-after, Known-Future}
 use Rattle.swc_input.specs.{declared.buffer.Buffer.Buffer, declared.token.Token.Token, declared.token.TokenAndSpan.TokenAndSpan, Plain.plain, Source.Model, Source.Laws}
 use Rattle.swc_grammar.specs.{Scope.Scope, Clean.first}
-use Rattle.swc_steps.specs.Parsing.{seen, seen_of, scope, recorded, Leads, Onward, Here, On, Heard, Told}
+use Rattle.swc_input.specs.Calls.{recorded, Leads, Here}
+use Rattle.swc_steps.specs.Parsing.{seen, seen_of, scope, Onward, On, Heard, Told}
 use Rattle.swc_steps.proofs.Steps.Consumed.{Reader, give, read_scope, here, leads_then, spent, served_lives, took_leads, onward_then, onward_later, onward_one, more_recorded, loud_after}
 use Rattle.swc_steps.proofs.Steps.Looks.{begins}
 

@@ -8,7 +8,8 @@ use Rattle.swc_nodes.proofs.{ArrowNodes.apart-back, Standing.grows-same}
 use Rattle.swc_cover.specs.{Clear.is_clear, Faults.params_verdict, ReservedNames.names_ok, Items.want_items}
 use Rattle.swc_cover.proofs.Kept.{kept-less}
 use Rattle.swc_steps.specs.Keys.{expected}
-use Rattle.swc_steps.specs.Parsing.{scope, seen_of, args_at, Checks, On}
+use Rattle.swc_input.specs.Calls.{Checks}
+use Rattle.swc_steps.specs.Parsing.{scope, seen_of, args_at, On}
 use Rattle.swc_steps.proofs.{Building.apart-lower, Naming.goes, Naming.stops, Rules.passes_plain}
 use Rattle.swc_steps.proofs.Steps as s
 use Rattle.swc_arrows.specs.Readers.{arrow_behind, params_closed, params_refined, takes_params}

@@ -1,7 +1,8 @@
 use Rattle.std.proofs.Common.{sym, ap, subst, ◌∙◌}
 use Rattle.swc_context.specs.{Reserved.strict_binding_words, Texts.is_one_of}
 use Rattle.swc_input.specs.Buffer.{context}
-use Rattle.swc_steps.specs.Parsing.{ident_spelling, Checked}
+use Rattle.swc_input.specs.Calls.{Checked}
+use Rattle.swc_steps.specs.Parsing.{ident_spelling}
 use Rattle.swc_steps.proofs.Steps.{check_passes, not_true, not_false}
 use Rattle.swc_arrows.specs.Readers.{name_ok}
 use Rattle.swc_arrows.proofs.NameReads.{ok_lax, ok_other, ok_strict}

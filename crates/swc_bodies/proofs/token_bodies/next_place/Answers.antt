@@ -10,4 +10,4 @@ pub returns-in-None : goal.returns-in-None
 returns-in-None g c =
     stops-here g.met.I.Tokens.laws c.args.input.now c.after_current.new.input c.unexpected.new.self c.args.place _
     c.unexpected.result refl
-    c.after_current.ensures.looked (sym c.after_current.ensures.value ∙ c.in-None.is) c.unexpected.ensures
+    c.after_current.ensures.looked (sym c.after_current.ensures.value ∙ c.in-None.is) c.unexpected.ensures.refused

@@ -2,7 +2,8 @@ use Rattle.std.proofs.Common.{◌≡◌, ◌≤◌, true, take}
 use Rattle.swc_input.specs.{Buffer.current, Buffer.to_come, Kinds.at_token, Recordings.NotesAll}
 use Rattle.swc_grammar.specs.Clean.{no_error}
 use Rattle.swc_cover.specs.{ReservedNames.has_none, Noting.errors_of}
-use Rattle.swc_steps.specs.Parsing.{Checks, seen}
+use Rattle.swc_input.specs.Calls.{Checks}
+use Rattle.swc_steps.specs.Parsing.{seen}
 use Rattle.swc_cover.proofs.noting.record_all.Given as goal
 
 abbrev pub invariant-loop-fault : goal.invariant-loop-fault

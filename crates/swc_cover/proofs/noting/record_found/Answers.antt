@@ -16,7 +16,7 @@ pub returns-in-Some-clause-refuses : goal.returns-in-Some-clause-refuses
 returns-in-Some-clause-refuses g c = (
   refuses_later c.in_ok-record_all.ensures.checks.leads
       (refused g.met.I.Tokens.laws (λ here. no_pattern c.in-Some.span) _ (λ here. λ e. cc)
-      (refused-at c.in-Some.span c.in_order.result InvalidPat c.in_order.ensures c.syntax_error.ensures)),
+      (refused-at c.in-Some.span c.in_order.result InvalidPat c.in_order.ensures c.syntax_error.ensures.refused)),
   λ n. subst IsSome (sym c.in-Some.is) refl,
 )
 
@@ -34,7 +34,7 @@ returns-in-Some-clause-judges g c = λ n. record {
   is = ap refusal_of c.in-Some.is;
   noted = _;
   notes = c.in_ok-record_all.ensures.notes;
-  refused = refused-at c.in-Some.span c.in_order.result InvalidPat c.in_order.ensures c.syntax_error.ensures;
+  refused = refused-at c.in-Some.span c.in_order.result InvalidPat c.in_order.ensures c.syntax_error.ensures.refused;
 }
 
 pub returns-in-None-clause-judges : goal.returns-in-None-clause-judges

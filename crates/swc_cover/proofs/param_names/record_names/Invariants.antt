@@ -1,7 +1,7 @@
 use Rattle.std.proofs.Common.{◌≤◌, not, ◌||◌, map, take}
 use Rattle.swc_input.specs.Buffer.{context, to_come}
 use Rattle.swc_cover.specs.{ReservedNames.has_none, Noting.name_error, Noting.NotesStrict}
-use Rattle.swc_steps.specs.Parsing.{Checks}
+use Rattle.swc_input.specs.Calls.{Checks}
 use Rattle.swc_cover.proofs.param_names.record_names.Given as goal
 
 abbrev pub invariant-loop-span : goal.invariant-loop-span

@@ -28,7 +28,7 @@ returns-in-Some-clause-names g c =
     refused_name c.get_ctx-ctx.result c.get_ctx-ctx.ensures (place_told c.prev_span-span.ensures c.in_ok-word.ensures)
     (sym c.refusal_of.ensures ∙ c.in-Some.is) (c.mark_of-mark.ensures
     ∙ same_faults c.args.incl_yield c.args.incl_await c.get_ctx-ctx.result c.in_ok-word.word)
-    c.in_default.ensures c.syntax_error.ensures
+    c.in_default.ensures c.syntax_error.ensures.refused
 
 pub returns-in-Some-clause-read : goal.returns-in-Some-clause-read
 returns-in-Some-clause-read g c = unnamed_reads g.met.I.Tokens.laws (returns-in-Some-clause-names g c)

@@ -25,7 +25,7 @@ returns-then-cur_pos-hash-clause-private g c =
     let looked = looked_then g.met.I.Tokens.laws c.in_ok-has_cur.ensures.seen.looked c.cur_pos.ensures.looked in
     apart_from _ c.cur_pos.result c.new-at.result refl c.in_ok-hash.ensures looked c.cur_pos.ensures.value
     c.if-cur_pos-hash.true
-    c.new-at.ensures c.syntax_error.ensures
+    c.new-at.ensures c.syntax_error.ensures.refused
 
 pub returns-then-cur_pos-hash-clause-read : goal.returns-then-cur_pos-hash-clause-read
 returns-then-cur_pos-hash-clause-read g c = unprivate_reads g.met.I.Tokens.laws

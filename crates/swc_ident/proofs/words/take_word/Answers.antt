@@ -21,4 +21,4 @@ pub returns : goal.returns
 returns g c =
     missed_word _ c.cur_span-at.result refl c.in_ok-require_cur.ensures.found.1 c.in_ok-require_cur.ensures.found.2
     c.in_ok-require_cur.ensures.found.0
-    (sym c.is_at_word.ensures ∙ c.if-is_at_word.false) c.cur_span-at.ensures c.syntax_error.ensures
+    (sym c.is_at_word.ensures ∙ c.if-is_at_word.false) c.cur_span-at.ensures c.syntax_error.ensures.refused

@@ -2,7 +2,8 @@ use Rattle.std.proofs.Common.{◌≡◌, false, sym, ap, subst, ◌∙◌}
 use Rattle.swc_input.specs.Buffer.{context}
 use Rattle.swc_ast.specs.Targets.{is_target}
 use Rattle.swc_nodes.proofs.Targets.{target-from}
-use Rattle.swc_steps.specs.Parsing.{tree_of, Refuses}
+use Rattle.swc_input.specs.Calls.{Refuses}
+use Rattle.swc_steps.specs.Parsing.{tree_of}
 use Rattle.swc_steps.proofs.Steps.{check_passes, refuses_later}
 use Rattle.swc_operators.proofs.assign.check_assign_target.Goals as goal
 use Rattle.swc_operators.proofs.assign.check_assign_target.Goals.{in-Assign+in_ok-emit_err-in-Assign, in_default+in_ok-emit_err-in_default}

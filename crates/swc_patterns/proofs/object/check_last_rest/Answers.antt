@@ -18,7 +18,7 @@ returns-in_default-clause-judges g c = rw (c.in_default.is) (refl, notes-none g.
 pub returns-then-not-rest-clause-checks : goal.returns-then-not-rest-clause-checks
 returns-then-not-rest-clause-checks g c = λ sure. record {
   refuses = s.refused g.met.I.Tokens.laws (λ here. record { span = c.in_order.result; kind = DotsWithoutIdentifier }) _
-      (λ here. λ e. cc) c.syntax_error.ensures;
+      (λ here. λ e. cc) c.syntax_error.ensures.refused;
   none = λ n y l ts k. unnamed c.args.rest c.in-Some.rest c.args.comma
       (scope g.I.Tokens.model c.args.input.now) ts c.in-Some.is c.if-not-rest.true;
 }
@@ -27,7 +27,7 @@ pub returns-then-not-rest-clause-judges : goal.returns-then-not-rest-clause-judg
 returns-then-not-rest-clause-judges g c = λ n.
     last_dotted g.I.Tokens.model _ _ c.args.rest c.in-Some.rest c.args.comma c.in-Some.is c.if-not-rest.true
     c.in_order.ensures
-    c.syntax_error.ensures
+    c.syntax_error.ensures.refused
 
 pub returns-in-Some-comma-clause-checks : goal.returns-in-Some-comma-clause-checks
 returns-in-Some-comma-clause-checks g c =

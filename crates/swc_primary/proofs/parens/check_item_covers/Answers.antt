@@ -1,7 +1,8 @@
 use Rattle.std.proofs.Common.{true, ◌||◌, refl, sym, ap, subst, ◌∙◌, arith}
 use Rattle.std.proofs.lemmas.Result.{err_from_is_err_and}
 use Rattle.swc_ast.specs.{Parts.item_trees, Trees.no_covers}
-use Rattle.swc_steps.specs.Parsing.{tree_of, Checks}
+use Rattle.swc_input.specs.Calls.{Checks}
+use Rattle.swc_steps.specs.Parsing.{tree_of}
 use Rattle.swc_primary.proofs.ParenItems.{whole_item, item_from, item_checked, items_checked}
 use Rattle.swc_steps.proofs.Steps.{check_passes, forgoes_later}
 use Rattle.swc_primary.proofs.parens.check_item_covers.Goals as goal

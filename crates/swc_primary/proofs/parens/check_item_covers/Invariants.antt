@@ -1,6 +1,7 @@
 use Rattle.std.proofs.Common.{◌≤◌, take}
 use Rattle.swc_input.specs.Buffer.{to_come}
-use Rattle.swc_steps.specs.Parsing.{tree_of, Checks}
+use Rattle.swc_input.specs.Calls.{Checks}
+use Rattle.swc_steps.specs.Parsing.{tree_of}
 use Rattle.swc_primary.proofs.ParenItems.{all_pass, whole_item}
 use Rattle.swc_primary.proofs.parens.check_item_covers.Given as goal
 

@@ -1,7 +1,7 @@
 use Rattle.std.proofs.Common.{not, ◌≤◌, take}
 use Rattle.swc_input.specs.Buffer.{to_come}
 use Rattle.swc_nodes.specs.Lists.{has_cover}
-use Rattle.swc_steps.specs.Parsing.{Checks}
+use Rattle.swc_input.specs.Calls.{Checks}
 use Rattle.swc_primary.proofs.parens.check_props.Given as goal
 
 abbrev pub invariant-loop-prop : goal.invariant-loop-prop

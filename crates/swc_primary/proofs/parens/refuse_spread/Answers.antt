@@ -1,5 +1,6 @@
 use Rattle.std.proofs.Common.{not, refl, sym, ap, subst, ◌∙◌, arith}
-use Rattle.swc_steps.specs.Parsing.{tree_of, Refuses}
+use Rattle.swc_input.specs.Calls.{Refuses}
+use Rattle.swc_steps.specs.Parsing.{tree_of}
 use Rattle.swc_primary.proofs.ParenItems.{plain_item, item_from, pass-on, none_spread, one_spread}
 use Rattle.swc_primary.proofs.parens.refuse_spread.Goals as goal
 

@@ -18,7 +18,8 @@ use Rattle.swc_operators.specs.Assignments.{seqs_more}
 use Rattle.swc_operators.specs.Entered.{Entered, EnteredList}
 use Rattle.swc_operators.specs.Pending.{pending_reads}
 use Rattle.swc_steps.specs.Loops.{ItemsRead}
-use Rattle.swc_steps.specs.Parsing.{On, Loud, recorded, scope, tree_of}
+use Rattle.swc_input.specs.Calls.{Loud, recorded}
+use Rattle.swc_steps.specs.Parsing.{On, scope, tree_of}
 use Rattle.swc_left.specs.Templates.{parts_behind}
 use Rattle.swc_productions.proofs.ring.+productions.Given as goal
 use Rattle.swc_patterns.specs.Loops.{PatPropsRead}

@@ -1,7 +1,7 @@
 use Rattle.std.proofs.Common.{ℕ, List, MatchResult, subst, ◌∙◌}
 use Rattle.std.proofs.lemmas.Result.{err_from_is_err_and}
 use Rattle.swc_input.specs.Recording.{is_some}
-use Rattle.swc_steps.specs.Parsing.{Checks, Forgoes}
+use Rattle.swc_input.specs.Calls.{Checks, Forgoes}
 use Rattle.swc_grammar.specs.Parts.{has_unknown, repeated, flags_ok}
 use Rattle.swc_steps.proofs.Steps.{check_later}
 use Rattle.swc_steps.proofs.regex.check_flags.Goals as goal

@@ -8,4 +8,4 @@ pub returns-clause-refuses : goal.returns-clause-refuses
 returns-clause-refuses g c = refused g.met.I.Tokens.laws
     (λ here. unfit (current here) (last_position here) c.args.kind) _
     (λ here. unfit-kind (current here) (last_position here) c.args.kind ParserFailed (λ h. cc) c.requires)
-    c.unexpected.ensures
+    c.unexpected.ensures.refused

@@ -2,7 +2,7 @@ use Rattle.std.proofs.Common.{ap, ◌∙◌}
 use Rattle.swc_context.specs.declared.error.SyntaxError.TheVariants.{Eof}
 use Rattle.swc_input.specs.Buffer.{current, source, last_position}
 use Rattle.swc_input.specs.Recording.{refusal, unfit}
-use Rattle.swc_input.proofs.{Emits.unfit_by, Refusals.unfit-unknown, Refusals.unfit-error, buffer.Buffer.require_cur.Goals.else-knows_cur-via-then-knows_cur+else-not-is_error, buffer.Buffer.require_cur.Goals.else-knows_cur-via-else-knows_cur}
+use Rattle.swc_input.proofs.{Calls.unfits, Emits.unfit_by, Refusals.unfit-unknown, Refusals.unfit-error, buffer.Buffer.require_cur.Goals.else-knows_cur-via-then-knows_cur+else-not-is_error, buffer.Buffer.require_cur.Goals.else-knows_cur-via-else-knows_cur}
 use Rattle.swc_input.proofs.buffer.Buffer.require_cur.Goals as goal
 
 pub returns-clause-refused : goal.returns-clause-refused
@@ -19,3 +19,6 @@ returns-clause-refused g c =
       | else-knows_cur-via-else-knows_cur w ↦ unfit-unknown
           (current c.had_line_break_before_cur.new.self) c.knows_cur.result c.knows_cur.ensures.1 w.if-knows_cur.false
     ])
+
+pub returns-clause-fits : goal.returns-clause-fits
+returns-clause-fits g c = unfits g.met.I.Tokens.laws (returns-clause-refused g c)
