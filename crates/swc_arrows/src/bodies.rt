@@ -23,7 +23,7 @@ use swc_input::tokens::Tokens;
 use swc_nodes::node::ExprId;
 use swc_primary::methods::parse_block;
 use swc_steps::productions::Productions;
-use swc_steps::tokens::{Sign, emit_err, is_after_line_break, is_sign, look, set_ctx};
+use swc_steps::tokens::{Sign, is_after_line_break, is_sign, look, set_ctx};
 
 /// What was read where an arrow function may be.
 #[derive(Clone, Copy)]
@@ -120,7 +120,7 @@ fn check_sign<I: Tokens>(input: &mut Buffer<I>, bars: bool) -> PResult<bool>
         return Ok(false);
     }
     let span = input.cur_span();
-    emit_err(input, span, SyntaxError::TS1005)?;
+    input.emit_err(span, SyntaxError::TS1005)?;
     Ok(true)
 }
 
@@ -151,7 +151,7 @@ pub fn check_operators_end<I: Tokens>(input: &mut Buffer<I>) -> PResult<()>
         return Ok(());
     }
     let span = input.cur_span();
-    emit_err(input, span, SyntaxError::TS1005)
+    input.emit_err(span, SyntaxError::TS1005)
 }
 
 /// Whether a token is current that ends a statement.

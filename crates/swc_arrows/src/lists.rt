@@ -24,9 +24,7 @@ use swc_nodes::node::ExprId;
 use swc_primary::parens::check_item_covers;
 use swc_primary::primary::{paren_items, parse_reference};
 use swc_steps::productions::Productions;
-use swc_steps::tokens::{
-    Listed, Sign, expect, is_after_line_break, is_sign, look, skip, syntax_error,
-};
+use swc_steps::tokens::{Listed, Sign, expect, is_after_line_break, is_sign, look, skip};
 
 /// Where a list begins that may be the parameters of an arrow function.
 #[derive(Clone, Copy)]
@@ -148,7 +146,7 @@ fn refuse_line_break<I: Tokens>(input: &mut Buffer<I>, start: Span, end: Span) -
 {
     if is_after_line_break(input)? {
         let span = Span::new(start.lo, end.hi);
-        return Err(syntax_error(input, span, SyntaxError::LineBreakBeforeArrow));
+        return Err(input.syntax_error(span, SyntaxError::LineBreakBeforeArrow));
     }
     Ok(())
 }

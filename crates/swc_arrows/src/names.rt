@@ -23,9 +23,7 @@ use swc_nodes::node::{ExprId, PatId};
 use swc_patterns::pat::{made, parse_plain_pat};
 use swc_primary::primary::parse_reference;
 use swc_steps::productions::Productions;
-use swc_steps::tokens::{
-    Sign, emit_err, emit_strict_mode_err, expect, is_after_line_break, is_sign, look, syntax_error,
-};
+use swc_steps::tokens::{Sign, expect, is_after_line_break, is_sign, look};
 
 /// What an arrow function begins with (ECMA-262, 15.3 and 15.9), up to its `=>`.
 #[derive(Drop)]
@@ -105,7 +103,7 @@ fn refuse_arrow_line<I: Tokens>(input: &mut Buffer<I>, start: BytePos) -> PResul
     }
     if is_after_line_break(input)? && is_sign(input, Sign::Arrow) {
         let span = Span::new(start, input.last_pos());
-        return Err(syntax_error(input, span, SyntaxError::LineBreakBeforeArrow));
+        return Err(input.syntax_error(span, SyntaxError::LineBreakBeforeArrow));
     }
     Ok(())
 }
@@ -152,7 +150,7 @@ fn check_async_of<I: Tokens>(input: &mut Buffer<I>, at: Span) -> PResult<()>
     if ctx.expr_ctx.for_await_loop_init {
         return Ok(());
     }
-    emit_err(input, at, SyntaxError::TS1106)
+    input.emit_err(at, SyntaxError::TS1106)
 }
 
 /// Records, for modules, a parameter of strict code that is `eval` or `arguments`.
@@ -168,7 +166,7 @@ fn check_arrow_name<I: Tokens>(input: &mut Buffer<I>, name: &Ident) -> PResult<(
     if !name.sym.is_reserved_in_strict_bind() {
         return Ok(());
     }
-    emit_strict_mode_err(input, name.span, SyntaxError::EvalAndArgumentsInStrict)
+    input.emit_strict_mode_err(name.span, SyntaxError::EvalAndArgumentsInStrict)
 }
 
 /// Whether the word `of` is current, in the head of a `for`, and no `=>` after it. Consumes nothing, and is refused

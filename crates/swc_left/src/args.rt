@@ -13,7 +13,7 @@ use swc_context::span::{BytePos, Span};
 use swc_input::buffer::Buffer;
 use swc_input::tokens::Tokens;
 use swc_nodes::node::ExprId;
-use swc_steps::tokens::{Listed, Sign, emit_err, is_sign, look, separate, syntax_error};
+use swc_steps::tokens::{Listed, Sign, is_sign, look, separate};
 
 /// Consumes what is after an argument: a comma, whose place is answered, or nothing where the parenthesis that
 /// closes the list is current. After the last argument of `import` a comma may be refused.
@@ -54,7 +54,7 @@ fn refuse_last_comma<I: Tokens>(input: &mut Buffer<I>, start: Span, comma: Span)
     }
     let span = Span::new(start.lo, comma.hi);
     let kind = SyntaxError::TrailingCommaInsideImport;
-    Err(syntax_error(input, span, kind))
+    Err(input.syntax_error(span, kind))
 }
 
 /// Whether a comma may come after the last argument of `import`.
@@ -83,7 +83,7 @@ pub fn check_import_args<I: Tokens>(
         return Ok(());
     }
     let span = Span::new(open, list.end.hi);
-    emit_err(input, span, SyntaxError::ImportArguments)
+    input.emit_err(span, SyntaxError::ImportArguments)
 }
 
 /// Whether these may be the arguments, of `import` or of another callee.

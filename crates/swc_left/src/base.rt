@@ -18,14 +18,12 @@ use swc_ast::prop::ComputedPropName;
 use swc_bodies::bodies::Bodies;
 use swc_context::error::{Error, PResult, SyntaxError, Wanted};
 use swc_context::span::{BytePos, Span};
+use swc_ident::ident;
 use swc_input::buffer::Buffer;
 use swc_input::tokens::Tokens;
 use swc_nodes::node::ExprId;
 use swc_steps::productions::Productions;
-use swc_steps::tokens::{
-    Listed, Sign, eat, emit_err, expect, is_sign, look, parse_ident_name, parse_private_name, skip,
-    syntax_error, unexpected,
-};
+use swc_steps::tokens::{Listed, Sign, eat, expect, is_sign, look, parse_private_name, skip};
 
 /// What is after `super` (ECMA-262, 13.3.7), by its first tokens, which were consumed.
 #[derive(Clone, Copy)]
@@ -75,7 +73,7 @@ pub fn parse_super_name<I: Tokens, B: Bodies<I>>(
         parse_private_name(p.alloc, &mut p.input)?;
         return Err(refuse_super_link(&mut p.input, true));
     }
-    let name = parse_ident_name(p.alloc, &mut p.input)?;
+    let name = ident::parse_ident_name(p.alloc, &mut p.input)?;
     require_super(&mut p.input)?;
     let end = name.span.hi;
     let prop = SuperProp::Ident(name);
@@ -219,8 +217,8 @@ fn import_member<I: Tokens>(
             import_callee(input, Import { span, phase }, no_call)
         }
         None => {
-            parse_ident_name(alloc, input)?;
-            Err(unexpected(input, SyntaxError::Unexpected(Wanted::Meta)))
+            ident::parse_ident_name(alloc, input)?;
+            Err(input.unexpected(SyntaxError::Unexpected(Wanted::Meta)))
         }
     }
 }
@@ -328,7 +326,7 @@ fn require_super<I: Tokens>(input: &mut Buffer<I>) -> PResult<()>
         return Ok(());
     }
     let span = input.prev_span();
-    Err(syntax_error(input, span, SyntaxError::InvalidSuper))
+    Err(input.syntax_error(span, SyntaxError::InvalidSuper))
 }
 
 /// Refuses what is after `super` at the token consumed last: as `InvalidSuper`, and where `super` may have
@@ -338,9 +336,9 @@ fn refuse_super_link<I: Tokens>(input: &mut Buffer<I>, no_call: bool) -> Error
 {
     let span = input.prev_span();
     if no_call && super_allowed(input) {
-        return syntax_error(input, span, SyntaxError::InvalidSuperCall);
+        return input.syntax_error(span, SyntaxError::InvalidSuperCall);
     }
-    syntax_error(input, span, SyntaxError::InvalidSuper)
+    input.syntax_error(span, SyntaxError::InvalidSuper)
 }
 
 /// Refuses brackets after `super` and `?.`, after the expression in them: as `InvalidSuper`, and where `super` may
@@ -360,7 +358,7 @@ pub fn refuse_super_args<I: Tokens>(input: &mut Buffer<I>) -> Error
     ensures { Refuses I.model input.old result input.new }
 {
     let span = input.prev_span();
-    syntax_error(input, span, SyntaxError::SuperCallOptional)
+    input.syntax_error(span, SyntaxError::SuperCallOptional)
 }
 
 /// Refuses the current token after `super`: as `InvalidSuper`, and with `no_call` as `InvalidSuperCall`.
@@ -369,9 +367,9 @@ fn refuse_super_token<I: Tokens>(input: &mut Buffer<I>, no_call: bool) -> Error
 {
     let span = input.cur_span();
     if no_call {
-        return syntax_error(input, span, SyntaxError::InvalidSuperCall);
+        return input.syntax_error(span, SyntaxError::InvalidSuperCall);
     }
-    syntax_error(input, span, SyntaxError::InvalidSuper)
+    input.syntax_error(span, SyntaxError::InvalidSuper)
 }
 
 /// Records that there is no `import.meta` to give, as in scripts (ECMA-262, 13.3.12.1).
@@ -383,7 +381,7 @@ fn check_import_meta<I: Tokens>(input: &mut Buffer<I>, span: Span) -> PResult<()
     if ctx.can_be_module {
         return Ok(());
     }
-    emit_err(input, span.in_order(), SyntaxError::ImportMetaInScript)
+    input.emit_err(span.in_order(), SyntaxError::ImportMetaInScript)
 }
 
 /// Refuses a call of `import`: a parenthesis as `InvalidImport`, and another token where one is expected.
@@ -396,7 +394,7 @@ fn refuse_import<I: Tokens>(input: &mut Buffer<I>) -> Error
     }
     if is_sign(input, Sign::LParen) {
         let span = input.cur_span();
-        return syntax_error(input, span, SyntaxError::InvalidImport);
+        return input.syntax_error(span, SyntaxError::InvalidImport);
     }
-    unexpected(input, SyntaxError::Expected(Wanted::LParen))
+    input.unexpected(SyntaxError::Expected(Wanted::LParen))
 }

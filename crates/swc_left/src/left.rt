@@ -18,6 +18,7 @@ use swc_bodies::bodies::Bodies;
 use swc_context::context::Context;
 use swc_context::error::{PResult, SyntaxError, Wanted};
 use swc_context::span::{BytePos, Span};
+use swc_ident::ident;
 use swc_input::buffer::Buffer;
 use swc_input::token::Token;
 use swc_input::tokens::Tokens;
@@ -25,8 +26,7 @@ use swc_nodes::node::ExprId;
 use swc_nodes::nodes::NodesOf;
 use swc_steps::productions::Productions;
 use swc_steps::tokens::{
-    Listed, Sign, eat, emit_err, expect, expect_or, is_sign, look, parse_ident_name,
-    parse_private_name, skip, syntax_error,
+    Listed, Sign, eat, expect, expect_or, is_sign, look, parse_private_name, skip,
 };
 
 /// A link of a left-hand side (ECMA-262, 13.3), by the token that begins it.
@@ -124,7 +124,7 @@ pub(crate) fn parse_member_name<I: Tokens, B: Bodies<I>>(
         let (name, end) = parse_private_name(p.alloc, &mut p.input)?;
         return Ok((MemberProp::PrivateName(name), end));
     }
-    let name = parse_ident_name(p.alloc, &mut p.input)?;
+    let name = ident::parse_ident_name(p.alloc, &mut p.input)?;
     let end = name.span.hi;
     Ok((MemberProp::Ident(name), end))
 }
@@ -303,7 +303,7 @@ fn check_new_target<I: Tokens>(input: &mut Buffer<I>, span: Span) -> PResult<()>
     if may_be_new_target(ctx) {
         return Ok(());
     }
-    emit_err(input, span.in_order(), SyntaxError::InvalidNewTarget)
+    input.emit_err(span.in_order(), SyntaxError::InvalidNewTarget)
 }
 
 /// Whether `new.target` may be in the context.
@@ -327,7 +327,7 @@ pub fn refuse_opt_chain<I: Tokens, B: Bodies<I>>(
     if nodes.is_opt_chain(callee) {
         let span = nodes.span(callee);
         let kind = SyntaxError::OptChainCannotFollowConstructorCall;
-        return Err(syntax_error(input, span, kind));
+        return Err(input.syntax_error(span, kind));
     }
     Ok(())
 }

@@ -22,7 +22,7 @@ use swc_input::tokens::Tokens;
 use swc_nodes::node::ExprId;
 use swc_nodes::nodes::NodesOf;
 use swc_steps::productions::Productions;
-use swc_steps::tokens::{Sign, eat, emit_err, expect, is_sign, look, unexpected};
+use swc_steps::tokens::{Sign, eat, expect, is_sign, look};
 
 /// What is between the backquotes of a template: its texts, an expression between each two of them, and the place
 /// of the backquote that closes it.
@@ -63,7 +63,7 @@ pub fn parse_tpl_element<I: Tokens>(input: &mut Buffer<I>, is_tagged: bool) -> P
     look(input)?;
     if !is_template(input) {
         let kind = SyntaxError::Unexpected(Wanted::TplToken);
-        return Err(unexpected(input, kind));
+        return Err(input.unexpected(kind));
     }
     let token = input.bump();
     let span = input.prev_span();
@@ -141,5 +141,5 @@ fn check_tag<I: Tokens, B: Bodies<I>>(
         return Ok(());
     }
     let span = Span::new(nodes.extent(tag).lo, end);
-    emit_err(input, span, SyntaxError::TaggedTplInOptChain)
+    input.emit_err(span, SyntaxError::TaggedTplInOptChain)
 }

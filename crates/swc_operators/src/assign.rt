@@ -28,7 +28,7 @@ use swc_input::tokens::Tokens;
 use swc_nodes::node::{ExprId, Node, TargetNode};
 use swc_nodes::nodes::NodesOf;
 use swc_steps::productions::Productions;
-use swc_steps::tokens::{emit_err, is_after_line_break, syntax_error};
+use swc_steps::tokens::is_after_line_break;
 
 /// The operator that writes which the current token is, where `left` is before it: none after an operation.
 pub fn cur_assign_op<I: Tokens, B: Bodies<I>>(
@@ -98,7 +98,7 @@ pub fn refuse_yield_param<I: Tokens>(input: &mut Buffer<I>) -> PResult<()>
     let ctx = input.get_ctx();
     if ctx.in_parameters && !ctx.in_function {
         let span = input.prev_span();
-        return Err(syntax_error(input, span, SyntaxError::YieldParamInGen));
+        return Err(input.syntax_error(span, SyntaxError::YieldParamInGen));
     }
     Ok(())
 }
@@ -248,13 +248,13 @@ fn check_assign_target<I: Tokens, B: Bodies<I>>(
     }
     let span = nodes.span(left);
     match op {
-        AssignOp::Assign => emit_err(input, span, SyntaxError::TS2406)?,
-        _ => emit_err(input, span, SyntaxError::NotSimpleAssign)?,
+        AssignOp::Assign => input.emit_err(span, SyntaxError::TS2406)?,
+        _ => input.emit_err(span, SyntaxError::NotSimpleAssign)?,
     }
     if nodes.has_target(TargetNode::Simple(left)) {
         return Ok(());
     }
-    Err(syntax_error(input, span, SyntaxError::InvalidAssignTarget))
+    Err(input.syntax_error(span, SyntaxError::InvalidAssignTarget))
 }
 
 /// An assignment (ECMA-262, 13.15) by the operator of `right` to the target, which is before it.

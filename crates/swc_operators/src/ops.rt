@@ -33,10 +33,7 @@ use swc_nodes::nodes::{Nodes, NodesOf};
 use swc_nodes::pending::{PendingOperator, PendingOperators};
 use swc_nodes::shape::is_nullish_op;
 use swc_steps::productions::Productions;
-use swc_steps::tokens::{
-    emit_err, emit_error, emit_strict_mode_err, is_after_line_break, is_out_of_memory, look, skip,
-    syntax_error,
-};
+use swc_steps::tokens::{is_after_line_break, is_out_of_memory, look, record_refusal, skip};
 
 /// Records, before an operator, that its left operand, which begins at `first`, was refused: a node of `Invalid`
 /// stands in for it. Elsewhere the refusal is the answer, and so is out of memory.
@@ -74,7 +71,7 @@ fn stand_in<I: Tokens, B: Bodies<I>>(
     ensures operator { OnOk result (IsSome (current p.new.input)) }
 {
     let operator = p.cur_span();
-    emit_err(&mut p.input, operator, SyntaxError::TS1109)?;
+    p.input.emit_err(operator, SyntaxError::TS1109)?;
     let node = p.nodes.invalid(at, first, first);
     let left = p.made(node)?;
     Ok((left, op))
@@ -242,7 +239,7 @@ fn recover<I: Tokens, B: Bodies<I>>(
     requires { error.kind ≢ ParserFailed }
     ensures { Recovers I.model itself (Tries I.model) error.kind p.old result p.new }
 {
-    emit_error(&mut p.input, error)?;
+    record_refusal(&mut p.input, error)?;
     let at = BytePos(first.0.saturating_sub(1));
     let node = p.nodes.invalid(Span { lo: at, hi: at }, first, last);
     p.made(node)
@@ -348,7 +345,7 @@ fn check_await_ident<I: Tokens>(input: &mut Buffer<I>, start: Span) -> PResult<(
 {
     let ctx = input.get_ctx();
     if ctx.in_async || ctx.module {
-        return emit_err(input, start, SyntaxError::InvalidIdentInAsync);
+        return input.emit_err(start, SyntaxError::InvalidIdentInAsync);
     }
     Ok(())
 }
@@ -362,10 +359,10 @@ pub fn check_await<I: Tokens>(input: &mut Buffer<I>, start: Span) -> PResult<()>
     let ctx = input.get_ctx();
     if ctx.in_function && !ctx.in_async {
         let span = input.cur_span();
-        return emit_err(input, span, SyntaxError::AwaitInFunction);
+        return input.emit_err(span, SyntaxError::AwaitInFunction);
     }
     if ctx.in_parameters && !ctx.in_function {
-        return emit_err(input, start, SyntaxError::AwaitParamInAsync);
+        return input.emit_err(start, SyntaxError::AwaitParamInAsync);
     }
     Ok(())
 }
@@ -424,7 +421,7 @@ pub fn check_update_target<I: Tokens, B: Bodies<I>>(
     if nodes.is_simple_target(arg, strict) {
         return Ok(());
     }
-    emit_err(input, nodes.span(arg), SyntaxError::TS2406)
+    input.emit_err(nodes.span(arg), SyntaxError::TS2406)
 }
 
 /// The prefix operator that the current token is: none of `++`, `--` and `await`.
@@ -459,7 +456,7 @@ fn refuse_unary_in_exp<I: Tokens, B: Bodies<I>>(
     if is_unary_in_exp(nodes, op, left) {
         let span = input.prev_span();
         let left_span = nodes.span(left);
-        return Err(syntax_error(input, span, SyntaxError::UnaryInExp { left_span }));
+        return Err(input.syntax_error(span, SyntaxError::UnaryInExp { left_span }));
     }
     Ok(())
 }
@@ -476,8 +473,7 @@ pub fn check_nullish_left<I: Tokens, B: Bodies<I>>(
     ensures falls { OnOk result (to_come I.model input.new ≤ to_come I.model input.old) }
 {
     if nodes.has_nullish_left(expr) {
-        return emit_err(
-            input,
+        return input.emit_err(
             nodes.span(expr),
             SyntaxError::NullishCoalescingWithLogicalOp,
         );
@@ -517,8 +513,7 @@ fn check_logical_operand<I: Tokens, B: Bodies<I>>(
     ensures falls { OnOk result (to_come I.model input.new ≤ to_come I.model input.old) }
 {
     if nodes.is_logical(operand) {
-        return emit_err(
-            input,
+        return input.emit_err(
             nodes.span(operand),
             SyntaxError::NullishCoalescingWithLogicalOp,
         );
@@ -539,7 +534,7 @@ fn check_delete<I: Tokens, B: Bodies<I>>(
     ensures falls { OnOk result (to_come I.model input.new ≤ to_come I.model input.old) }
 {
     if is_ident_deleted(nodes, op, arg) {
-        return emit_strict_mode_err(input, nodes.span(arg), SyntaxError::TS1102);
+        return input.emit_strict_mode_err(nodes.span(arg), SyntaxError::TS1102);
     }
     Ok(())
 }

@@ -14,7 +14,7 @@ use swc_input::buffer::Buffer;
 use swc_input::tokens::Tokens;
 use swc_nodes::node::ExprId;
 use swc_steps::productions::Productions;
-use swc_steps::tokens::{Sign, is_sign, look, syntax_error};
+use swc_steps::tokens::{Sign, is_sign, look};
 
 /// `++` or `--` at `start`, and its operand (ECMA-262, 13.4). What it can't write to is recorded. Consumes nothing.
 pub fn update_prefix<I: Tokens, B: Bodies<I>>(
@@ -42,7 +42,7 @@ pub fn is_await_name<I: Tokens>(input: &mut Buffer<I>) -> PResult<bool>
     look(input)?;
     if is_sign(input, Sign::Star) {
         let span = input.cur_span();
-        return Err(syntax_error(input, span, SyntaxError::AwaitStar));
+        return Err(input.syntax_error(span, SyntaxError::AwaitStar));
     }
     is_await_ident(input)
 }

@@ -23,7 +23,7 @@ use swc_input::tokens::Tokens;
 use swc_nodes::node::{ExprId, PatId, PatPropNode};
 use swc_nodes::nodes::NodesOf;
 use swc_steps::productions::Productions;
-use swc_steps::tokens::{Listed, Sign, eat, emit_err, unexpected};
+use swc_steps::tokens::{Listed, Sign, eat};
 
 /// What is after the key of a property of an object pattern.
 #[derive(Drop)]
@@ -54,7 +54,7 @@ pub fn after_pat_key<I: Tokens>(
             PropName::Ident(name) => after_name(input, name),
             _ => {
                 let kind = SyntaxError::Unexpected(Wanted::PatIdent);
-                Err(unexpected(input, kind))
+                Err(input.unexpected(kind))
             }
         },
     }
@@ -95,7 +95,7 @@ fn check_name<I: Tokens>(input: &mut Buffer<I>, name: &IdentName) -> PResult<()>
 {
     if input.get_ctx().is_reserved_word(&name.sym) {
         let kind = SyntaxError::ReservedWordInObjShorthandOrPat;
-        return emit_err(input, name.span, kind);
+        return input.emit_err(name.span, kind);
     }
     Ok(())
 }

@@ -18,7 +18,7 @@ use swc_input::buffer::Buffer;
 use swc_input::tokens::Tokens;
 use swc_nodes::node::{ExprId, PatId};
 use swc_steps::productions::Productions;
-use swc_steps::tokens::{Sign, eat, emit_err, is_sign, look};
+use swc_steps::tokens::{Sign, eat, is_sign, look};
 
 /// What is before a formal parameter.
 #[derive(Clone, Copy)]
@@ -71,7 +71,7 @@ pub fn rest_default<I: Tokens, B: Bodies<I>>(
     ensures { GoesOn I.model B.is_faithful pat_itself pat_at nothing (first_at p.old.nodes arg.0) p.old result p.new }
 {
     let span = p.nodes.pat_span(arg);
-    emit_err(&mut p.input, span, SyntaxError::TS1048)?;
+    p.input.emit_err(span, SyntaxError::TS1048)?;
     let node = p.nodes.default_pat(dots.lo, arg, value);
     let pat = made(&p.input, node)?;
     rest_pat(p, dots, pat)

@@ -22,7 +22,7 @@ use swc_input::token::Token;
 use swc_input::tokens::Tokens;
 use swc_nodes::node::{ExprId, PatId};
 use swc_steps::productions::Productions;
-use swc_steps::tokens::{Listed, Sign, eat, expect, is_sign, look, unexpected};
+use swc_steps::tokens::{Listed, Sign, eat, expect, is_sign, look};
 
 /// A binding pattern (ECMA-262, 14.3.3), by the token that begins it, if other patterns are in it.
 #[derive(Clone, Copy)]
@@ -54,7 +54,7 @@ pub fn parse_plain_pat<I: Tokens, B: Bodies<I>>(p: &mut Productions<I, B>) -> PR
     look(&mut p.input)?;
     if !is_word(&p.input) {
         let kind = SyntaxError::Unexpected(Wanted::Binding);
-        return Err(unexpected(&mut p.input, kind));
+        return Err(p.input.unexpected(kind));
     }
     let name = parse_binding_ident(p.alloc, &mut p.input)?;
     let node = p.nodes.ident_pat(name);
@@ -157,7 +157,7 @@ fn element_head<I: Tokens>(input: &mut Buffer<I>, rest: SeenRest) -> PResult<Nex
 {
     if !look(input)? {
         let kind = SyntaxError::Expected(Wanted::RBracket);
-        return Err(unexpected(input, kind));
+        return Err(input.unexpected(kind));
     }
     check_last(input, rest, SyntaxError::NonLastRestParam)?;
     match eat(input, Sign::Comma)? {

@@ -13,7 +13,7 @@ use swc_context::error::{PResult, SyntaxError};
 use swc_context::span::Span;
 use swc_input::buffer::Buffer;
 use swc_input::tokens::Tokens;
-use swc_steps::tokens::{Sign, emit_err, separate};
+use swc_steps::tokens::{Sign, separate};
 
 /// Whether a rest was read in a list of patterns, and what is after it.
 #[derive(Clone, Copy)]
@@ -46,7 +46,7 @@ pub(crate) fn check_comma<I: Tokens>(input: &mut Buffer<I>, rest: SeenRest) -> P
     ensures falls { to_come I.model input.new ≤ to_come I.model input.old }
 {
     match comma_behind(rest) {
-        Some(comma) => emit_err(input, comma, SyntaxError::CommaAfterRestElement),
+        Some(comma) => input.emit_err(comma, SyntaxError::CommaAfterRestElement),
         None => Ok(()),
     }
 }
@@ -74,7 +74,7 @@ pub(crate) fn check_last<I: Tokens>(
     match rest {
         SeenRest::No => Ok(()),
         SeenRest::Last { rest, .. } | SeenRest::Earlier(rest) => {
-            emit_err(input, rest.in_order(), kind)
+            input.emit_err(rest.in_order(), kind)
         }
     }
 }

@@ -25,9 +25,7 @@ use swc_nodes::node::{ExprId, PatId, PropNode};
 use swc_nodes::nodes::NodesOf;
 use swc_nodes::patterns::first_param_pat;
 use swc_steps::productions::Productions;
-use swc_steps::tokens::{
-    Sign, answered, emit_err, expect, expect_or, is_sign, look, set_ctx, unexpected,
-};
+use swc_steps::tokens::{Sign, answered, expect, expect_or, is_sign, look, set_ctx};
 
 /// Sets the context of a method's parameters (ECMA-262, 15.4), and consumes the parenthesis that opens them. Answers
 /// its place, and the context from before. Another token is refused as `Expected`, and where nothing is before the
@@ -122,7 +120,7 @@ fn check_getter<I: Tokens>(
     ensures falls { OnOk result (to_come I.model input.new ≤ to_come I.model input.old) }
 {
     match first_param_pat(params) {
-        Some(_) => emit_err(input, key.in_order(), SyntaxError::GetterParam),
+        Some(_) => input.emit_err(key.in_order(), SyntaxError::GetterParam),
         None => Ok(()),
     }
 }
@@ -155,7 +153,7 @@ fn check_count<I: Tokens>(
     if params.len() == 1 {
         return Ok(());
     }
-    emit_err(input, key.in_order(), SyntaxError::SetterParam)
+    input.emit_err(key.in_order(), SyntaxError::SetterParam)
 }
 
 /// Records a first parameter that is a rest.
@@ -173,7 +171,7 @@ fn check_rest<I: Tokens, B: Bodies<I>>(
             if !nodes.is_rest_pat(pat) {
                 return Ok(());
             }
-            emit_err(input, nodes.pat_span(pat), SyntaxError::RestPatInSetter)
+            input.emit_err(nodes.pat_span(pat), SyntaxError::RestPatInSetter)
         }
         None => Ok(()),
     }
@@ -199,7 +197,7 @@ fn missing_param<I: Tokens, B: Bodies<I>>(
     ensures from { IfOk result (λ r. Apart (count p.old.nodes) p.new.nodes (flat param_parts r.items)) }
     ensures some { IfOk result (λ r. is_some (first_param_pat r.items) ≡ true) }
 {
-    emit_err(&mut p.input, key.in_order(), SyntaxError::SetterParam)?;
+    p.input.emit_err(key.in_order(), SyntaxError::SetterParam)?;
     let span = Span::new(BytePos(0), BytePos(0));
     let pat = match p.nodes.invalid_pat(span) {
         Ok(pat) => pat,
@@ -278,7 +276,7 @@ pub fn parse_block<I: Tokens, B: Bodies<I>>(p: &mut Productions<I, B>) -> PResul
 {
     look(&mut p.input)?;
     if !is_sign(&p.input, Sign::LBrace) {
-        return Err(unexpected(&mut p.input, SyntaxError::Expected(Wanted::LBrace)));
+        return Err(p.input.unexpected(SyntaxError::Expected(Wanted::LBrace)));
     }
     let answer = p.bodies.block(&mut p.input);
     answered(&p.input, answer)

@@ -24,15 +24,14 @@ use swc_ast::spanned::Spanned;
 use swc_bodies::bodies::Bodies;
 use swc_context::error::{Error, PResult, SyntaxError, Wanted};
 use swc_context::span::Span;
+use swc_ident::ident;
 use swc_input::buffer::Buffer;
 use swc_input::token::Token;
 use swc_input::tokens::Tokens;
 use swc_nodes::node::{ExprId, PropNode};
 use swc_nodes::nodes::Nodes;
 use swc_steps::productions::{Productions, is_key_lit};
-use swc_steps::tokens::{
-    Sign, eat, emit_err, expect, look, parse_ident_name, require_cur, unexpected,
-};
+use swc_steps::tokens::{Sign, eat, expect, look};
 
 /// The bracket that closes the key of an expression, after this; that which opens it is at `start`. Another token is
 /// refused as `Expected`, at that token, and the end as `Eof`.
@@ -62,13 +61,13 @@ pub fn parse_plain_prop_name<I: Tokens>(
     ensures parts { IfOk result (λ key. key_parts key ≡ []) }
     ensures falls { OnOk result (to_come I.model input.new < to_come I.model input.old) }
 {
-    require_cur(input)?;
+    input.require_cur()?;
     if is_word(input) {
-        let name = parse_ident_name(alloc, input)?;
+        let name = ident::parse_ident_name(alloc, input)?;
         return Ok(PropName::Ident(name));
     }
     if !is_key_lit(input) {
-        return Err(unexpected(input, SyntaxError::Unexpected(Wanted::PropName)));
+        return Err(input.unexpected(SyntaxError::Unexpected(Wanted::PropName)));
     }
     let token = input.bump();
     let span = input.prev_span();
@@ -163,7 +162,7 @@ fn parse_open_name<I: Tokens>(alloc: Global, input: &mut Buffer<I>) -> PResult<I
     ensures parses { ParsesAlone I.model ident_spelling open_name input.old result input.new }
     ensures falls { OnOk result (to_come I.model input.new < to_come I.model input.old) }
 {
-    let name = parse_ident_name(alloc, input)?;
+    let name = ident::parse_ident_name(alloc, input)?;
     check_open_name(input, &name)?;
     Ok(Ident {
         span: name.span,
@@ -191,7 +190,7 @@ fn check_open_name<I: Tokens>(input: &mut Buffer<I>, name: &IdentName) -> PResul
 {
     if input.get_ctx().is_reserved_word(&name.sym) {
         let kind = SyntaxError::ReservedWordInObjShorthandOrPat;
-        return emit_err(input, name.span, kind);
+        return input.emit_err(name.span, kind);
     }
     Ok(())
 }
@@ -227,9 +226,9 @@ fn parse_questioned_name<I: Tokens>(alloc: Global, input: &mut Buffer<I>) -> PRe
     ensures parses { ParsesAlone I.model (λ n. n) nothing input.old result input.new }
     ensures falls { OnOk result (to_come I.model input.new < to_come I.model input.old) }
 {
-    let name = parse_ident_name(alloc, input)?;
+    let name = ident::parse_ident_name(alloc, input)?;
     let question = expect(input, Sign::Question)?;
-    emit_err(input, question, SyntaxError::TS1162)?;
+    input.emit_err(question, SyntaxError::TS1162)?;
     Ok(name)
 }
 
@@ -331,7 +330,7 @@ pub fn key_prop<F: Spanned + Drop, C: Spanned + Drop, K: Spanned + Drop>(
 fn unfit_prop<I: Tokens>(alloc: Global, input: &mut Buffer<I>) -> Error
     ensures refuses { Refuses I.model input.old result input.new }
 {
-    match parse_ident_name(alloc, input) {
+    match ident::parse_ident_name(alloc, input) {
         Ok(_) => unfit_behind(input),
         Err(error) => error,
     }
@@ -341,5 +340,5 @@ fn unfit_prop<I: Tokens>(alloc: Global, input: &mut Buffer<I>) -> Error
 fn unfit_behind<I: Tokens>(input: &mut Buffer<I>) -> Error
     ensures refuses { Refuses I.model input.old result input.new }
 {
-    unexpected(input, SyntaxError::Unexpected(Wanted::AfterPropName))
+    input.unexpected(SyntaxError::Unexpected(Wanted::AfterPropName))
 }

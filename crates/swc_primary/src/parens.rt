@@ -17,7 +17,7 @@ use swc_input::buffer::Buffer;
 use swc_input::tokens::Tokens;
 use swc_nodes::node::{ExprId, PropNode};
 use swc_nodes::nodes::NodesOf;
-use swc_steps::tokens::{Listed, Sign, emit_err, is_after_line_break, is_sign, syntax_error};
+use swc_steps::tokens::{Listed, Sign, is_after_line_break, is_sign};
 
 /// Refuses `=>` after a list in parentheses that is no list of parameters, at the place of the list: as
 /// `LineBreakBeforeArrow` where it is on another line, or else as `ArrowNotAllowed`.
@@ -34,7 +34,7 @@ pub(crate) fn refuse_arrow<I: Tokens>(input: &mut Buffer<I>, list: Span) -> PRes
     } else {
         SyntaxError::ArrowNotAllowed
     };
-    Err(syntax_error(input, list, kind))
+    Err(input.syntax_error(list, kind))
 }
 
 /// Records and refuses what can't be in parentheses, of a list from the one at `start` on. Where the syntax is
@@ -57,7 +57,7 @@ pub(crate) fn check_paren_items<I: Tokens, B: Bodies<I>>(
     check_item_covers::<I, B>(input, nodes, &list.items)?;
     if list.items.is_empty() {
         let span = Span::new(start.lo, list.end.hi);
-        return Err(syntax_error(input, span, SyntaxError::EmptyParenExpr));
+        return Err(input.syntax_error(span, SyntaxError::EmptyParenExpr));
     }
     check_last_comma(input, list.trailing_comma)?;
     refuse_spread::<I, B>(input, nodes, &list.items)
@@ -92,7 +92,7 @@ fn check_last_comma<I: Tokens>(input: &mut Buffer<I>, comma: Option<Span>) -> PR
     ensures falls { OnOk result (to_come I.model input.new ≤ to_come I.model input.old) }
 {
     match comma {
-        Some(span) => emit_err(input, span, SyntaxError::TS1109),
+        Some(span) => input.emit_err(span, SyntaxError::TS1109),
         None => Ok(()),
     }
 }
@@ -112,7 +112,7 @@ fn refuse_spread<I: Tokens, B: Bodies<I>>(
     for item in items {
         if item.spread.is_some() {
             let span = nodes.span(item.expr);
-            return Err(syntax_error(input, span, SyntaxError::SpreadInParenExpr));
+            return Err(input.syntax_error(span, SyntaxError::SpreadInParenExpr));
         }
     }
     Ok(())
@@ -152,8 +152,7 @@ fn check_prop<I: Tokens, K>(input: &mut Buffer<I>, prop: &PropNode<K>) -> PResul
     ensures falls { OnOk result (to_come I.model input.new ≤ to_come I.model input.old) }
 {
     match prop {
-        PropNode::Assign(cover) => emit_err(
-            input,
+        PropNode::Assign(cover) => input.emit_err(
             cover.span.in_order(),
             SyntaxError::AssignProperty,
         ),

@@ -29,6 +29,7 @@ use swc_context::error::{Error, PResult, SyntaxError, Wanted};
 use swc_context::operator::{AssignOp, BinOpToken};
 use swc_context::span::Span;
 use swc_context::word::{Keyword, Word};
+use swc_ident::ident;
 use swc_input::buffer::Buffer;
 use swc_input::token::Token;
 use swc_input::tokens::Tokens;
@@ -36,9 +37,7 @@ use swc_nodes::node::ExprId;
 use swc_steps::productions::{Productions, is_identifier_word, is_strict_word};
 use swc_steps::regex::parse_regex;
 use swc_steps::tokens::{
-    Listed, Sign, answered, copy_of, emit_err, emit_strict_mode_err, is_async_function, is_sign,
-    look, parse_ident_name, parse_ident_ref, parse_private_name, require_cur, skip, syntax_error,
-    unexpected,
+    Listed, Sign, answered, copy_of, is_async_function, is_sign, look, parse_private_name, skip,
 };
 
 /// An element of an array literal, or a hole.
@@ -167,7 +166,7 @@ fn no_primary<I: Tokens>(input: &mut Buffer<I>) -> Error
     ensures falls { to_come I.model input.new ≤ to_come I.model input.old }
 {
     let span = input.cur_span();
-    syntax_error(input, span, SyntaxError::TS1109)
+    input.syntax_error(span, SyntaxError::TS1109)
 }
 
 /// `this` (ECMA-262, 13.2.1).
@@ -221,7 +220,7 @@ pub fn parse_function<I: Tokens, B: Bodies<I>>(p: &mut Productions<I, B>) -> PRe
         return function_here(p);
     }
     let wanted = Wanted::Keyword(Keyword::Function);
-    Err(unexpected(&mut p.input, SyntaxError::Expected(wanted)))
+    Err(p.input.unexpected(SyntaxError::Expected(wanted)))
 }
 
 /// A function that begins here, which the hook reads.
@@ -244,7 +243,7 @@ pub fn parse_class<I: Tokens, B: Bodies<I>>(p: &mut Productions<I, B>) -> PResul
     look(&mut p.input)?;
     if !is_sign(&p.input, Sign::Class) {
         let wanted = Wanted::Keyword(Keyword::Class);
-        return Err(unexpected(&mut p.input, SyntaxError::Expected(wanted)));
+        return Err(p.input.unexpected(SyntaxError::Expected(wanted)));
     }
     let answer = p.bodies.class(&mut p.input);
     answered(&p.input, answer)
@@ -267,7 +266,7 @@ pub fn parse_reference<I: Tokens>(alloc: Global, input: &mut Buffer<I>) -> PResu
     ensures falls { OnOk result (to_come I.model input.new < to_come I.model input.old) }
 {
     let is_strict = is_strict_word(input);
-    let ident = parse_ident_ref(alloc, input)?;
+    let ident = ident::parse_ident_ref(alloc, input)?;
     check_strict_word(input, is_strict, &ident)?;
     Ok(ident)
 }
@@ -286,7 +285,7 @@ pub fn parse_private_expr<I: Tokens, B: Bodies<I>>(p: &mut Productions<I, B>) ->
     }
     let start = p.cur_span().lo;
     skip(&mut p.input);
-    let name = parse_ident_name(p.alloc, &mut p.input)?;
+    let name = ident::parse_ident_name(p.alloc, &mut p.input)?;
     let node = p.nodes.private_expr(start, name);
     p.made(node)
 }
@@ -358,7 +357,7 @@ fn emit_lone_private<I: Tokens>(input: &mut Buffer<I>, name: Span) -> PResult<()
     ensures checks { Checked I.model false input.old result input.new }
     ensures falls { OnOk result (to_come I.model input.new ≤ to_come I.model input.old) }
 {
-    emit_err(input, name.in_order(), SyntaxError::PrivateNameNotLeftOfIn)
+    input.emit_err(name.in_order(), SyntaxError::PrivateNameNotLeftOfIn)
 }
 
 /// The node of a private name.
@@ -436,7 +435,7 @@ pub fn parse_lit<I: Tokens, B: Bodies<I>>(p: &mut Productions<I, B>) -> PResult<
     ensures falls { OnOk result (to_come I.model p.new.input < to_come I.model p.old.input) }
     ensures nodes { p.new.nodes ≡ p.old.nodes }
 {
-    require_cur(&mut p.input)?;
+    p.input.require_cur()?;
     if !is_lit(&p.input) {
         return Err(no_primary(&mut p.input));
     }
@@ -459,5 +458,5 @@ fn check_strict_word<I: Tokens>(
         return Ok(());
     }
     let sym = copy_of(input, &ident.sym)?;
-    emit_strict_mode_err(input, ident.span, SyntaxError::InvalidIdentInStrict(sym))
+    input.emit_strict_mode_err(ident.span, SyntaxError::InvalidIdentInStrict(sym))
 }

@@ -829,7 +829,7 @@ pub fn parse_assignment_expr<I: Tokens, B: Bodies<I>>(
     ensures { Produces I.model B.is_faithful itself tree_of (run B.forms (sym Assign))
         (count p.old.nodes) p.old result p.new }
 {
-    tokens::require_cur(&mut p.input)?;
+    p.input.require_cur()?;
     let less = deeper(&p.input, &mut p.too_deep, room)?;
     if assign::is_yield_operator(&p.input) {
         return parse_yield_expr(p, less);

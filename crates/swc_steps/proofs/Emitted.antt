@@ -1,5 +1,5 @@
 -- Faults that are recorded in the buffer: which, and in which order.
-use Rattle.std.proofs.Common.{◌≡◌, ◌<◌, ◌≤◌, Bool, true, false, not, List, [], ◌∷◌, ◌++◌, length, Option, Some, None, Result, Ok, Err, IsOk, IfErr, OnOk, refl, sym, ap, subst, ◌∙◌, arith, length-append}
+use Rattle.std.proofs.Common.{◌≡◌, ◌<◌, ◌≤◌, Bool, true, false, not, List, [], ◌∷◌, ◌++◌, length, Option, Some, None, Result, Ok, Err, IsOk, IfErr, IsSome, OnOk, refl, sym, ap, subst, ◌∙◌, arith, length-append}
 use Rattle.swc_context.specs.{declared.error.Error.Error, declared.span.BytePos.BytePos}
 use Rattle.swc_input.specs.Buffer.{Lives, Read, ReadSome, current, last_position, state_of}
 use Rattle.swc_input.specs.Recording.{error_here, error_in, error_list, is_fit, is_silent, is_some, no_memory, Recorded}
@@ -19,6 +19,15 @@ fit_seen None h = absurd cc
 fit_seen (Some t) h = by_token t.token h
   where
     by_token : (v : Token) → no_error (plain_token v) ≡ true → not (is_some (error_in v)) ≡ true
+    by_token (token.Error x) h = absurd cc
+    by_token v h = refl
+
+-- and a current token without an error is none
+pub fit_here : (o : Option TokenAndSpan) → IsSome o → error_here o ≡ None → at_token no_error (seen_of o) ≡ true
+fit_here None s h = cc
+fit_here (Some t) s h = by_token t.token h
+  where
+    by_token : (v : Token) → error_in v ≡ None → no_error (plain_token v) ≡ true
     by_token (token.Error x) h = absurd cc
     by_token v h = refl
 

@@ -7,7 +7,7 @@ use Rattle.swc_input.specs.Buffer.{Read, Lives, Looked, current, source, to_come
 use Rattle.swc_input.specs.Laws.{held_some, Looked-served, Read-same, Recorded-read}
 use Rattle.swc_input.specs.Recording.{is_fit, is_silent, error_list, error_here, Recorded, Refused}
 use Rattle.swc_input.specs.{declared.buffer.Buffer.Buffer, declared.token.Token.Token, declared.token.Token.Token as token, declared.token.TokenAndSpan.TokenAndSpan, Plain.plain_token, Kinds.at_token}
-use Rattle.swc_grammar.specs.Names.{Spelling, spelling, spelled, may_refer}
+use Rattle.swc_grammar.specs.Names.{Spelling, spelling, spelled, may_name, may_refer}
 use Rattle.swc_grammar.specs.Clean.{Out, first, no_error}
 use Rattle.swc_grammar.specs.Words.{rest, one, word_by, word}
 use Rattle.swc_grammar.specs.{Scope.Scope, Tokens.may_be_reference, Tokens.ref_ok}
@@ -15,7 +15,8 @@ use Rattle.swc_ident.specs.Naming.{Judges, fault_at, place_here, Notes, none-not
 use Rattle.swc_ident.specs.Verdicts.{Fault, Verdict, now, in_modules, is_word, taken, taken_with, unless, name_of_any, ident_verdict, reference_verdict, binding_verdict, binding_faults, and_then}
 use Rattle.swc_input.specs.Calls.{recorded, Leads, Here}
 use Rattle.swc_steps.specs.Parsing.{seen, seen_of, scope, On, Heard, Unheard, Parses}
-use Rattle.swc_steps.proofs.Steps.{Reader, here, read_scope, parses_after, on_took, leads_then, refuses_later, refused, required, on_seen, on_then, heard_after, heard_first, unheard_after, unheard_at, unheard_memory, unheard_unfit, lower, on_looked, looked_again}
+use Rattle.swc_input.proofs.Calls.{refused, unfits}
+use Rattle.swc_steps.proofs.Steps.{Reader, here, read_scope, parses_after, on_took, leads_then, refuses_later, on_seen, on_then, heard_after, heard_first, unheard_after, unheard_at, unheard_memory, unheard_unfit, lower, on_looked, looked_again}
 use Rattle.swc_steps.proofs.Words.{none_counts, is_taken, is_clean, reference-table}
 
 -- a call never refuses a word as the parser's own failure, and looks at no flag that decides nothing
@@ -352,7 +353,7 @@ module _ {S : Type 0} {model : Model S} {sure : Bool} where
   unheard_name judge honest laws (no_memory xs r k) = unheard_memory
       (record { spends = record { laws = laws; taken = xs; read = r }; kind = k })
   unheard_name judge honest {b} {c} {e} laws (not_fit r f) =
-      let u = required {T = Unit {0}} laws b c (Err e) tt (r, f) in
+      let u = unfits laws (r, f) in
       unheard_unfit laws (λ x ts h. error_first (λ c w. is_clean c (judge c w)) x (first ts) (rest ts) h) u
   unheard_name judge honest {c = c} {e = e} laws (no_word r fits none) =
       unheard_at (here_at laws r.looked (fit_some (current r.here) fits))
@@ -395,3 +396,23 @@ module _ {S : Type 0} (model : Model S) (sure : Bool) where
       → Parses model sure view f b r c → OnOk r (to_come model c < to_come model b)
   parses_lower view f b c (Ok t) h = lower (record { leads = h.on.leads; onward = h.onward })
   parses_lower view f b c (Err e) h = tt
+
+module _ {S : Type 0} {model : Model S} {sure : Bool} {b c : Buffer S} (laws : Laws model) where
+  -- a name that may be any word
+  pub name_read : {text : List ℕ} {at : Span} → Named model name_of_any text at b c
+      → Heard model sure (word may_name) (spelling text at) b c
+  name_read h = heard_name name_of_any honest-name laws h
+
+  pub name_unread : {e : Error} → Unnamed model name_of_any b e c → Unheard model sure (word may_name) b e c
+  name_unread h = unheard_name name_of_any honest-name laws h
+
+  -- an identifier reference, at a word that may be one
+  pub ref_read : {text : List ℕ} {at : Span} → at_token (may_be_reference (context model b)) (seen b) ≡ true
+      → Named model reference_verdict text at b c → Heard model sure (word may_refer) (spelling text at) b c
+  ref_read may h = parses_ref model sure (λ x. x) b c (Ok _) laws may
+      (heard_name reference_verdict honest-reference laws h)
+
+  pub ref_unread : {e : Error} → at_token (may_be_reference (context model b)) (seen b) ≡ true
+      → Unnamed model reference_verdict b e c → Unheard model sure (word may_refer) b e c
+  ref_unread {e} may h = parses_ref {T = Spelling} model sure (λ x. x) b c (Err e) laws may
+      (unheard_name reference_verdict honest-reference laws h)

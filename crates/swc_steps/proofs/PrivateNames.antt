@@ -16,7 +16,8 @@ use Rattle.swc_ident.specs.Verdicts.{name_of_any}
 use Rattle.swc_steps.specs.Args.{hash_by, hash_name}
 use Rattle.swc_input.specs.Calls.{Refuses, Here}
 use Rattle.swc_steps.specs.Parsing.{seen, seen_of, On, Heard, Unheard}
-use Rattle.swc_steps.proofs.Steps.{Reader, refused, here_refused, on_seen, on_took, on_then, on_call, last_was, heard_after, heard_first, heard_answer, unheard_after, unheard_at, unheard_looked, unheard_memory, on_looked}
+use Rattle.swc_input.proofs.Calls.{refused}
+use Rattle.swc_steps.proofs.Steps.{Reader, here_refused, on_seen, on_took, on_then, on_call, last_was, heard_after, heard_first, heard_answer, unheard_after, unheard_at, unheard_looked, unheard_memory, on_looked}
 use Rattle.swc_steps.proofs.Naming.{goes, stops, here_at, honest-name, heard_name, refused_here, unheard_name, was_there}
 
 -- a name, after the `#` at s

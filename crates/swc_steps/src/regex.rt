@@ -12,7 +12,7 @@ ghost use Rattle.swc_grammar.specs.Parts as parts;
 ghost use Rattle.swc_steps.specs.Regexes as regexes;
 
 use crate::productions::Productions;
-use crate::tokens::{emit_err, end_hint, look, skip_slash, syntax_error};
+use crate::tokens::{end_hint, look, skip_slash};
 use swc_ast::lit::{Lit, Regex};
 use swc_bodies::bodies::Bodies;
 use swc_context::error::{PResult, SyntaxError};
@@ -79,7 +79,7 @@ fn parse_slash_regex<I: Tokens>(input: &mut Buffer<I>) -> PResult<Regex>
     skip_slash(input);
     look(input)?;
     if !is_regex(input) {
-        return Err(syntax_error(input, slash, SyntaxError::TS1109));
+        return Err(input.syntax_error(slash, SyntaxError::TS1109));
     }
     end_hint(input);
     let regex = bump_regex(input);
@@ -141,7 +141,7 @@ fn check_known<I: Tokens>(input: &mut Buffer<I>, span: Span, flags: &[u8]) -> PR
     if !has_unknown(flags) {
         return Ok(());
     }
-    emit_err(input, span, SyntaxError::UnknownRegExpFlags)
+    input.emit_err(span, SyntaxError::UnknownRegExpFlags)
 }
 
 /// Records the first flag that comes twice.
@@ -153,7 +153,7 @@ fn check_once<I: Tokens>(input: &mut Buffer<I>, span: Span, flags: &[u8]) -> PRe
         None => Ok(()),
         Some(flag) => {
             let kind = SyntaxError::DuplicatedRegExpFlags(char::from(flag));
-            emit_err(input, span, kind)
+            input.emit_err(span, kind)
         }
     }
 }

@@ -4,14 +4,14 @@ ghost use Rattle.swc_context.specs.declared.error.SyntaxError.TheVariants.{OutOf
 ghost use Rattle.swc_input.specs.Buffer.{current, peeked, last_position, state_of, to_come, Bumped, Peeked, context, Still, Lives};
 ghost use Rattle.swc_input.specs.{declared.token.Token.Token, Recording.no_memory, Kinds.at_token};
 ghost use Rattle.swc_bodies.specs.Readings.{at_function, is_async, is_function, is_function_here};
-ghost use Rattle.swc_grammar.specs.{Tokens.may_be_reference, Clean.no_error, Names.may_name, Names.may_refer, Words.rest, Words.word};
-ghost use Rattle.swc_input.specs.Calls.{recorded, Loud, Refuses, Tries, Looks, Fits, Checked};
-ghost use Rattle.swc_steps.specs.Parsing.{is_memory, ident_spelling, name_spelling, private_spelling, seen, Moves, ParsesAlone, ContinuesAlone, Eats, Tells, begins_async, breaks_at};
+ghost use Rattle.swc_grammar.specs.{Words.rest};
+ghost use Rattle.swc_input.specs.Calls.{recorded, Loud, Tries, Looks};
+ghost use Rattle.swc_steps.specs.Parsing.{is_memory, private_spelling, seen, Moves, ParsesAlone, ContinuesAlone, Eats, Tells, begins_async, breaks_at};
 ghost use Rattle.swc_steps.specs.Lists.{is_named, is_sign_token, separated, closed};
 ghost use Rattle.swc_steps.specs.{Keys.expected, Args.hash_name, Regexes.SkipsSlash};
 
 use std::alloc::Global;
-use swc_ast::ident::{Ident, IdentName, PrivateName};
+use swc_ast::ident::PrivateName;
 use swc_context::atom::Atom;
 use swc_context::context::Context;
 use swc_context::error::{Error, Note, PResult, SyntaxError, Wanted};
@@ -117,16 +117,6 @@ fn is_function(token: &Token) -> bool
     matches!(token, Token::Word(Word::Keyword(Keyword::Function)))
 }
 
-/// Asks that a token is current, and no error.
-#[inline(never)]
-pub fn require_cur<I: Tokens>(input: &mut Buffer<I>) -> PResult<()>
-    ensures fits { Fits I.model input.old result input.new }
-    ensures token { OnOk result (at_token no_error (seen input.new) ≡ true) }
-    ensures falls { to_come I.model input.new ≤ to_come I.model input.old }
-{
-    input.require_cur()
-}
-
 /// Consumes the current token and drops it.
 #[inline(never)]
 pub fn skip<I: Tokens>(input: &mut Buffer<I>)
@@ -159,37 +149,8 @@ pub(crate) fn end_hint<I: Tokens>(input: &mut Buffer<I>)
     input.set_next_regexp(None);
 }
 
-/// A refusal at the place, unless an error token is current.
-pub fn syntax_error<I: Tokens>(input: &mut Buffer<I>, span: Span, kind: SyntaxError) -> Error
-    requires { kind ≢ ParserFailed }
-    ensures refuses { Refuses I.model input.old result input.new }
-    ensures falls { to_come I.model input.new ≤ to_come I.model input.old }
-{
-    input.syntax_error(span, kind)
-}
-
-/// The refusal of the current token, which doesn't fit.
-pub fn unexpected<I: Tokens>(input: &mut Buffer<I>, kind: SyntaxError) -> Error
-    requires { kind ≢ ParserFailed }
-    ensures refuses { Refuses I.model input.old result input.new }
-    ensures falls { to_come I.model input.new ≤ to_come I.model input.old }
-{
-    input.unexpected(kind)
-}
-
-/// Records a fault. A current token that is no error stays.
-pub fn emit_err<I: Tokens>(input: &mut Buffer<I>, span: Span, kind: SyntaxError) -> PResult<()>
-    requires { kind ≢ OutOfMemory }
-    ensures tries { Tries I.model input.old result input.new }
-    ensures notes { Loud I.model input.old → OnOk result (recorded I.model input.old < recorded I.model input.new) }
-    ensures kept { at_token no_error (seen input.old) ≡ true → current input.new ≡ current input.old }
-    ensures falls { to_come I.model input.new ≤ to_come I.model input.old }
-{
-    input.emit_err(span, kind)
-}
-
 /// Records a refusal as a fault, unless it is out of memory, which is passed on.
-pub fn emit_error<I: Tokens>(input: &mut Buffer<I>, error: Error) -> PResult<()>
+pub fn record_refusal<I: Tokens>(input: &mut Buffer<I>, error: Error) -> PResult<()>
     requires { error.kind ≢ ParserFailed }
     ensures tries { Tries I.model input.old result input.new }
     ensures notes { Loud I.model input.old → OnOk result (recorded I.model input.old < recorded I.model input.new) }
@@ -200,19 +161,6 @@ pub fn emit_error<I: Tokens>(input: &mut Buffer<I>, error: Error) -> PResult<()>
         return Err(error);
     }
     input.emit_error(error)
-}
-
-/// Records a fault of strict code, which is one in modules alone, and waits elsewhere.
-pub fn emit_strict_mode_err<I: Tokens>(
-    input: &mut Buffer<I>,
-    span: Span,
-    kind: SyntaxError,
-) -> PResult<()>
-    requires { kind ≢ OutOfMemory }
-    ensures checks { Checked I.model (not (context I.model input.old).module) input.old result input.new }
-    ensures falls { to_come I.model input.new ≤ to_come I.model input.old }
-{
-    input.emit_strict_mode_err(span, kind)
 }
 
 /// Sets a context of the same kind of text, a module or a script, which can't be refused.
@@ -228,23 +176,6 @@ pub fn set_ctx<I: Tokens>(input: &mut Buffer<I>, ctx: Context)
     if input.set_ctx(ctx).is_err() {
         unreachable!()
     }
-}
-
-/// An identifier reference, at a word that is one.
-pub fn parse_ident_ref<I: Tokens>(alloc: Global, input: &mut Buffer<I>) -> PResult<Ident>
-    requires { at_token (may_be_reference (context I.model input.old)) (seen input.old) ≡ true }
-    ensures parses { ParsesAlone I.model ident_spelling (word may_refer) input.old result input.new }
-    ensures falls { OnOk result (to_come I.model input.new < to_come I.model input.old) }
-{
-    ident::parse_ident_ref(alloc, input)
-}
-
-/// A name that may be any word.
-pub fn parse_ident_name<I: Tokens>(alloc: Global, input: &mut Buffer<I>) -> PResult<IdentName>
-    ensures parses { ParsesAlone I.model name_spelling (word may_name) input.old result input.new }
-    ensures falls { OnOk result (to_come I.model input.new < to_come I.model input.old) }
-{
-    ident::parse_ident_name(alloc, input)
 }
 
 /// A private name, and where it ends, in bytes.
@@ -473,7 +404,7 @@ pub fn expect_or<I: Tokens>(input: &mut Buffer<I>, sign: Sign, kind: SyntaxError
 {
     match eat(input, sign)? {
         Some(span) => Ok(span),
-        None => Err(unexpected(input, kind)),
+        None => Err(input.unexpected(kind)),
     }
 }
 
@@ -507,7 +438,7 @@ fn require_close<I: Tokens>(input: &mut Buffer<I>, close: Sign) -> PResult<()>
 {
     look(input)?;
     if !is_sign(input, close) {
-        return Err(unexpected(input, SyntaxError::Expected(Wanted::Comma)));
+        return Err(input.unexpected(SyntaxError::Expected(Wanted::Comma)));
     }
     Ok(())
 }

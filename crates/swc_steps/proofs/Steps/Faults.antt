@@ -12,34 +12,6 @@ use Rattle.swc_steps.specs.Readers.{nothing}
 use Rattle.swc_steps.proofs.Steps.Consumed.{Reader, give, more_than, read_scope, here, leads_then, onward_then, forgoes_later, more_recorded, loud_after}
 use Rattle.swc_steps.proofs.{Steps.Looks.known_first, Steps.Tokens.heard_then, Steps.Calls.on_call}
 
--- a fault of modules is recorded there, and nowhere else
-module_waits : (m : Bool) (es : List Error) (e : Error) → not m ≡ true
-    → length (es ++ recorded_in m (e ∷ [])) ≡ length es
-module_waits true es e h = cc
-module_waits false es e h = ap length (append-nil es)
-
-module_notes : (m : Bool) (es : List Error) (e : Error) → not m ≡ false
-    → length es < length (es ++ recorded_in m (e ∷ []))
-module_notes true es e h = let l = length-append es (e ∷ []) in omega arith
-module_notes false es e h = cc
-
-heeded : (a b : Bool) → (a || b) ≡ false → a ≡ false
-heeded true b h = cc
-heeded false b h = refl
-
-module _ {S : Type 0} (model : Model S) where
-  strict_waits : (b c : Buffer S) (e : Error) → not (context model b).module ≡ true → (i : Bool) → (i ≡ true → c ≡ b)
-      → (i ≡ false → model.state c.iter ≡ with_module_error e (model.state b.iter))
-      → recorded model c ≡ recorded model b
-  strict_waits b c e w true silent noted = ap (recorded model) (silent refl)
-  strict_waits b c e w false silent noted = ap (λ s. length s.errors) (noted refl) ∙ module_waits
-      (context model b).module (model.state b.iter).errors e w
-
-  strict_lives : (b c : Buffer S) (e : Error) (i : Bool) → (i ≡ true → c ≡ b)
-      → (i ≡ false → model.state c.iter ≡ with_module_error e (model.state b.iter)) → Lives model b c
-  strict_lives b c e true silent noted f = ap (λ z. (model.state z.iter).failed) (sym (silent refl)) ∙ f
-  strict_lives b c e false silent noted f = ap (λ s. s.failed) (sym (noted refl)) ∙ f
-
 module _ {S : Type 0} {model : Model S} {sure : Bool} where
   -- all is well, or a fault was recorded and f reads nothing
   passed : {A : Type 0} {f g : Reader A} {b c : Buffer S} (p : Leads model b c) → p.taken ≡ []
@@ -193,24 +165,6 @@ module _ {S : Type 0} {model : Model S} where
         notes = λ n l. cc;
       }
 
-  -- a fault of modules: it is recorded there, and waits elsewhere
-  pub checks_strict : (laws : Laws model) (b c : Buffer S) (e : Error) → Read model b [] c
-      → ((context model b).ignore_error ≡ true → c ≡ b) →
-      ((context model b).ignore_error ≡ false → model.state c.iter ≡ with_module_error e (model.state b.iter))
-      → Checks model (not (context model b).module) b c
-  checks_strict laws b c e read silent noted = record {
-    leads = record {
-      laws = laws;
-      taken = [];
-      read = read;
-      lives =
-          strict_lives model b c e (context model b).ignore_error silent noted;
-    };
-    passes = λ w. (refl, strict_waits model b c e w (context model b).ignore_error silent noted);
-    notes = λ n l. more_than _ _ _ (ap (λ s. length s.errors) (noted (heeded _ _ l)))
-        (module_notes (context model b).module (model.state b.iter).errors e n);
-  }
-
 module _ {S : Type 0} (model : Model S) (sure : Bool) {T A : Type 0} (view : T → A) (f : Reader A) where
   pub notes_then : (b : Buffer S) {c d : Buffer S} → recorded model b < recorded model c → Leads model c d
       → (e : Buffer S) (r : Result T Error) → Continues model sure view f d r e
@@ -236,14 +190,3 @@ module _ {S : Type 0} (model : Model S) where
       MatchResult r (λ x. Checks model (not (p || q)) b d) (λ e. Forgoes model b e d)
   check_later p q b c d (Ok x) h k = checks_both p q h k
   check_later p q b c d (Err e) h k = forgoes_later h.leads k
-
-  pub strict_checked : {T : Type 0} (laws : Laws model) (b c : Buffer S) (r : Result T Error) (e : Error)
-      → Read model b [] c →
-      ((context model b).ignore_error ≡ true → IsOk r × (c ≡ b))
-      → ((context model b).ignore_error ≡ false → OnOk r
-      (model.state c.iter ≡ with_module_error e (model.state b.iter))) →
-      IfErr r (λ x. (x ≡ no_memory (last_position b)) × (model.state c.iter ≡ model.state b.iter)) →
-      MatchResult r (λ x. Checks model (not (context model b).module) b c) (λ x. Forgoes model b x c)
-  strict_checked laws b c (Ok x) e read silent noted refused = checks_strict laws b c e read (λ i. (silent i).1) noted
-  strict_checked laws b c (Err x) e read silent noted refused =
-      record { spends = record { laws = laws; taken = []; read = read }; kind = ap (λ z. z.kind) refused.0 }

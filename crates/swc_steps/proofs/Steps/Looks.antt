@@ -30,16 +30,9 @@ unfit_token : (t : Token) → not (is_some (error_in t)) ≡ false → no_error 
 unfit_token (token.Error e) h = refl
 unfit_token t h = cc
 
-unfit_seen : (o : Option TokenAndSpan) → is_fit o ≡ false → at_token no_error (seen_of o) ≡ false
+pub unfit_seen : (o : Option TokenAndSpan) → is_fit o ≡ false → at_token no_error (seen_of o) ≡ false
 unfit_seen None h = refl
 unfit_seen (Some t) h = unfit_token t.token h
-
--- a refusal other than out of memory is made where a token is current, or at the end
-refused_at : (o : Option TokenAndSpan) (failed : Bool) (at : BytePos) (e r : Error) → r ≡ refusal o failed at e
-    → r.kind ≢ OutOfMemory → failed ≡ true → IsSome o
-refused_at None true at e r h n f = absurd (n (ap (λ x. x.kind) h))
-refused_at None false at e r h n f = cc
-refused_at (Some t) failed at e r h n f = refl
 
 module _ {S : Type 0} {model : Model S} where
   -- after a look, what is served
@@ -71,28 +64,6 @@ module _ {S : Type 0} {model : Model S} where
         served = record { before = λ f. (Looked-served laws l (holds f)).before f };
         end = λ e. (l.end e).1 (false_from_ne_true (model.state h.iter).failed (λ f. none_some h.cur e (holds f)));
       }
-
-  seen_served : {b c d : Buffer S} (e : Buffer S → Error) (r : Error) → Looked model b c → Lives model c d
-      → Laws model →
-      r ≡ refusal (current c) (model.state (source c)).failed (last_position c) (e c) → r.kind ≢ OutOfMemory
-      → Served model b d
-  seen_served {c = c} e r looked lives laws answer n = record {
-    before = λ f. let g = lives f in
-        (Looked-served laws looked (refused_at (current c) _ (last_position c) (e c) r answer n g)).before g;
-  }
-
-  refused_served : (laws : Laws model) {b c : Buffer S} (e : Buffer S → Error) (r : Error) → Refused model b e r c
-      → r.kind ≢ OutOfMemory → Served model b c
-  refused_served laws e r h n = seen_served e r h.looked h.lives laws h.answer n
-
-  -- from what the buffer's calls ensure
-  pub refused : (laws : Laws model) {b c : Buffer S} (e : Buffer S → Error) (r : Error)
-      → ((here : Buffer S) → (e here).kind ≢ ParserFailed) → Refused model b e r c → Refuses model b r c
-  refused laws {b} {c} e r own h = record {
-    spends = record { laws = laws; taken = _; read = Read-late laws b h.here c _ h.looked.look.read h.read };
-    kind = Refused-kind model b c e r own h;
-    served = λ n. refused_served laws e r h n;
-  }
 
   -- the list to come begins with what was seen
   pub begins : {b c : Buffer S} (o : Option TokenAndSpan) → c.cur ≡ o → Here model b c → (ys : List TokenAndSpan)
@@ -141,33 +112,6 @@ module _ {S : Type 0} {model : Model S} where
     spends = record { laws = laws; taken = []; read = l.look.read };
     kind =
         ap (λ x. x.kind) q.0;
-  }
-
-  -- a token is current, and no error; or the refusal of what is
-  pub required : {T : Type 0} (laws : Laws model) (b c : Buffer S) (r : Result T Error) →
-      OnOk r (Looked model b c × IsSome (current c) × (error_here (current c) ≡ None)) →
-      IfErr r (λ e. (x : Refused model b (λ here. unfit (current here) (last_position here) Eof) e c)
-      × (is_fit (current x.here) ≡ false)) →
-      MatchResult r (λ t. Here model b c) (λ e. Unfit model b e c)
-  required laws b c (Ok t) p q = record {
-    laws = laws;
-    looked = p.0;
-    served = Looked-served laws p.0 p.1;
-    end =
-        λ e. absurd (none_some c.cur e p.1);
-  }
-  required laws b c (Err e) p q = let x = q.0 in record {
-    at = x.here;
-    looked = x.looked;
-    end = λ n f. (x.looked.end n).1 f;
-    unfit = unfit_seen x.here.cur q.1;
-    refuses = record {
-      spends = record { laws = laws; taken = _; read = x.read };
-      kind = Refused-kind model b c (λ here. unfit (current here) (last_position here) Eof) e
-          (λ here. unfit-kind (current here) (last_position here) Eof ParserFailed (λ h. cc) (λ h. cc)) x;
-      served = λ n. seen_served (λ here. unfit (current here) (last_position here) Eof) e
-          (looked_again laws x.looked) x.lives laws x.answer n;
-    };
   }
 
   -- what is said of a token that was consumed, and of its place

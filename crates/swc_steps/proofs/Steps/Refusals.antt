@@ -7,7 +7,7 @@ use Rattle.swc_grammar.specs.{Scope.Scope, Clean.first, Clean.no_error}
 use Rattle.swc_input.specs.Calls.{recorded, Loud, Spends, Leads, Refuses, Forgoes, Tries, Here, Unfit}
 use Rattle.swc_steps.specs.Parsing.{seen, scope, Consumes, On, Unheard, Parses, Continues, Told}
 use Rattle.swc_steps.proofs.Steps.Consumed.{Reader, read_scope, leads_then, spends_then, served_later, leads_refused, onward_later, refuses_later, forgoes_refuses, more_recorded, loud_spent, loud_after}
-use Rattle.swc_steps.proofs.Steps.Looks.{looked_later, here_refused, begins}
+use Rattle.swc_steps.proofs.Steps.Looks.{looked_later, here_refused, begins, unfit_seen}
 use Rattle.swc_steps.proofs.Steps.Tokens.{on_seen, on_told}
 
 module _ {S : Type 0} {model : Model S} {sure : Bool} where
@@ -113,7 +113,8 @@ module _ {S : Type 0} {model : Model S} {sure : Bool} where
     none = λ n y l ts k.
         let w = Known-after laws b u.at [] ts u.looked.look.read.took k in
         let first_is = begins u.at.cur refl (here_refused u.looked u.refuses n) w.0 (Known-Future laws u.at w.0 w.1) in
-        step (scope model b) ts (ap (λ v. at_token no_error (first v)) w.2 ∙ ap (at_token no_error) first_is ∙ u.unfit);
+        step (scope model b) ts (ap (λ v. at_token no_error (first v)) w.2 ∙ ap (at_token no_error) first_is
+        ∙ unfit_seen u.at.cur u.unfit);
   }
 
 module _ {S : Type 0} (model : Model S) (sure : Bool) {T A : Type 0} (view : T → A) (f : Reader A) where

@@ -19,12 +19,12 @@ returns-then-is_statement_end-clause-ends g c = λ sure.
 
 pub returns-clause-tries : goal.returns-clause-tries
 returns-clause-tries g c =
-    tries_later c.emit_err.new.input c.emit_err.result (s.here_leads c.in_ok-is_after_line_break.ensures.looks)
+    tries_later c.emit_err.new.self c.emit_err.result (s.here_leads c.in_ok-is_after_line_break.ensures.looks)
     c.emit_err.ensures.tries
 
 pub returns-clause-ends : goal.returns-clause-ends
 returns-clause-ends g c =
-    noted_here statement_ends (λ x ts. Some (tt, ts)) c.emit_err.new.input c.emit_err.result
+    noted_here statement_ends (λ x ts. Some (tt, ts)) c.emit_err.new.self c.emit_err.result
     c.in_ok-is_after_line_break.ensures.looks (λ x ts same e. ends_not x ts
     (ap breaks_at e ∙ sym c.in_ok-is_after_line_break.ensures.value ∙ c.if-branch.false)
     (ap (at_token ends_statement) e ∙ sym c.is_statement_end.ensures ∙ c.if-is_statement_end.false))

@@ -27,7 +27,7 @@ pub returns-clause-checks : goal.returns-clause-checks
 returns-clause-checks g c =
     let x = context g.I.Tokens.model c.args.input.now in
     subst (λ v. Checked g.I.Tokens.model v c.args.input.now c.emit_strict_mode_err.result
-    c.emit_strict_mode_err.new.input)
+    c.emit_strict_mode_err.new.self)
     (sym (ok_strict x.module x.strict (is_one_of c.args.name.now.sym strict_binding_words)
     (ap (λ v. v.strict) (sym c.get_ctx-ctx.ensures) ∙ not_false _ c.if-not-ctx.false)
     (sym c.is_reserved_in_strict_bind.ensures ∙ c.if-not-is_reserved_in_strict_bind.false)))

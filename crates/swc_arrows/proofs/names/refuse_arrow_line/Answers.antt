@@ -20,7 +20,8 @@ returns-then-is_sign-clause-continues g c = λ sure.
     (ap (λ y. y.syntax.pedantic) (same ∙ s.read_scope l.laws l.looked.look.read)
     ∙ ap (λ v. v.pedantic) (sym c.syntax-syntax.ensures) ∙ s.not_false _ c.if-not-syntax.false)
     (ap breaks_at e ∙ sym c.in_ok-is_after_line_break.ensures.value ∙ c.if-branch.true)
-    (ap (at_token is_arrow) e ∙ sym c.is_sign.ensures.value ∙ c.if-is_sign.true)) c.syntax_error.ensures.refuses
+    (ap (at_token is_arrow) e ∙ sym c.is_sign.ensures.value ∙ c.if-is_sign.true)) (c.syntax_error.ensures.refuses
+    (λ e. cc))
 
 pub returns-clause-continues : goal.returns-clause-continues
 returns-clause-continues g c = λ sure.

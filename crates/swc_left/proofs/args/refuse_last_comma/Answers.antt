@@ -26,4 +26,4 @@ returns-clause-passes g c = λ sure.
     s.unheard_at c.in_ok-look.ensures.looks (λ x ts same e. last_refused x ts
     (ap (at_token is_rparen) e ∙ sym c.is_sign.ensures.value ∙ c.if-not-is_sign.false)
     (ap import_comma_ok same ∙ sym c.import_comma_allowed.ensures ∙ c.if-import_comma_allowed.false))
-    c.syntax_error.ensures.refuses
+    (c.syntax_error.ensures.refuses (λ e. cc))

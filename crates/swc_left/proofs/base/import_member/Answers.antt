@@ -2,6 +2,7 @@ use Rattle.std.proofs.{Common.not, Common.refl, lemmas.Result.err_from_is_err_an
 use Rattle.swc_grammar.specs.Tokens.{is_meta, is_source}
 use Rattle.swc_left.specs.Bases.{import_source}
 use Rattle.swc_left.proofs.Bases as base
+use Rattle.swc_steps.proofs.Naming.{name_read, name_unread}
 use Rattle.swc_steps.proofs.Steps as s
 use Rattle.swc_left.proofs.base.import_member.Goals as goal
 
@@ -56,7 +57,8 @@ returns-in_err-parse_ident_name-in-None-2-clause-parses g c =
     let no = s.eats_none sure is_source _ _ _ c.in-None-2.is (c.in_ok-end-2.ensures.eats sure) in rw (p.1, p.2)
     (s.unheard_after (s.on_then (s.on_call _ (base.member_begins b c.args.start) none)
     (s.on_call (λ x q. import_source b c.args.start q.0 x q.1) (λ x ts. refl) no))
-    (s.unheard_none (λ x ts. refl) (c.in_err-parse_ident_name-in-None-2.ensures.parses sure).refuses))
+    (s.unheard_none (λ x ts. refl)
+    (name_unread {sure = sure} g.met.I.Tokens.laws c.in_err-parse_ident_name-in-None-2.ensures.names).refuses))
 
 pub returns-in_ok-parse_ident_name-in-None-2-clause-parses : goal.returns-in_ok-parse_ident_name-in-None-2-clause-parses
 returns-in_ok-parse_ident_name-in-None-2-clause-parses g c = λ sure.
@@ -65,5 +67,6 @@ returns-in_ok-parse_ident_name-in-None-2-clause-parses g c = λ sure.
     let no = s.eats_none sure is_source _ _ _ c.in-None-2.is (c.in_ok-end-2.ensures.eats sure) in
     s.unheard_after (s.on_then (s.on_call _ (base.member_begins b c.args.start) none)
     (s.on_call (λ x q. import_source b c.args.start q.0 x q.1) (λ x ts. refl) no))
-    (s.unheard_none (λ x ts. refl) (s.refuses_later (c.in_ok-parse_ident_name-in-None-2.ensures.parses sure).on.leads
-    c.unexpected.ensures.refuses))
+    (s.unheard_none (λ x ts. refl) (s.refuses_later
+    (name_read {sure = sure} g.met.I.Tokens.laws c.in_ok-parse_ident_name-in-None-2.ensures.names).on.leads
+    (c.unexpected.ensures.refuses (λ e. cc))))

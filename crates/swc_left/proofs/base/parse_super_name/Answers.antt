@@ -6,6 +6,7 @@ use Rattle.swc_left.specs.Bases.{super_named, super_name_tail}
 use Rattle.swc_left.proofs.Bases as base
 use Rattle.swc_steps.proofs.Building.{made_over}
 use Rattle.swc_steps.proofs.Making as m
+use Rattle.swc_steps.proofs.Naming.{name_read, name_unread}
 use Rattle.swc_steps.proofs.Steps as s
 use Rattle.swc_left.proofs.base.parse_super_name.Goals as goal
 
@@ -34,7 +35,7 @@ pub returns-in_err-name : goal.returns-in_err-name
 returns-in_err-name g c =
     m.refused c.from_residual-in_err-name.ensures.1
     (s.unheard_after (s.on_seen {g = super_name_tail c.args.start} c.in_ok-look.ensures.looks (λ x ts same e. refl))
-    (s.unheard_call _ (base.name_splits c.args.start) (c.in_err-name.ensures.parses g.B.Bodies.is_faithful)))
+    (s.unheard_call _ (base.name_splits c.args.start) (name_unread g.met.I.Tokens.laws c.in_err-name.ensures.names)))
     (grows-same _)
 
 pub returns-in_err-require_super : goal.returns-in_err-require_super
@@ -43,7 +44,8 @@ returns-in_err-require_super g c =
     m.refused c.from_residual-in_err-require_super.ensures.1
     (s.unheard_after (s.on_then (s.on_seen {g = super_name_tail c.args.start} c.in_ok-look.ensures.looks
     (λ x ts same e. refl))
-    (s.on_call _ (base.name_splits c.args.start) (c.in_ok-name.ensures.parses g.B.Bodies.is_faithful).on))
+    (s.on_call _ (base.name_splits c.args.start)
+    (name_read {sure = g.B.Bodies.is_faithful} g.met.I.Tokens.laws c.in_ok-name.ensures.names).on))
     (s.unheard_call (λ x q. Some (super_named c.args.start name.span name.sym, q.1)) (λ x ts. refl)
     (c.in_err-require_super.ensures.passes g.B.Bodies.is_faithful))) (grows-same _)
 
@@ -57,6 +59,6 @@ returns g c =
     (made_over _ _ _ [] _ c.super_prop_expr-node.result c.super_prop_expr-node.ensures.made (apart-none (omega arith)))
     c.made.ensures.ok c.made.ensures.refused (grows-same _) c.super_prop_expr-node.ensures.grows
     (s.heard_after (s.on_seen {g = super_name_tail c.args.start} c.in_ok-look.ensures.looks (λ x ts same e. refl))
-    (s.heard_more _ (base.name_splits c.args.start) (c.in_ok-name.ensures.parses g.B.Bodies.is_faithful)
+    (s.heard_more _ (base.name_splits c.args.start) (name_read g.met.I.Tokens.laws c.in_ok-name.ensures.names)
     (s.on_call (λ x q. Some (super_named c.args.start name.span name.sym, q.1)) (λ x ts. refl)
     (c.in_ok-require_super.ensures.passes g.B.Bodies.is_faithful))))

@@ -5,7 +5,8 @@ pub returns-in-Err : goal.returns-in-Err
 returns-in-Err g c = s.forgoes_refuses c.in-Err.ensures.looks
 
 pub returns-then-is_sign : goal.returns-then-is_sign
-returns-then-is_sign g c = s.refuses_later (s.here_leads c.in-Ok.ensures.looks) c.syntax_error.ensures.refuses
+returns-then-is_sign g c = s.refuses_later (s.here_leads c.in-Ok.ensures.looks) (c.syntax_error.ensures.refuses
+    (λ e. cc))
 
 pub returns : goal.returns
-returns g c = s.refuses_later (s.here_leads c.in-Ok.ensures.looks) c.unexpected.ensures.refuses
+returns g c = s.refuses_later (s.here_leads c.in-Ok.ensures.looks) (c.unexpected.ensures.refuses (λ e. cc))

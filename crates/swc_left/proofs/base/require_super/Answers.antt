@@ -16,6 +16,6 @@ pub returns-clause-passes : goal.returns-clause-passes
 returns-clause-passes g c = λ sure.
     let x = scope g.I.Tokens.model c.args.input.now in
     record {
-      refuses = c.syntax_error.ensures.refuses;
+      refuses = c.syntax_error.ensures.refuses (λ e. cc);
       none = λ n y l ts k. super_may_not x ts (sym c.super_allowed.ensures ∙ c.if-super_allowed.false);
     }

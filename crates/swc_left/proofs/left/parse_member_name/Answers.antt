@@ -6,6 +6,7 @@ use Rattle.swc_nodes.proofs.{Lists.apart-none, Standing.grows-same}
 use Rattle.swc_steps.specs.Args.{hash_name}
 use Rattle.swc_left.proofs.Links as link
 use Rattle.swc_steps.proofs.Making as m
+use Rattle.swc_steps.proofs.Naming.{name_read, name_unread}
 use Rattle.swc_steps.proofs.Steps as s
 use Rattle.swc_left.proofs.left.parse_member_name.Goals as goal
 
@@ -42,7 +43,7 @@ returns-in_err-name-2 g c =
     (λ p. Some ((name_e p.0.at p.0.text, p.0.at.hi), p.1))} c.in_ok-look.ensures.looks
     (λ x ts same e. link.member_word x ts (ap (at_token is_hash) e ∙ sym c.is_sign.ensures.value ∙ c.if-is_sign.false)))
     (s.unheard_call (λ x p. Some ((name_e p.0.at p.0.text, p.0.at.hi), p.1)) (λ x ts. refl)
-    (c.in_err-name-2.ensures.parses g.B.Bodies.is_faithful))) (grows-same _)
+    (name_unread g.met.I.Tokens.laws c.in_err-name-2.ensures.names))) (grows-same _)
 
 pub returns : goal.returns
 returns g c =
@@ -51,5 +52,5 @@ returns g c =
     (λ p. Some ((name_e p.0.at p.0.text, p.0.at.hi), p.1))} c.in_ok-look.ensures.looks
     (λ x ts same e. link.member_word x ts (ap (at_token is_hash) e ∙ sym c.is_sign.ensures.value ∙ c.if-is_sign.false)))
     (s.heard_call (λ x p. Some ((name_e p.0.at p.0.text, p.0.at.hi), p.1)) (λ x ts. refl) (λ x ts. refl)
-    (c.in_ok-name-2.ensures.parses g.B.Bodies.is_faithful)))
+    (name_read g.met.I.Tokens.laws c.in_ok-name-2.ensures.names)))
     (grows-same _) (apart-none (omega arith))

@@ -16,7 +16,7 @@ pub returns-then-not-is_template-clause-parses : goal.returns-then-not-is_templa
 returns-then-not-is_template-clause-parses g c = λ sure.
     s.unheard_at c.in_ok-look.ensures.looks (λ x ts same e. tpl.element_not c.args.is_tagged x ts
     (ap (at_token is_template) e ∙ sym c.is_template.ensures.value ∙ c.if-not-is_template.true))
-    c.unexpected.ensures.refuses
+    (c.unexpected.ensures.refuses (λ e. cc))
 
 pub returns-in_err-cooked-clause-parses : goal.returns-in_err-cooked-clause-parses
 returns-in_err-cooked-clause-parses g c =

@@ -26,14 +26,14 @@ returns-clause-refuses g c =
     let bad : is_target (context g.I.Tokens.model c.args.input.now).strict e ≡ false =
     ap (λ v. is_target v.strict e) (sym c.get_ctx-strict.ensures) ∙ sym c.is_simple_target.ensures
     ∙ c.if-is_simple_target.false in
-    let refused = c.syntax_error.ensures.refuses in
-    let later : Refuses g.I.Tokens.model c.args.input.now c.syntax_error.result c.syntax_error.new.input =
+    let refused = c.syntax_error.ensures.refuses (λ e. cc) in
+    let later : Refuses g.I.Tokens.model c.args.input.now c.syntax_error.result c.syntax_error.new.self =
     elim c.match-op.branch [
       | in-Assign+in_ok-emit_err-in-Assign w ↦
           refuses_later w.in_ok-emit_err-in-Assign.ensures.tries
-          (subst (λ b. Refuses g.I.Tokens.model b c.syntax_error.result c.syntax_error.new.input) w.input-is refused)
+          (subst (λ b. Refuses g.I.Tokens.model b c.syntax_error.result c.syntax_error.new.self) w.input-is refused)
       | in_default+in_ok-emit_err-in_default w ↦
           refuses_later w.in_ok-emit_err-in_default.ensures.tries
-          (subst (λ b. Refuses g.I.Tokens.model b c.syntax_error.result c.syntax_error.new.input) w.input-is refused)
+          (subst (λ b. Refuses g.I.Tokens.model b c.syntax_error.result c.syntax_error.new.self) w.input-is refused)
     ] in
     (later, λ n. bad)

@@ -21,4 +21,4 @@ returns-clause-checks g c =
     c.emit_err.ensures.tries c.emit_err.ensures.notes
 
 pub returns-clause-kept : goal.returns-clause-kept
-returns-clause-kept g c = λ h. on_ok c.emit_err.result (c.emit_err.ensures.kept h)
+returns-clause-kept g c = λ h. on_ok c.emit_err.result (c.emit_err.ensures.kept (fit_seen _ h))

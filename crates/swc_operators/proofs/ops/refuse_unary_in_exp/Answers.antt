@@ -4,7 +4,7 @@ use Rattle.swc_operators.proofs.ops.refuse_unary_in_exp.Goals as goal
 
 pub returns-then-is_unary_in_exp-clause-refuses : goal.returns-then-is_unary_in_exp-clause-refuses
 returns-then-is_unary_in_exp-clause-refuses g c = (
-  c.syntax_error.ensures.refuses,
+  c.syntax_error.ensures.refuses (λ e. cc),
   not_true _ (sym c.is_unary_in_exp.ensures ∙ c.if-is_unary_in_exp.true),
 )
 

@@ -14,7 +14,8 @@ returns-in_err-look-clause-names g c =
 pub returns-then-is_sign-clause-names : goal.returns-then-is_sign-clause-names
 returns-then-is_sign-clause-names g c = λ sure.
     s.unheard_at c.in_ok-look.ensures.looks (λ x ts same e. prefix.name_star x ts
-    (ap (at_token is_star) e ∙ sym c.is_sign.ensures.value ∙ c.if-is_sign.true)) c.syntax_error.ensures.refuses
+    (ap (at_token is_star) e ∙ sym c.is_sign.ensures.value ∙ c.if-is_sign.true)) (c.syntax_error.ensures.refuses
+    (λ e. cc))
 
 pub returns-clause-names : goal.returns-clause-names
 returns-clause-names g c = λ sure.

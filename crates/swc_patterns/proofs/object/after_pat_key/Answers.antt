@@ -30,7 +30,8 @@ returns g c = record {
   after = λ sure.
       s.unheard_after (s.on_call _ (after_pat_key_splits c.args.key)
       (s.eats_none sure is_colon _ _ _ c.in-None.is (c.in_ok-eat.ensures.eats sure)))
-      (s.unheard_none (λ x ts. no_colon_other c.args.key c.in_default.not-Ident x ts) c.unexpected.ensures.refuses);
+      (s.unheard_none (λ x ts. no_colon_other c.args.key c.in_default.not-Ident x ts) (c.unexpected.ensures.refuses
+      (λ e. cc)));
   kept = tt;
   falls = tt;
 }

@@ -16,7 +16,7 @@ returns-in_err-look g c =
 pub returns-then-not-is_word : goal.returns-then-not-is_word
 returns-then-not-is_word g c =
     m.no (s.unheard_at c.in_ok-look.ensures.looks (λ x ts same e. plain_no x ts
-    (ap (at_token is_word) e ∙ sym c.is_word.ensures ∙ c.if-not-is_word.true)) c.unexpected.ensures.refuses)
+    (ap (at_token is_word) e ∙ sym c.is_word.ensures ∙ c.if-not-is_word.true)) (c.unexpected.ensures.refuses (λ e. cc)))
     (grows-same _)
 
 pub returns-in_err-name : goal.returns-in_err-name

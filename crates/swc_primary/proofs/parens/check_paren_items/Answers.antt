@@ -12,7 +12,7 @@ returns-in_err-check_item_covers-clause-refuses g c =
 
 pub returns-then-is_empty-clause-refuses : goal.returns-then-is_empty-clause-refuses
 returns-then-is_empty-clause-refuses g c = (
-  s.refuses_later c.in_ok-check_item_covers.ensures.checks.leads c.syntax_error.ensures.refuses,
+  s.refuses_later c.in_ok-check_item_covers.ensures.checks.leads (c.syntax_error.ensures.refuses (λ e. cc)),
   λ n. paren_none (tree_of c.args.nodes.now) _ c.args.list.now.trailing_comma c.args.list.now.end
       c.args.list.now.items.items
       (let e = eqb-true _ 0 (sym c.is_empty.ensures ∙ c.if-is_empty.true) in omega arith),

@@ -18,7 +18,8 @@ pub returns-then-not-is_sign-clause-reads : goal.returns-then-not-is_sign-clause
 returns-then-not-is_sign-clause-reads g c =
     s.unheard_at c.in_ok-look.ensures.looks
     (λ x ts same e. key.class_not _ g.met.B.Bodies.lawful x ts
-    (ap (at_token is_class) e ∙ sym c.is_sign.ensures.value ∙ c.if-not-is_sign.true)) c.unexpected.ensures.refuses
+    (ap (at_token is_class) e ∙ sym c.is_sign.ensures.value ∙ c.if-not-is_sign.true)) (c.unexpected.ensures.refuses
+    (λ e. cc))
 
 pub returns-clause-reads : goal.returns-clause-reads
 returns-clause-reads g c =

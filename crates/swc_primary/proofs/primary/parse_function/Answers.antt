@@ -41,4 +41,4 @@ returns-clause-reads g c =
     (λ x ts same e is. key.fun_not _ g.met.B.Bodies.lawful x ts (rule.function_not ts
     (ap (at_token is_function) (e ∙ ap seen_of told.current) ∙ sym c.is_sign.ensures.value ∙ c.if-is_sign.false)
     (is ∙ c.if-branch.false)))
-    c.unexpected.ensures.refuses
+    (c.unexpected.ensures.refuses (λ e. cc))

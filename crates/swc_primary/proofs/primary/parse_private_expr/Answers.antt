@@ -6,6 +6,7 @@ use Rattle.swc_input.specs.{Plain.plain, Kinds.is_hash}
 use Rattle.swc_steps.specs.Readers.{private_expr_tail}
 use Rattle.swc_steps.proofs.Rules as rule
 use Rattle.swc_steps.proofs.Making as m
+use Rattle.swc_steps.proofs.Naming.{name_read, name_unread}
 use Rattle.swc_steps.proofs.Steps as s
 use Rattle.swc_primary.proofs.PrivateNames.{on_lenient}
 use Rattle.swc_primary.proofs.primary.parse_private_expr.Goals as goal
@@ -17,13 +18,13 @@ returns-in_err-name g c =
     c.skip.ensures.took.1 (λ x ts. rule.private_expr_opens _ (plain c.skip.ensures.took.1.was) x ts
     (rule.passes_plain is_hash _ _ c.skip.ensures.took.1.current c.requires)))
     (s.unheard_call _ (rule.private_expr_splits _ (plain c.skip.ensures.took.1.was).span)
-    (c.in_err-name.ensures.parses g.B.Bodies.is_faithful))) (grows-same _)
+    (name_unread g.met.I.Tokens.laws c.in_err-name.ensures.names))) (grows-same _)
 
 pub returns : goal.returns
 returns g c =
     let first = c.skip.ensures.took.1 in
     let name = c.in_ok-name.name in
-    let heard = c.in_ok-name.ensures.parses g.B.Bodies.is_faithful in
+    let heard = name_read {sure = g.B.Bodies.is_faithful} g.met.I.Tokens.laws c.in_ok-name.ensures.names in
     let same = s.read_scope g.met.I.Tokens.laws heard.on.leads.read ∙ s.read_scope g.met.I.Tokens.laws first.read in
     let lenient = ap (λ v. v.syntax.pedantic) same ∙ ap (λ v. v.pedantic)
     (sym c.syntax-syntax.ensures) ∙ c.if-syntax.false in

@@ -3,7 +3,7 @@ use Rattle.std.proofs.lemmas.Result.{err_from_is_err_and}
 use Rattle.swc_input.specs.{Buffer.context, Kinds.at_token}
 use Rattle.swc_grammar.specs.{Clean.Out, Names.may_refer, Tokens.may_be_reference, Words.◌>>=◌, Words.word}
 use Rattle.swc_steps.specs.Parsing.{ident_spelling, scope, seen, is_strict}
-use Rattle.swc_steps.proofs.Naming.{parses_lower}
+use Rattle.swc_steps.proofs.Naming.{parses_lower, ref_read, ref_unread}
 use Rattle.swc_steps.proofs.Rules as rule
 use Rattle.swc_steps.proofs.Steps as s
 use Rattle.swc_primary.proofs.primary.parse_reference.Goals as goal
@@ -15,18 +15,19 @@ all_of (Some p) = refl
 pub returns-in_err-ident-clause-parses : goal.returns-in_err-ident-clause-parses
 returns-in_err-ident-clause-parses g c =
     let p = err_from_is_err_and c.from_residual.result c.from_residual.ensures.1 in λ sure. rw (p.1, p.2)
-    (c.in_err-ident.ensures.parses sure)
+    (ref_unread g.met.I.Tokens.laws c.requires c.in_err-ident.ensures.names)
 
 pub returns-in_err-check_strict_word-clause-parses : goal.returns-in_err-check_strict_word-clause-parses
 returns-in_err-check_strict_word-clause-parses g c =
     let r = c.from_residual-in_err-check_strict_word in
     let p = err_from_is_err_and r.result r.ensures.1 in λ sure. rw (p.1, p.2)
-    (s.unheard_memory (s.forgoes_later (c.in_ok-ident.ensures.parses sure).on.leads
+    (s.unheard_memory (s.forgoes_later
+    (ref_read {sure = sure} g.met.I.Tokens.laws c.requires c.in_ok-ident.ensures.names).on.leads
     c.in_err-check_strict_word.ensures.checks))
 
 pub returns-clause-parses : goal.returns-clause-parses
 returns-clause-parses g c = λ sure.
-    let read = c.in_ok-ident.ensures.parses sure in
+    let read = ref_read {sure = sure} g.met.I.Tokens.laws c.requires c.in_ok-ident.ensures.names in
     let before = context g.I.Tokens.model c.args.input.now in
     let behind = context g.I.Tokens.model c.parse_ident_ref.new.input in
     let kept = ap (λ x. x.«module») read.on.leads.read.context in

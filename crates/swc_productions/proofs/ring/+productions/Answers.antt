@@ -2595,12 +2595,12 @@ parse_assignment_expr-parse_yield_expr-requires g t c =
 
 pub parse_assignment_expr-returns-then-is_yield_operator : goal.parse_assignment_expr-returns-then-is_yield_operator
 parse_assignment_expr-returns-then-is_yield_operator g t c =
-    m.after {m = record c.args.p.now { input = c.require_cur.new.input; too_deep = c.deeper.new.too_deep }}
+    m.after {m = record c.args.p.now { input = c.require_cur.new.self; too_deep = c.deeper.new.too_deep }}
     c.parse_yield_expr.result
     (s.on_seen {g = yield_expr g.B.BodyForms.forms} c.in_ok-require_cur.ensures.fits
     (λ x ts same e. assign.yield_picked _ x ts
     (ap (λ v. at_token is_yield v && x.context.in_generator) e ∙ ap
-    (λ v. at_token is_yield (seen c.require_cur.new.input) && v.context.in_generator) same
+    (λ v. at_token is_yield (seen c.require_cur.new.self) && v.context.in_generator) same
     ∙ sym c.is_yield_operator.ensures.value ∙ c.if-is_yield_operator.true)))
     (grows-same _) c.parse_yield_expr.ensures
 
@@ -2635,7 +2635,7 @@ parse_assignment_expr-parse_arrow_or_assign-requires g t c =
 
 pub parse_assignment_expr-returns : goal.parse_assignment_expr-returns
 parse_assignment_expr-returns g t c =
-    m.after {m = record c.args.p.now { input = c.require_cur.new.input; too_deep = c.deeper.new.too_deep }}
+    m.after {m = record c.args.p.now { input = c.require_cur.new.self; too_deep = c.deeper.new.too_deep }}
     c.parse_arrow_or_assign.result
     (s.on_seen {g = run _ (at Assign)} c.in_ok-require_cur.ensures.fits (λ x ts same e. refl))
     (grows-same _) c.parse_arrow_or_assign.ensures

@@ -26,7 +26,7 @@ returns-then-not-is_regex-clause-parses g c = λ sure.
     (s.unheard_at c.in_ok-look.ensures.looks
     (λ x ts same e. tail_not slash.was.span x ts (ap (at_token is_regex) e ∙ sym c.is_regex.ensures.value
     ∙ c.if-not-is_regex.true))
-    c.syntax_error.ensures.refuses)
+    (c.syntax_error.ensures.refuses (λ e. cc)))
 
 pub returns-clause-parses : goal.returns-clause-parses
 returns-clause-parses g c = λ sure.

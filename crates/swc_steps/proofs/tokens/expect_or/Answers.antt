@@ -26,4 +26,4 @@ returns-in-None-clause-expects g c = λ sure.
     s.unheard_after
     (s.on_call _ (expected_splits (is_sign_token c.args.sign))
     (s.eats_none sure (is_sign_token c.args.sign) _ _ _ c.in-None.is (c.in_ok-span.ensures.eats sure)))
-    (s.unheard_none (λ x ts. refl) c.unexpected.ensures.refuses)
+    (s.unheard_none (λ x ts. refl) (c.unexpected.ensures.refuses c.requires))

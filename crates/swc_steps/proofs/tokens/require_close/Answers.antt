@@ -15,7 +15,7 @@ pub returns-then-not-is_sign-clause-closes : goal.returns-then-not-is_sign-claus
 returns-then-not-is_sign-clause-closes g c = λ sure.
     s.unheard_at c.in_ok-look.ensures.looks (λ x ts same e. closed_not (is_sign_token c.args.close) x ts
     (ap (at_token (is_sign_token c.args.close)) e ∙ sym c.is_sign.ensures.value ∙ c.if-not-is_sign.true))
-    c.unexpected.ensures.refuses
+    (c.unexpected.ensures.refuses (λ e. cc))
 
 pub returns-clause-closes : goal.returns-clause-closes
 returns-clause-closes g c = λ sure.
