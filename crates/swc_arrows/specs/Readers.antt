@@ -4,11 +4,11 @@ use Rattle.swc_context.specs.{Reserved.strict_binding_words, Spans.from_to, Text
 use Rattle.swc_input.specs.{declared.token.Token.Token, declared.token.Token.Token as token, declared.token.TokenAndSpan.TokenAndSpan, Kinds.at_token}
 use Rattle.swc_ast.specs.Tree.{Tree, node, Trees, nil, cons, ident, span_of}
 use Rattle.swc_ast.specs.Trees.{to, arrow_e, ident_e, block_e, call_e, link_e, items_of, comma_of, covers_ok}
-use Rattle.swc_bodies.specs.Readings.{Hook, is_async as is_async_token}
+use Rattle.swc_bodies.specs.Readings.{Hook, is_async as is_async_token, is_brace}
 use Rattle.swc_grammar.specs.Arrows.{is_arrow, is_block, is_sign, is_of}
 use Rattle.swc_grammar.specs.Clean.{Out, first, second, sym, run, links, updates, climb, assigns, parens, asyncs}
 use Rattle.swc_grammar.specs.Names.{Spelling, spelling, may_refer, may_bind}
-use Rattle.swc_grammar.specs.{Scope.Scope, Symbols.Level, Symbols.ArrowBody, Tokens.is_lparen, Words.◌>>=◌, Words.word}
+use Rattle.swc_grammar.specs.{Scope.Scope, Symbols.Assign, Symbols.Level, Symbols.ArrowBody, Tokens.is_lparen, Words.◌>>=◌, Words.word}
 use Rattle.swc_cover.specs.{Clear.is_clear, Faults.params_verdict, ReservedNames.names_ok, Items.want_items}
 use Rattle.swc_steps.specs.Args.{args_inside, paren_closed, paren_from, paren_of}
 use Rattle.swc_steps.specs.{Keys.expected, Parsing.breaks_at, Parsing.by_hook}
@@ -167,6 +167,10 @@ module _ {F C K : Type 0} (hook : Hook F C K) where
   -- a block, which the hook reads, in the context of the body
   unfoldable pub block_inside : (K → Span) → Scope → List TokenAndSpan → Out (Tree F C K)
   block_inside place c ts = by_hook hook.block c ts >>= (λ p. Some (block_e (place p.0) p.0, p.1))
+
+  -- the body of an arrow function, in its context
+  abbrev pub body_by : (K → Span) → Scope → List TokenAndSpan → Out (Tree F C K)
+  body_by place c ts = if at_token is_brace (first ts) then block_inside place c ts else run hook (sym Assign) c ts
 
   -- after `async`, so spelled: a name, and `=>`
   abbrev pub async_param : Spelling → Scope → List TokenAndSpan → Out (Tree F C K)

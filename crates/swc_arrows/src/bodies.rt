@@ -1,21 +1,19 @@
 // The bodies of arrow functions (ECMA-262, 15.3 and 15.9), and what may come after them.
 ghost use Rattle.std.specs.Prelude.{◌≡◌, ◌≤◌, ◌++◌, ◌&&◌, ℕ, Bool, true, OnOk, IfOk, MatchResult, Some};
-ghost use Rattle.swc_context.specs.Contexts.{arrow_body};
 ghost use Rattle.swc_bodies.specs.Readings.{is_brace};
 ghost use Rattle.swc_grammar.specs.{Arrows.is_sign, Clean.no_error};
-ghost use Rattle.swc_input.specs.Buffer.{context, current, to_come};
+ghost use Rattle.swc_input.specs.Buffer.{to_come};
 ghost use Rattle.swc_input.specs.Kinds.{at_token};
 ghost use Rattle.swc_nodes.specs.GrowingNodes.{count, tree_at, body_end, Apart};
 ghost use Rattle.swc_nodes.specs.{Lists.pats_parts, Lists.pat_trees, NodeParts.body_parts};
 ghost use Rattle.swc_input.specs.Calls.{Looks, Tries};
-ghost use Rattle.swc_steps.specs.Parsing.{seen, Moves, Produces, On, Unheard};
+ghost use Rattle.swc_steps.specs.Parsing.{seen, Produces, On, Unheard};
 ghost use Rattle.swc_arrows.specs.Answers.{has_block, body_at, body_of, EndsArrow, SignChecked};
 ghost use Rattle.swc_arrows.specs.Readers.{arrow_end, block_inside, no_sign, ends_statement, statement_ends};
 
 use crate::names::ArrowHead;
 use swc_ast::expr::BlockStmtOrExpr;
 use swc_bodies::bodies::Bodies;
-use swc_context::context::Context;
 use swc_context::error::{PResult, SyntaxError};
 use swc_input::buffer::Buffer;
 use swc_input::token::Token;
@@ -23,7 +21,7 @@ use swc_input::tokens::Tokens;
 use swc_nodes::node::ExprId;
 use swc_primary::methods::parse_block;
 use swc_steps::productions::Productions;
-use swc_steps::tokens::{Sign, is_after_line_break, is_sign, look, set_ctx};
+use swc_steps::tokens::{Sign, is_after_line_break, is_sign, look};
 
 /// What was read where an arrow function may be.
 #[derive(Clone, Copy)]
@@ -37,19 +35,6 @@ pub enum ArrowOrBase {
     Operand(ExprId),
     /// Nothing: no arrow function begins here.
     Other,
-}
-
-/// Sets the context of an arrow function's body, and answers the one from before.
-pub fn enter_arrow_body<I: Tokens>(input: &mut Buffer<I>, is_async: bool) -> Context
-    ensures before { result ≡ context I.model input.old }
-    ensures moves { Moves I.model input.old input.new }
-    ensures context { context I.model input.new ≡ arrow_body is_async (context I.model input.old) }
-    ensures module { result.module ≡ (context I.model input.new).module }
-    ensures stays { to_come I.model input.new ≡ to_come I.model input.old }
-{
-    let ctx = input.get_ctx();
-    set_ctx(input, ctx.arrow_body(is_async));
-    ctx
 }
 
 /// Whether the body is a block. Consumes nothing, and is refused only when out of memory.

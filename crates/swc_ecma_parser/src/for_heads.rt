@@ -18,7 +18,7 @@ use swc_input::tokens::Tokens;
 use swc_nodes::node::{ExprId, ForHeadId};
 use swc_productions::ring::parse_expr;
 use swc_steps::productions::Productions;
-use swc_steps::tokens::{look, set_ctx};
+use swc_steps::tokens::{look, replace_ctx};
 
 /// What the head of a `for`, or of a `for await`, begins with (ECMA-262, 14.7.4 and 14.7.5), where that is no
 /// declaration: an expression, which becomes a pattern that is assigned to (13.15.5) where `of` or `in` is current
@@ -54,10 +54,10 @@ pub(crate) fn parse_head_expr<I: Tokens, B: Bodies<I>>(
     ensures own { is_await ≡ (context I.model p.old.input).expr_ctx.for_await_loop_init
         → Produces I.model B.is_faithful itself tree_of (own_head_expr B.forms) (count p.old.nodes) p.old result p.new }
 {
-    let ctx = p.get_ctx();
-    set_ctx(&mut p.input, head_context(ctx, is_await));
+    let ctx = head_context(p.get_ctx(), is_await);
+    let before = replace_ctx(&mut p.input, ctx);
     let expr = parse_expr(p, room);
-    set_ctx(&mut p.input, ctx);
+    let _ = replace_ctx(&mut p.input, before);
     expr
 }
 

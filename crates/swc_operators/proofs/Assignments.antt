@@ -490,21 +490,3 @@ module _ {F C K : Type 0} (hook : Hook F C K) where
       then_begun None = refl
       then_begun (Some p) = begun_none lo (seqs_by hook es p.0 x p.1)
           ∙ ap (λ v. seqs_by hook es p.0 x p.1 >>= (λ q. Some (begun_if v lo q.0, q.1))) (sym h)
-
--- ---- the parts of a conditional (13.14), each in a context of its own, which is put back
-
-module _ {S : Type 0} (model : Model S) (sure : Bool) {F C K T : Type 0} (hook : Hook F C K)
-    (tree : T → Tree F C K) where
-  pub in_middle : {b c d e : Buffer S} (ctx : Context) (r : Result T Error) → ctx ≡ context model b → Moves model b c
-      → context model c ≡ cond_middle ctx → Parses model sure tree (run hook (at Assign)) c r d → Moves model d e
-      → context model e ≡ ctx → Parses model sure tree (inside hook) b r e
-  in_middle ctx r from m to h n back =
-      parses_within model sure tree (inside hook) (inner_of (run hook (at Assign))) r include_in (λ x. refl)
-      (λ x ts. inside_assign hook x ts) m (ap deciding to ∙ ap (λ x. include_in (deciding x)) from)
-      (parses_inner model sure tree (run hook (at Assign)) _ _ r h) n (back ∙ from)
-
-  pub in_last : {b c d e : Buffer S} (ctx : Context) (r : Result T Error) → ctx ≡ context model b → Moves model b c
-      → context model c ≡ cond_last ctx → Parses model sure tree (run hook (at Assign)) c r d → Moves model d e
-      → context model e ≡ ctx → Parses model sure tree (run hook (at Assign)) b r e
-  in_last ctx r from m to h n back =
-      parses_aside model sure tree (run hook (at Assign)) r m (ap deciding to ∙ ap deciding from) h n (back ∙ from)

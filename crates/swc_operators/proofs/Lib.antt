@@ -1,5 +1,4 @@
 pub mod Assignments
-pub mod Entered
 pub mod InContext
 pub mod Operands
 pub mod Pending

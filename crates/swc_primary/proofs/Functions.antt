@@ -197,15 +197,6 @@ module _ {F C K : Type 0} (hook : Hook F C K) where
         ∙ bind_same (run hook (at Params) (in_params m x) p.1) _ _ (λ q.
         by_ok (accessor_ok m (items_of q.0)) p.0 (items_of q.0) (in_params m x) q.1 refl))
 
-    -- in that of the key, up to the parenthesis
-    pub function_opens : (x : Scope) (ts : List TokenAndSpan) → method_function hook m x ts
-        ≡ (expected is_lparen x ts >>= (λ p. method_left hook block_at m p.0 (in_params m x) p.1))
-    unfolding method_inside
-    function_opens x ts =
-        function_inside x ts
-        ∙ ap (λ o. o >>= (λ p. method_left hook block_at m p.0 (in_params m x) p.1))
-        (sym (expected_within is_lparen (method_params (async_in m) (generator_in m)) x ts))
-
   module _ (block_at : K → Span) (m : Option MethodKind) where
     pub inside_splits : (x : Scope) (ts : List TokenAndSpan) → method_inside hook block_at m x ts
         ≡ (expected is_lparen x ts >>= (λ p. method_left hook block_at m p.0 x p.1))

@@ -186,46 +186,27 @@ looked {b = b} {c = c} h =
 -- ---- what is left of a literal after the token that opens it
 
 module _ {S F C K : Type 0} {model : Model S} (sure : Bool) (hook : Hook F C K) where
-  pub array_begins : {a b d : Buffer S} {lo : BytePos} {ctx : Context} → Here model a b
-      → primary_kind (seen b) ≡ kind.Array → (o : Opens model include_in b lo ctx d)
+  pub array_begins : {a b c : Buffer S} {k : Token} {lo : BytePos} → Here model a b
+      → primary_kind (seen b) ≡ kind.Array → (took : Bumped model b k c) → took.was.span.lo ≡ lo
       → On model sure (run hook (at Primary))
-      (λ x ts. elements_inside hook x ts >>= (λ p. Some (array_from lo p.0, p.1))) a o.between
-  array_begins {b = b} h k o =
-      let sign = is_array (seen b) k in
+      (λ x ts. elements_inside hook x ts >>= (λ p. Some (array_from lo p.0, p.1))) a c
+  array_begins {b = b} h is took place =
+      let sign = is_array (seen b) is in
       s.on_then (s.on_seen h (λ x ts same e. list.array_lit_picked hook x ts (ap (at_token is_lbracket) e ∙ sign)))
-      (s.on_took h.laws o.took (λ x ts.
-      list.array_lit_opens hook (plain o.took.was) x ts (rule.passes_plain is_lbracket _ _ o.took.current sign)
-      ∙ list.array_lit_splits hook (plain o.took.was).span x ts
-      ∙ ap (λ v. elements_inside hook x ts >>= (λ p. Some (array_from v p.0, p.1))) o.place))
+      (s.on_took h.laws took (λ x ts.
+      list.array_lit_opens hook (plain took.was) x ts (rule.passes_plain is_lbracket _ _ took.current sign)
+      ∙ list.array_lit_splits hook (plain took.was).span x ts
+      ∙ ap (λ v. elements_inside hook x ts >>= (λ p. Some (array_from v p.0, p.1))) place))
 
-  pub object_begins : {a b d : Buffer S} {lo : BytePos} {ctx : Context} → Here model a b
-      → primary_kind (seen b) ≡ kind.Object → (o : Opens model (λ x. x) b lo ctx d)
+  pub object_begins : {a b c : Buffer S} {k : Token} {lo : BytePos} → Here model a b
+      → primary_kind (seen b) ≡ kind.Object → (took : Bumped model b k c) → took.was.span.lo ≡ lo
       → On model sure (run hook (at Primary))
-      (λ x ts. run hook (at Props) x ts >>= (λ p. Some (object_from lo p.0, p.1))) a o.between
-  object_begins {b = b} h k o =
-      let sign = is_object (seen b) k in
+      (λ x ts. run hook (at Props) x ts >>= (λ p. Some (object_from lo p.0, p.1))) a c
+  object_begins {b = b} h is took place =
+      let sign = is_object (seen b) is in
       s.on_from_inner
       (s.on_then (s.on_seen h (λ x ts same e. props.object_lit_picked hook x ts (ap (at_token is_brace) e ∙ sign)))
-      (s.on_took h.laws o.took (λ x ts.
-      props.object_lit_opens hook (plain o.took.was) x ts (rule.passes_plain is_brace _ _ o.took.current sign)
-      ∙ props.object_lit_splits hook (plain o.took.was).span x ts
-      ∙ ap (λ v. run hook (at Props) (inner x) ts >>= (λ p. Some (object_from v p.0, p.1))) o.place)))
-
-  -- the list in its context, which is set back after it
-  pub elements_read : {T : Type 0} (view : T → Tree F C K) {b d e f : Buffer S} {lo : BytePos} {ctx : Context}
-      (r : Result T Error) → (o : Opens model include_in b lo ctx d)
-      → Parses model sure view (run hook (at Elements)) d r e
-      → Moves model e f → context model f ≡ ctx → Parses model sure view (elements_inside hook) o.between r f
-  elements_read view r o h m back =
-      s.parses_within model sure view (elements_inside hook) (s.inner_of (run hook (at Elements))) r include_in
-      (λ x. refl)
-      (λ x ts. list.inside_elements hook x ts)
-      o.moves (o.inside ∙ ap (λ x. include_in (deciding x)) o.outside)
-      (s.parses_inner model sure view (run hook (at Elements)) _ _ r h) m (back ∙ o.outside)
-
-  pub props_read : {T : Type 0} (view : T → Tree F C K) {b d e f : Buffer S} {lo : BytePos} {ctx : Context}
-      (r : Result T Error) → (o : Opens model (λ x. x) b lo ctx d) → Parses model sure view (run hook (at Props)) d r e
-      → Moves model e f → context model f ≡ ctx → Parses model sure view (run hook (at Props)) o.between r f
-  props_read view r o h m back =
-      s.parses_aside model sure view (run hook (at Props)) r
-      o.moves (o.inside ∙ ap deciding o.outside) h m (back ∙ o.outside)
+      (s.on_took h.laws took (λ x ts.
+      props.object_lit_opens hook (plain took.was) x ts (rule.passes_plain is_brace _ _ took.current sign)
+      ∙ props.object_lit_splits hook (plain took.was).span x ts
+      ∙ ap (λ v. run hook (at Props) (inner x) ts >>= (λ p. Some (object_from v p.0, p.1))) place)))

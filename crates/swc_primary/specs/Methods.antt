@@ -184,21 +184,6 @@ module _ {F C K : Type 0} (hook : Hook F C K) where
   unfoldable pub method_tail : MethodKind → Span → Scope → List TokenAndSpan → Out (Tree F C K)
   method_tail m s c ts = run hook (sym Key) c ts >>= (λ p. method_behind_key (Some m) s p.0 c p.1)
 
-module _ {S : Type 0} (model : Model S) where
-  -- From b to d: the context was set, to that of a method's parameters, and then the parenthesis at s was read, which
-  -- opens
-  -- them.
-  pub record Opened (m : Option MethodKind) (b : Buffer S) (s : Span) (ctx : Context) (d : Buffer S) : Type 0 where
-    pub at : Buffer S
-    pub moves : Moves model b at
-    pub inside : deciding (context model at) ≡ method_params (async_in m) (generator_in m) (deciding (context model b))
-    pub before : ctx ≡ context model b
-    pub read : (sure : Bool) → Heard model sure (expected is_lparen) s at d
-
-  -- no such parenthesis was read, and the context is that from before
-  abbrev pub NotOpened : Buffer S → Error → Buffer S → Type 0
-  NotOpened b e d = (sure : Bool) → Unheard model sure (expected is_lparen) b e d
-
 module _ {F C K : Type 0} {fg : Ghosts F} {cg : Ghosts C} {kg : Ghosts K} where
   -- whether the first of the parameters is a rest
   abbrev pub is_rest_at : Nodes F C K fg cg kg → Option PatId → Bool

@@ -49,18 +49,6 @@ BeginsPlain c at plain.Other =
 abbrev pub in_comes : Scope → List TokenAndSpan → Out (Unit {0})
 in_comes c ts = if c.context.include_in_expr && at_token is_in (first ts) then Some (tt, ts) else None
 
--- From b to d: the current token was consumed, which begins at lo, and then the context was set, which was ctx, to
--- one that decides as w makes it.
-pub record Opens {S : Type 0} (model : Model S) (w : Context → Context) (b : Buffer S) (lo : BytePos) (ctx : Context)
-    (d : Buffer S) : Type 0 where
-  pub between : Buffer S
-  pub token : Token
-  pub took : Bumped model b token between
-  pub place : took.was.span.lo ≡ lo
-  pub moves : Moves model between d
-  pub outside : ctx ≡ context model between
-  pub inside : deciding (context model d) ≡ w (deciding ctx)
-
 -- a literal that begins at lo, of a list that is closed
 abbrev pub array_from : {F C K : Type 0} → BytePos → Tree F C K → Tree F C K
 array_from lo e = array_e (comma_of e) (from_to lo (span_of e).hi) (items_of e)

@@ -1,15 +1,15 @@
 // What methods are made of after their keys (ECMA-262, 15.4 to 15.6 and 15.8): parameters, blocks, and properties.
 ghost use Rattle.std.specs.Option.{is_some};
-ghost use Rattle.std.specs.Prelude.{ℕ, ◌≡◌, ◌≢◌, ◌<◌, ◌≤◌, true, not, ◌||◌, IfOk, OnOk, MatchResult};
+ghost use Rattle.std.specs.Prelude.{ℕ, ◌≡◌, ◌≢◌, ◌<◌, ◌≤◌, true, not, ◌||◌, IfOk, OnOk};
 ghost use Rattle.swc_context.specs.{Contexts.method_params, declared.error.SyntaxError.TheVariants.ParserFailed};
-ghost use Rattle.swc_input.specs.Buffer.{to_come, context};
+ghost use Rattle.swc_input.specs.Buffer.{to_come};
 ghost use Rattle.swc_nodes.specs.GrowingNodes.{count, Apart, Grows};
 ghost use Rattle.swc_nodes.specs.{Lists.first_param_pat, NodeParts.flat, NodeParts.param_parts};
 ghost use Rattle.swc_steps.specs.Params.{params_of, params_at};
 ghost use Rattle.swc_steps.specs.Keys.{method_body};
 ghost use Rattle.swc_input.specs.Calls.{Checked, Tries};
 ghost use Rattle.swc_steps.specs.Parsing.{GoesOn, Parses, by_hook, shell_at};
-ghost use Rattle.swc_primary.specs.Methods.{Opened, NotOpened, async_in, generator_in, accessor_ok, just_one, begins_rest, misses_param, method_function_of, method_shell, method_close, method_node, method_behind, getter_behind, setter_behind};
+ghost use Rattle.swc_primary.specs.Methods.{async_in, generator_in, accessor_ok, just_one, begins_rest, misses_param, method_function_of, method_shell, method_close, method_node, method_behind, getter_behind, setter_behind};
 
 use crate::modifiers::MethodKind;
 use swc_ast::function::{Function, Param};
@@ -25,33 +25,10 @@ use swc_nodes::node::{ExprId, PatId, PropNode};
 use swc_nodes::nodes::NodesOf;
 use swc_nodes::patterns::first_param_pat;
 use swc_steps::productions::Productions;
-use swc_steps::tokens::{Sign, answered, expect, expect_or, is_sign, look, set_ctx};
-
-/// Sets the context of a method's parameters (ECMA-262, 15.4), and consumes the parenthesis that opens them. Answers
-/// its place, and the context from before. Another token is refused as `Expected`, and where nothing is before the
-/// method's key as `Unexpected`, at that token; the end as `Eof`. Then the context is that from before.
-pub fn open_params<I: Tokens>(
-    input: &mut Buffer<I>,
-    kind: Option<MethodKind>,
-) -> PResult<(Span, Context)>
-    ensures opened { MatchResult result (λ r. Opened I.model kind input.old r.0 r.1 input.new)
-        (λ e. NotOpened I.model input.old e input.new) }
-    ensures module { IfOk result (λ r. r.1.module ≡ (context I.model input.new).module) }
-    ensures falls { OnOk result (to_come I.model input.new < to_come I.model input.old) }
-{
-    let before = input.get_ctx();
-    set_ctx(input, method_params(kind, before));
-    match expect_or(input, Sign::LParen, without_params(kind)) {
-        Ok(start) => Ok((start, before)),
-        Err(error) => {
-            set_ctx(input, before);
-            Err(error)
-        }
-    }
-}
+use swc_steps::tokens::{Sign, answered, expect, is_sign, look, replace_ctx};
 
 /// What a token is refused as that is where a method's parameters begin.
-fn without_params(kind: Option<MethodKind>) -> SyntaxError
+pub fn without_params(kind: Option<MethodKind>) -> SyntaxError
     ensures { result ≢ ParserFailed }
 {
     match kind {
@@ -260,10 +237,10 @@ fn parse_method_block<I: Tokens, B: Bodies<I>>(
         p.old.input result p.new.input }
     ensures nodes { p.new.nodes ≡ p.old.nodes }
 {
-    let ctx = p.get_ctx();
-    set_ctx(&mut p.input, ctx.method_block(is_async, is_generator));
+    let ctx = p.get_ctx().method_block(is_async, is_generator);
+    let before = replace_ctx(&mut p.input, ctx);
     let block = parse_block(p);
-    set_ctx(&mut p.input, ctx);
+    let _ = replace_ctx(&mut p.input, before);
     block
 }
 
@@ -283,7 +260,7 @@ pub fn parse_block<I: Tokens, B: Bodies<I>>(p: &mut Productions<I, B>) -> PResul
 }
 
 /// The context of the parameters of a method of the kind.
-fn method_params(kind: Option<MethodKind>, ctx: Context) -> Context
+pub fn method_params(kind: Option<MethodKind>, ctx: Context) -> Context
     ensures { result ≡ method_params (async_in kind) (generator_in kind) ctx }
 {
     ctx.method_params(is_async(kind), is_generator(kind))

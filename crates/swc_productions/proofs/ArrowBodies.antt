@@ -24,17 +24,13 @@ use Rattle.swc_steps.specs.declared.productions.Productions.{Productions}
 use Rattle.swc_steps.proofs.Steps.{Reader}
 use Rattle.swc_operators.proofs.InContext.{within}
 use Rattle.swc_arrows.specs.Answers.{body_at, body_of}
-use Rattle.swc_arrows.specs.Readers.{block_inside}
+use Rattle.swc_arrows.specs.Readers.{block_inside, body_by}
 use Rattle.swc_arrows.proofs.BodyLaws.{body_block, body_expr}
 
 module _ {F C K : Type 0} (hook : Hook F C K) (place : K → Span) where
-  -- inside its context
-  abbrev pub body_by : Scope → List TokenAndSpan → Out (Tree F C K)
-  body_by c ts = if at_token is_brace (first ts) then block_inside hook place c ts else run hook (at Assign) c ts
-
   pub body_is : {fun_at : F → Span} {class_at : C → Span} → LawfulHook fun_at class_at place hook
       → (a : Bool) (x : Scope)
-      (ts : List TokenAndSpan) → run hook (at (ArrowBody a)) x ts ≡ body_by (in_context (arrow_body a) x) ts
+      (ts : List TokenAndSpan) → run hook (at (ArrowBody a)) x ts ≡ body_by hook place (in_context (arrow_body a) x) ts
   body_is laws a x ts = by_brace (at_token is_brace (first ts)) refl
     where
       by_brace : (b : Bool) → at_token is_brace (first ts) ≡ b
@@ -44,26 +40,26 @@ module _ {F C K : Type 0} (hook : Hook F C K) (place : K → Span) where
       by_brace false e = body_expr hook a x ts e
 
   pub block_read : (x : Scope) (ts : List TokenAndSpan) → at_token is_brace (first ts) ≡ true
-      → body_by x ts ≡ block_inside hook place x ts
+      → body_by hook place x ts ≡ block_inside hook place x ts
   block_read x ts e = rw e refl
 
   pub expr_read : (x : Scope) (ts : List TokenAndSpan) → at_token is_brace (first ts) ≡ false
-      → body_by x ts ≡ run hook (at Assign) x ts
+      → body_by hook place x ts ≡ run hook (at Assign) x ts
   expr_read x ts e = rw e refl
 
--- what an assignment expression is, as a body
+-- in its context, which is set back, and what was found is put back
 module _ {S H F C K : Type 0} {fg : Ghosts F} {cg : Ghosts C} {kg : Ghosts K} {model : Model S} {sure : Bool}
     (hook : Hook F C K) (laws : LawfulHook fg.place cg.place kg.place hook) {k : ℕ}
     {p q : Productions S H F C K fg cg kg}
-    {b e : Buffer S} {ctx : Context} {r : Result (BlockStmtOrExpr ExprId K) Error} where
-  -- the context is set back, and what was found is put back
-  pub within_body : (a found : Bool) → ctx ≡ context model p.input → Moves model p.input b
-      → deciding (context model b) ≡ arrow_body a (deciding (context model p.input))
+    {b e : Buffer S} {was made ctx : Context} {r : Result (BlockStmtOrExpr ExprId K) Error} where
+  pub within_body : (a found : Bool) → was ≡ context model p.input → made ≡ arrow_body a was
+      → ctx ≡ context model p.input → Moves model p.input b → context model b ≡ made
       → Produces model sure body_of body_at (body_by hook kg.place) k (record p { input = b }) r q
       → Moves model q.input e → context model e ≡ ctx
       → Produces model sure body_of body_at (run hook (at (ArrowBody a))) k p r
       (record q { input = e; found_module_item = found })
-  within_body a found before to set h back left =
+  within_body a found from says before to set h back left =
       let w : Produces model sure body_of body_at (run hook (at (ArrowBody a))) k p r (record q { input = e }) =
-      within (arrow_body a) (λ x. refl) (λ x ts. body_is hook kg.place laws a x ts) before to set h refl back left in
+      within (arrow_body a) (λ x. refl) (λ x ts. body_is hook kg.place laws a x ts) from (ap deciding says) before to set
+      h refl back left in
       record { reads = w.reads; falls = w.falls; grows = w.grows; from = w.from }

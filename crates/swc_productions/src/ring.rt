@@ -1,11 +1,11 @@
 // The ring: the productions that call one another back (ECMA-262, 13), in the order of the standard.
 ghost use Rattle.std.specs.Prelude.{ℕ, ◌≢◌, ◌≡◌, ◌<◌, true, false, not, ◌&&◌, None, Some, IsSome};
 ghost use Rattle.swc_arrows.specs.Answers.{body_at, body_of, MayBeArrow, MayBeOperand, ReadsArrow};
-ghost use Rattle.swc_arrows.specs.Readers.{arrow_behind};
+ghost use Rattle.swc_arrows.specs.Readers.{arrow_behind, body_by};
 ghost use Rattle.swc_nodes.specs.Lists.{pats_parts, pat_trees};
 ghost use Rattle.swc_cover.specs.Rewriting.{Rewrites};
 ghost use Rattle.swc_grammar.specs.Clean.{sym, links, run, no_error};
-ghost use Rattle.swc_grammar.specs.Symbols.{ArrowBody, Lhs, Primary, Elements, Item, Props, Prop, Key, Parts, Level, Unary, Expr, Assign, Pat, Element, PatElements, PatProps};
+ghost use Rattle.swc_grammar.specs.Symbols.{Args, ArrowBody, Lhs, Primary, Elements, Item, Props, Prop, Key, Parts, Level, Unary, Expr, Assign, Pat, Element, PatElements, PatProps};
 ghost use Rattle.swc_grammar.specs.Tokens.{is_yield};
 ghost use Rattle.swc_input.specs.Buffer.{context, current};
 ghost use Rattle.swc_input.specs.Kinds.{at_token};
@@ -21,7 +21,7 @@ ghost use Rattle.swc_nodes.specs.GrowingNodes.{count, tree_at, first_at, From, A
 ghost use Rattle.swc_operators.specs.Assignments.{assigns_from, yield_expr};
 ghost use Rattle.swc_operators.specs.Operands.{is_plain};
 ghost use Rattle.swc_operators.specs.Pending.{pending_reads};
-ghost use Rattle.swc_primary.specs.Methods.{method_function, method_shell};
+ghost use Rattle.swc_primary.specs.Methods.{method_function, method_inside, method_shell};
 ghost use Rattle.swc_steps.specs.Args.{args_inside};
 ghost use Rattle.swc_steps.specs.Readers.{operand};
 ghost use Rattle.swc_input.specs.Calls.{Here};
@@ -30,8 +30,7 @@ ghost use Rattle.swc_context.specs.declared.error.SyntaxError.TheVariants.{Parse
 
 use crate::room::deeper;
 use swc_arrows::bodies::{
-    ArrowOrBase, arrow_function, begins_block, check_operators_end, enter_arrow_body,
-    parse_block_body,
+    ArrowOrBase, arrow_function, begins_block, check_operators_end, parse_block_body,
 };
 use swc_arrows::lists::{close_list, open_list};
 use swc_arrows::names::{ArrowHead, Beginning, parse_arrow_name, parse_async_name};
@@ -41,7 +40,6 @@ use swc_ast::function::{Function, Param};
 use swc_ast::prop::PropName;
 use swc_ast::spanned::Spanned;
 use swc_bodies::bodies::Bodies;
-use swc_context::context::Context;
 use swc_context::error::{Error, PResult};
 use swc_context::span::{BytePos, Span};
 use swc_input::tokens::Tokens;
@@ -55,7 +53,9 @@ use swc_nodes::patterns::name_pat_prop;
 use swc_nodes::pending::PendingOperators;
 use swc_operators::plain::{begins_plain, may_go_on};
 use swc_operators::prefix::{is_await_name, update_prefix};
-use swc_operators::within::{enter_args, enter_prop_name, enter_tpl, include_in, leave};
+use swc_operators::within::{
+    include_in, items_context, member_context, prop_name_context, without_colon,
+};
 use swc_operators::{assign, ops};
 use swc_patterns::object::{AfterPatKey, after_pat_key, object_pat};
 use swc_patterns::params::{NextParam, next_param, param_of, rest_default};
@@ -63,8 +63,8 @@ use swc_patterns::pat::{
     NextElement, PatKind, array_pat, default_pat, next_element, parse_plain_pat, pat_kind, rest_pat,
 };
 use swc_patterns::rest::{SeenRest, separate_item};
-use swc_primary::literals::{array_lit, object_lit, open_array, open_object};
-use swc_primary::methods::{close_method, method_of, open_params};
+use swc_primary::literals::{array_lit, object_lit};
+use swc_primary::methods::{close_method, method_of, method_params, without_params};
 use swc_primary::modifiers::MethodKind;
 use swc_primary::object::{
     PropHead, computed_prop_name, cover_prop, key_prop, parse_plain_prop_name, parse_prop_head,
@@ -98,26 +98,15 @@ macro_rules! listed {
     }};
 }
 
-/// What is read in the context in which `in` counts as an operator (ECMA-262, 13.10), and set back after it.
-macro_rules! with_in {
-    ($p:ident, $room:ident, $read:ident) => {{
-        let before = include_in(&mut $p.input);
-        let read = $read($p, $room);
-        leave(&mut $p.input, before, read)
+/// What is read in a context of its own; after it the context is that from before, also after a refusal.
+macro_rules! within {
+    ($p:ident, $ctx:expr, $read:expr) => {{
+        let ctx = $ctx;
+        let before = tokens::replace_ctx(&mut $p.input, ctx);
+        let read = $read;
+        let _ = tokens::replace_ctx(&mut $p.input, before);
+        read
     }};
-}
-
-/// What was answered; a refusal is handed on once the context from before is set back.
-macro_rules! held {
-    ($p:ident, $before:ident, $answer:expr) => {
-        match $answer {
-            Ok(value) => value,
-            Err(error) => {
-                tokens::set_ctx(&mut $p.input, $before);
-                return Err(error);
-            }
-        }
-    };
 }
 
 // ---- Expressions (ECMA-262, 13)
@@ -143,16 +132,16 @@ pub fn parse_primary_expr<I: Tokens, B: Bodies<I>>(
             primary::paren_items(p, start, list)
         }
         PrimaryKind::Array => {
-            let (start, ctx) = open_array(&mut p.input);
-            let elems = parse_elements(p, room);
-            tokens::set_ctx(&mut p.input, ctx);
-            array_lit(p, start, elems?)
+            let start = p.cur_span().lo;
+            tokens::skip(&mut p.input);
+            let elems = within!(p, items_context(p.get_ctx()), parse_elements(p, room))?;
+            array_lit(p, start, elems)
         }
         PrimaryKind::Object => {
-            let (start, ctx) = open_object(&mut p.input);
-            let props = parse_props(p, room);
-            tokens::set_ctx(&mut p.input, ctx);
-            object_lit(p, start, props?)
+            let start = p.cur_span().lo;
+            tokens::skip(&mut p.input);
+            let props = within!(p, without_colon(p.get_ctx()), parse_props(p, room))?;
+            object_lit(p, start, props)
         }
         PrimaryKind::Template => {
             let start = tokens::expect(&mut p.input, Sign::BackQuote)?;
@@ -228,17 +217,7 @@ pub fn parse_lhs_expr<I: Tokens, B: Bodies<I>>(
         let base = parse_base(p, room, false)?;
         return parse_subscripts(p, room, base, false);
     }
-    let ctx = p.get_ctx();
-    tokens::set_ctx(
-        &mut p.input,
-        Context {
-            should_not_lex_lt_or_gt_as_type: true,
-            ..ctx
-        },
-    );
-    let member = parse_member_expr(p, room);
-    tokens::set_ctx(&mut p.input, ctx);
-    let callee = member?;
+    let callee = within!(p, member_context(p.get_ctx()), parse_member_expr(p, room))?;
     parse_subscripts(p, room, callee, false)
 }
 
@@ -306,7 +285,7 @@ fn parse_subscripts<I: Tokens, B: Bodies<I>>(
         match head {
             LinkHead::Name { optional } => obj = left::parse_dot_member(p, obj, optional)?,
             LinkHead::Computed { start, optional } => {
-                let expr = with_in!(p, room, parse_expr)?;
+                let expr = within!(p, include_in(p.get_ctx()), parse_expr(p, room))?;
                 obj = left::computed_member(p, obj, start, expr, optional)?;
             }
             LinkHead::Call { optional } => {
@@ -361,18 +340,18 @@ pub fn parse_object_prop<I: Tokens, B: Bodies<I>>(
     match parse_prop_head::<I, B>(p.alloc, &mut p.input)? {
         PropHead::Shorthand(name) => Ok(PropNode::Shorthand(name)),
         PropHead::Spread(dots) => {
-            let expr = with_in!(p, room, parse_assignment_expr)?;
+            let expr = within!(p, include_in(p.get_ctx()), parse_assignment_expr(p, room))?;
             Ok(spread_prop(&p.nodes, dots, expr))
         }
         PropHead::Cover(name) => {
-            let value = with_in!(p, room, parse_assignment_expr)?;
+            let value = within!(p, include_in(p.get_ctx()), parse_assignment_expr(p, room))?;
             Ok(cover_prop(&p.nodes, name, value))
         }
         PropHead::Key => {
             let key = parse_prop_name(p, room)?;
             match tokens::eat(&mut p.input, Sign::Colon)? {
                 Some(_) => {
-                    let value = with_in!(p, room, parse_assignment_expr)?;
+                    let value = within!(p, include_in(p.get_ctx()), parse_assignment_expr(p, room))?;
                     Ok(key_prop(&p.nodes, key, value))
                 }
                 None => {
@@ -403,11 +382,24 @@ fn parse_method<I: Tokens, B: Bodies<I>>(
     ensures { Produces I.model B.is_faithful (method_shell kind) shell_at (method_function B.forms kind)
         (count p.old.nodes) p.old result p.new }
 {
-    let (start, before) = open_params(&mut p.input, kind)?;
-    let params = held!(p, before, parse_formal_params(p, room));
-    let method = close_method(p, kind, key, start, params);
-    tokens::set_ctx(&mut p.input, before);
-    method
+    within!(p, method_params(kind, p.get_ctx()), parse_method_inside(p, room, kind, key))
+}
+
+/// The function of a method, in the context of its parameters. Where they begin, another token is refused as
+/// `Expected`, and where nothing is before the method's key as `Unexpected`, at that token; the end as `Eof`.
+#[cycle(productions)]
+fn parse_method_inside<I: Tokens, B: Bodies<I>>(
+    p: &mut Productions<I, B>,
+    room: usize,
+    kind: Option<MethodKind>,
+    key: Span,
+) -> PResult<Function<PatId, B::Block>>
+    ensures { Produces I.model B.is_faithful (method_shell kind) shell_at (method_inside B.forms B.Block.place kind)
+        (count p.old.nodes) p.old result p.new }
+{
+    let start = tokens::expect_or(&mut p.input, Sign::LParen, without_params(kind))?;
+    let params = parse_formal_params(p, room)?;
+    close_method(p, kind, key, start, params)
 }
 
 /// A property's key (ECMA-262, 13.2.5): any word, a string, a number, a big integer, or an expression in brackets, in
@@ -423,19 +415,24 @@ pub fn parse_prop_name<I: Tokens, B: Bodies<I>>(
     ensures { Produces I.model B.is_faithful key_of key_at (run B.forms (sym Key))
         (count p.old.nodes) p.old result p.new }
 {
-    let before = enter_prop_name(&mut p.input);
-    match held!(p, before, tokens::eat(&mut p.input, Sign::LBracket)) {
+    within!(p, prop_name_context(p.get_ctx()), parse_key(p, room))
+}
+
+/// A property's key, in its context.
+#[cycle(productions)]
+fn parse_key<I: Tokens, B: Bodies<I>>(
+    p: &mut Productions<I, B>,
+    room: usize,
+) -> PResult<PropName<ExprId>>
+    ensures { Produces I.model B.is_faithful key_of key_at (run B.forms (sym Key))
+        (count p.old.nodes) p.old result p.new }
+{
+    match tokens::eat(&mut p.input, Sign::LBracket)? {
         Some(start) => {
-            let expr = held!(p, before, with_in!(p, room, parse_assignment_expr));
-            let key = computed_prop_name(p, start, expr);
-            tokens::set_ctx(&mut p.input, before);
-            key
+            let expr = within!(p, include_in(p.get_ctx()), parse_assignment_expr(p, room))?;
+            computed_prop_name(p, start, expr)
         }
-        None => {
-            let key = parse_plain_prop_name(p.alloc, &mut p.input);
-            tokens::set_ctx(&mut p.input, before);
-            key
-        }
+        None => parse_plain_prop_name(p.alloc, &mut p.input),
     }
 }
 
@@ -453,22 +450,31 @@ pub fn parse_tpl_elements<I: Tokens, B: Bodies<I>>(
     ensures { Produces I.model B.is_faithful tpl_parts_of tpl_parts_at (run B.forms (sym (Parts is_tagged)))
         (count p.old.nodes) p.old result p.new }
 {
-    let before = enter_tpl(&mut p.input);
+    within!(p, without_colon(p.get_ctx()), parse_tpl_parts(p, room, is_tagged))
+}
+
+/// The texts of a template and the expressions between them, in their context.
+#[cycle(productions)]
+fn parse_tpl_parts<I: Tokens, B: Bodies<I>>(
+    p: &mut Productions<I, B>,
+    room: usize,
+    is_tagged: bool,
+) -> PResult<TplParts>
+    ensures { Produces I.model B.is_faithful tpl_parts_of tpl_parts_at (run B.forms (sym (Parts is_tagged)))
+        (count p.old.nodes) p.old result p.new }
+{
     let mut quasis = Vec::new(p.alloc);
     let mut exprs = Vec::new(p.alloc);
     loop {
-        let quasi = held!(p, before, parse_tpl_element(&mut p.input, is_tagged));
-        held!(p, before, p.add(&mut quasis, quasi));
-        match held!(p, before, eat_tpl_end(&mut p.input)) {
-            Some(end) => {
-                tokens::set_ctx(&mut p.input, before);
-                return Ok(TplParts { quasis, exprs, end });
-            }
+        let quasi = parse_tpl_element(&mut p.input, is_tagged)?;
+        p.add(&mut quasis, quasi)?;
+        match eat_tpl_end(&mut p.input)? {
+            Some(end) => return Ok(TplParts { quasis, exprs, end }),
             None => {}
         }
-        let expr = held!(p, before, with_in!(p, room, parse_expr));
-        held!(p, before, tokens::expect(&mut p.input, Sign::RBrace));
-        held!(p, before, p.add(&mut exprs, expr));
+        let expr = within!(p, include_in(p.get_ctx()), parse_expr(p, room))?;
+        tokens::expect(&mut p.input, Sign::RBrace)?;
+        p.add(&mut exprs, expr)?;
     }
 }
 
@@ -487,30 +493,30 @@ pub fn parse_args<I: Tokens, B: Bodies<I>>(
     ensures { Produces I.model B.is_faithful args_of args_at (args_inside B.forms is_dynamic_import)
         (count p.old.nodes) p.old result p.new }
 {
+    within!(p, items_context(p.get_ctx()), parse_arg_items(p, room, is_dynamic_import))
+}
+
+/// Arguments, after their parenthesis, in their context.
+#[cycle(productions)]
+fn parse_arg_items<I: Tokens, B: Bodies<I>>(
+    p: &mut Productions<I, B>,
+    room: usize,
+    is_dynamic_import: bool,
+) -> PResult<Listed<ExprOrSpread<ExprId>>>
+    ensures { Produces I.model B.is_faithful args_of args_at (run B.forms (sym (Args is_dynamic_import)))
+        (count p.old.nodes) p.old result p.new }
+{
     let start = p.prev_span();
-    let before = enter_args(&mut p.input);
-    let mut items = Vec::new(p.alloc);
-    let mut trailing_comma = None;
-    loop {
-        match held!(p, before, tokens::eat(&mut p.input, Sign::RParen)) {
-            Some(end) => {
-                tokens::set_ctx(&mut p.input, before);
-                return Ok(Listed {
-                    items,
-                    trailing_comma,
-                    end,
-                });
-            }
-            None => {}
+    listed!(
+        p,
+        Sign::RParen,
+        items,
+        {
+            let arg = parse_expr_or_spread(p, room)?;
+            p.add(&mut items, arg)?;
+            separate_args(&mut p.input, start, is_dynamic_import)?
         }
-        let arg = held!(p, before, parse_expr_or_spread(p, room));
-        held!(p, before, p.add(&mut items, arg));
-        trailing_comma = held!(
-            p,
-            before,
-            separate_args(&mut p.input, start, is_dynamic_import)
-        );
-    }
+    )
 }
 
 // ---- What left-hand sides begin with (ECMA-262, 13.3): `super`, `import`, and primary expressions
@@ -564,7 +570,7 @@ fn parse_super<I: Tokens, B: Bodies<I>>(
     match base::super_head(&mut p.input, no_call)? {
         SuperHead::Name => return base::parse_super_name(p, start),
         SuperHead::Computed(bracket) => {
-            let expr = with_in!(p, room, parse_expr)?;
+            let expr = within!(p, include_in(p.get_ctx()), parse_expr(p, room))?;
             return base::super_computed(p, start, bracket, expr);
         }
         SuperHead::Call => {
@@ -576,7 +582,7 @@ fn parse_super<I: Tokens, B: Bodies<I>>(
     match base::super_chain(&mut p.input, no_call)? {
         SuperChain::Name => base::refuse_super_name(p, no_call),
         SuperChain::Computed => {
-            with_in!(p, room, parse_expr)?;
+            within!(p, include_in(p.get_ctx()), parse_expr(p, room))?;
             Err(base::refuse_super_brackets(&mut p.input, no_call))
         }
         SuperChain::Call => {
@@ -752,17 +758,7 @@ fn parse_plain_operand<I: Tokens, B: Bodies<I>>(
     ensures { Produces I.model B.is_faithful itself tree_of (run B.forms (sym Unary))
         (count p.old.nodes) p.old result p.new }
 {
-    let ctx = p.get_ctx();
-    tokens::set_ctx(
-        &mut p.input,
-        Context {
-            should_not_lex_lt_or_gt_as_type: true,
-            ..ctx
-        },
-    );
-    let member = parse_plain_member(p, room);
-    tokens::set_ctx(&mut p.input, ctx);
-    let callee = member?;
+    let callee = within!(p, member_context(p.get_ctx()), parse_plain_member(p, room))?;
     tokens::look(&mut p.input)?;
     if !may_go_on(&p.input) {
         return Ok(callee);
@@ -1015,18 +1011,25 @@ fn parse_arrow_body<I: Tokens, B: Bodies<I>>(
     ensures found { p.new.found_module_item ≡ p.old.found_module_item }
 {
     let found = p.found_module_item;
-    let before = enter_arrow_body(&mut p.input, is_async);
-    let body = if held!(p, before, begins_block(&mut p.input)) {
-        parse_block_body(p)
-    } else {
-        match parse_assignment_expr(p, room) {
-            Ok(expr) => Ok(BlockStmtOrExpr::Expr(expr)),
-            Err(error) => Err(error),
-        }
-    };
+    let body = within!(p, p.get_ctx().arrow_body(is_async), parse_body(p, room));
     p.found_module_item = found;
-    tokens::set_ctx(&mut p.input, before);
     body
+}
+
+/// The body of an arrow function, in its context.
+#[cycle(productions)]
+fn parse_body<I: Tokens, B: Bodies<I>>(
+    p: &mut Productions<I, B>,
+    room: usize,
+) -> PResult<BlockStmtOrExpr<ExprId, B::Block>>
+    ensures { Produces I.model B.is_faithful body_of body_at (body_by B.forms B.Block.place)
+        (count p.old.nodes) p.old result p.new }
+{
+    if begins_block(&mut p.input)? {
+        return parse_block_body(p);
+    }
+    let expr = parse_assignment_expr(p, room)?;
+    Ok(BlockStmtOrExpr::Expr(expr))
 }
 
 /// Reads on after `left`, which is what binary operators join: the rest of a conditional (ECMA-262, 13.14), from its
@@ -1046,16 +1049,9 @@ fn finish_assignment_expr<I: Tokens, B: Bodies<I>>(
     tokens::look(&mut p.input)?;
     if tokens::is_sign(&p.input, Sign::Question) {
         tokens::skip(&mut p.input);
-        let ctx = p.get_ctx();
-        tokens::set_ctx(&mut p.input, assign::cond_middle(ctx));
-        let middle = parse_assignment_expr(p, room);
-        tokens::set_ctx(&mut p.input, ctx);
-        let cons = middle?;
+        let cons = within!(p, assign::cond_middle(p.get_ctx()), parse_assignment_expr(p, room))?;
         tokens::expect(&mut p.input, Sign::Colon)?;
-        tokens::set_ctx(&mut p.input, assign::cond_last(ctx));
-        let last = parse_assignment_expr(p, room);
-        tokens::set_ctx(&mut p.input, ctx);
-        let alt = last?;
+        let alt = within!(p, assign::cond_last(p.get_ctx()), parse_assignment_expr(p, room))?;
         let node = p.nodes.cond_expr(left, cons, alt);
         return p.made(node);
     }
@@ -1090,10 +1086,10 @@ pub fn parse_pat<I: Tokens, B: Bodies<I>>(p: &mut Productions<I, B>, room: usize
         }
         PatKind::Object => {
             let less = deeper(&p.input, &mut p.too_deep, room)?;
-            let (start, ctx) = open_object(&mut p.input);
-            let props = parse_pat_props(p, less);
-            tokens::set_ctx(&mut p.input, ctx);
-            object_pat(p, start, props?)
+            let start = p.cur_span().lo;
+            tokens::skip(&mut p.input);
+            let props = within!(p, without_colon(p.get_ctx()), parse_pat_props(p, less))?;
+            object_pat(p, start, props)
         }
         PatKind::Plain => parse_plain_pat(p),
     }
@@ -1111,7 +1107,7 @@ pub fn parse_binding_element<I: Tokens, B: Bodies<I>>(
     let left = parse_pat(p, room)?;
     match tokens::eat(&mut p.input, Sign::Assign)? {
         Some(_) => {
-            let value = with_in!(p, room, parse_assignment_expr)?;
+            let value = within!(p, include_in(p.get_ctx()), parse_assignment_expr(p, room))?;
             default_pat(p, left, value)
         }
         None => Ok(left),
@@ -1204,7 +1200,7 @@ pub fn parse_object_pat_prop<I: Tokens, B: Bodies<I>>(
             Ok(p.nodes.key_pat_prop(key, value))
         }
         AfterPatKey::Default(name) => {
-            let value = with_in!(p, room, parse_assignment_expr)?;
+            let value = within!(p, include_in(p.get_ctx()), parse_assignment_expr(p, room))?;
             Ok(p.nodes.default_pat_prop(name, value))
         }
         AfterPatKey::Name(name) => Ok(name_pat_prop(name)),

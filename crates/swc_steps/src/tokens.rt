@@ -163,9 +163,11 @@ pub fn record_refusal<I: Tokens>(input: &mut Buffer<I>, error: Error) -> PResult
     input.emit_error(error)
 }
 
-/// Sets a context of the same kind of text, a module or a script, which can't be refused.
-pub fn set_ctx<I: Tokens>(input: &mut Buffer<I>, ctx: Context)
+/// Sets a context of the same kind of text, a module or a script, which can't be refused, and answers the one from
+/// before.
+pub fn replace_ctx<I: Tokens>(input: &mut Buffer<I>, ctx: Context) -> Context
     requires { ctx.module ≡ (state_of I.model input.old).context.module }
+    ensures before { result ≡ context I.model input.old }
     ensures moves { Moves I.model input.old input.new }
     ensures context { (state_of I.model input.new).context ≡ ctx }
     ensures current { current input.new ≡ current input.old }
@@ -173,9 +175,11 @@ pub fn set_ctx<I: Tokens>(input: &mut Buffer<I>, ctx: Context)
         × ((state_of I.model input.new).ended ≡ (state_of I.model input.old).ended) }
     ensures stays { to_come I.model input.new ≡ to_come I.model input.old }
 {
+    let before = input.get_ctx();
     if input.set_ctx(ctx).is_err() {
         unreachable!()
     }
+    before
 }
 
 /// A private name, and where it ends, in bytes.

@@ -10,7 +10,8 @@ returns-clause-reads g c =
     s.parses_within g.I.Tokens.model g.B.Bodies.is_faithful (λ v. v) _ (by_hook g.B.BodyForms.forms.block)
     c.parse_block-block.result
     (method_block c.args.is_async c.args.is_generator) (λ x. refl)
-    (λ x ts. key.method_body_block _ c.args.is_async c.args.is_generator x ts) c.set_ctx.ensures.moves
-    (ap deciding (c.set_ctx.ensures.context ∙ c.method_block.ensures)
-    ∙ ap (λ x. deciding (method_block c.args.is_async c.args.is_generator x)) c.get_ctx-ctx.ensures)
-    c.parse_block-block.ensures.reads c.set_ctx-2.ensures.moves (c.set_ctx-2.ensures.context ∙ c.get_ctx-ctx.ensures)
+    (λ x ts. key.method_body_block _ c.args.is_async c.args.is_generator x ts) c.replace_ctx-before.ensures.moves
+    (ap deciding (c.replace_ctx-before.ensures.context ∙ c.method_block-ctx.ensures)
+    ∙ ap (λ x. deciding (method_block c.args.is_async c.args.is_generator x)) c.get_ctx.ensures)
+    c.parse_block-block.ensures.reads c.replace_ctx.ensures.moves
+    (c.replace_ctx.ensures.context ∙ c.replace_ctx-before.ensures.before)

@@ -58,12 +58,11 @@ use Rattle.swc_steps.proofs.Building.{apart-down, apart-lower, apart_behind, gro
 use Rattle.swc_operators.specs.Operands.{is_plain, goes_on}
 use Rattle.swc_operators.specs.Pending.{pending_reads}
 use Rattle.swc_operators.proofs.Assignments as assign
-use Rattle.swc_operators.proofs.InContext.{assign_within, expr_within, within}
+use Rattle.swc_operators.proofs.InContext.{args_within, as_set, aside, assign_within, elements_within, expr_within, within}
 use Rattle.swc_operators.proofs.Sequences.{behind_comma}
 use Rattle.swc_operators.proofs.Operands as operand
 use Rattle.swc_operators.proofs.PlainOperands as plain_operand
 use Rattle.swc_operators.proofs.Pending as pending
-use Rattle.swc_operators.proofs.Entered as entered
 use Rattle.swc_steps.proofs.Args as args
 use Rattle.swc_left.proofs.Bases as base
 use Rattle.swc_left.proofs.Chains as chain
@@ -94,9 +93,6 @@ use Rattle.swc_bodies.specs.Readings.{is_brace}
 use Rattle.swc_context.specs.Contexts.{view as deciding}
 use Rattle.swc_nodes.specs.GrowingNodes.{body_end}
 use Rattle.swc_nodes.proofs.Lists.{apart-more, list-later, same_first}
-use Rattle.swc_productions.proofs.ring.+productions.Goals.{parse_arrow_body-then-value}
-use Rattle.swc_productions.proofs.ring.+productions.Goals.{parse_arrow_body-else-value+in-Ok-parse_assignment_expr}
-use Rattle.swc_productions.proofs.ring.+productions.Goals.{parse_arrow_body-else-value+in-Err-parse_assignment_expr}
 use Rattle.swc_arrows.proofs.Dooms.{doomed_later, doomed_unheard, fails_later, opens_after, opens_call_read, opens_later}
 use Rattle.swc_arrows.proofs.Begun as begun
 use Rattle.swc_arrows.proofs.Closes.{closed_clean}
@@ -108,7 +104,7 @@ use Rattle.swc_productions.proofs.ArrowBodies as bodies
 use Rattle.swc_productions.proofs.InnerCalls as inside
 use Rattle.swc_productions.proofs.PlainKinds.{plain_kind}
 use Rattle.swc_grammar.specs.Scope.{inner}
-use Rattle.swc_primary.specs.Methods.{async_in, generator_in, method_end, method_inside, method_function}
+use Rattle.swc_primary.specs.Methods.{async_in, generator_in, method_end}
 use Rattle.swc_primary.proofs.Functions as function
 use Rattle.swc_primary.proofs.Keyed as method
 use Rattle.swc_productions.proofs.ring.+productions.Goals as goal
@@ -198,95 +194,88 @@ parse_primary_expr-returns-in_ok-list-in-Paren g t c =
     c.in_ok-list-in-Paren.ensures.from h y ys) c.parse_args.ensures.grows (λ x h. h)
     (c.paren_items.ensures (count c.args.p.now.nodes) c.in_ok-list-in-Paren.ensures.from))
 
-pub parse_primary_expr-open_array-requires : goal.parse_primary_expr-open_array-requires
-parse_primary_expr-open_array-requires g t c = opening.is_array _ (sym c.primary_kind.ensures ∙ c.in-Array.is)
-
 pub parse_primary_expr-returns-in_err-elems-in-Array : goal.parse_primary_expr-returns-in_err-elems-in-Array
 parse_primary_expr-returns-in_err-elems-in-Array g t c =
-    let opens = c.open_array.ensures.opens in
-    let lo = c.open_array.result.0 in
-    let view = elems_at c.parse_elements-elems.new.p.nodes in
+    let took = c.skip-in-Array.ensures.took.1 in
+    let start = c.cur_span-in-Array.result in
+    let place = ap (λ v. v.lo) (sym (s.place_was took start c.cur_span-in-Array.ensures)) in
     let begun = opening.array_begins g.B.Bodies.is_faithful g.B.BodyForms.forms c.in_ok-look.ensures.looks
-    (sym c.primary_kind.ensures ∙ c.in-Array.is) opens in
-    let read = opening.elements_read g.B.Bodies.is_faithful g.B.BodyForms.forms view c.parse_elements-elems.result opens
-    c.parse_elements-elems.ensures.reads c.set_ctx.ensures.moves c.set_ctx.ensures.context in
+    (sym c.primary_kind.ensures ∙ c.in-Array.is) took place in
+    let inner = elements_within g.B.BodyForms.forms c.get_ctx-in-Array.ensures
+    c.items_context-ctx-in-Array.ensures.decides c.replace_ctx-before-in-Array.ensures.before
+    c.replace_ctx-before-in-Array.ensures.moves c.replace_ctx-before-in-Array.ensures.context
+    c.parse_elements-read-in-Array.ensures c.in_err-elems-in-Array.was c.replace_ctx-in-Array.ensures.moves
+    c.replace_ctx-in-Array.ensures.context in
     m.refused c.from_residual-in_err-elems-in-Array.ensures.1
     (s.unheard_after begun
-    (s.unheard_call (λ x p. Some (array_from lo p.0, p.1)) (λ x ts. refl)
-    (s.parses_err g.I.Tokens.model g.B.Bodies.is_faithful view
-    (elements_inside g.B.BodyForms.forms) _ _ c.parse_elements-elems.result _ c.in_err-elems-in-Array.was read)))
-    c.parse_elements-elems.ensures.grows
+    (s.unheard_call (λ x p. Some (array_from start.lo p.0, p.1)) (λ x ts. refl) inner.reads))
+    inner.grows
 
 pub parse_primary_expr-array_lit-requires : goal.parse_primary_expr-array_lit-requires
 parse_primary_expr-array_lit-requires g t c =
-    record {
-      apart = apart-down (elem_parts c.in_ok-elems-in-Array.field-0.items)
-          (m.held_is _ c.parse_elements-elems.result c.in_ok-elems-in-Array.field-0 c.in_ok-elems-in-Array.was
-          c.parse_elements-elems.ensures.from);
-    }
+    let inner = elements_within g.B.BodyForms.forms c.get_ctx-in-Array.ensures
+    c.items_context-ctx-in-Array.ensures.decides c.replace_ctx-before-in-Array.ensures.before
+    c.replace_ctx-before-in-Array.ensures.moves c.replace_ctx-before-in-Array.ensures.context
+    c.parse_elements-read-in-Array.ensures c.in_ok-elems-in-Array.was c.replace_ctx-in-Array.ensures.moves
+    c.replace_ctx-in-Array.ensures.context in
+    record { apart = apart-down (elem_parts c.in_ok-elems-in-Array.elems.items) inner.from; }
 
 pub parse_primary_expr-returns-in_ok-elems-in-Array : goal.parse_primary_expr-returns-in_ok-elems-in-Array
 parse_primary_expr-returns-in_ok-elems-in-Array g t c =
-    let opens = c.open_array.ensures.opens in
-    let lo = c.open_array.result.0 in
-    let view = elems_at c.parse_elements-elems.new.p.nodes in
+    let took = c.skip-in-Array.ensures.took.1 in
+    let start = c.cur_span-in-Array.result in
+    let place = ap (λ v. v.lo) (sym (s.place_was took start c.cur_span-in-Array.ensures)) in
     let begun = opening.array_begins g.B.Bodies.is_faithful g.B.BodyForms.forms c.in_ok-look.ensures.looks
-    (sym c.primary_kind.ensures ∙ c.in-Array.is) opens in
-    let read = opening.elements_read g.B.Bodies.is_faithful g.B.BodyForms.forms view c.parse_elements-elems.result opens
-    c.parse_elements-elems.ensures.reads c.set_ctx.ensures.moves c.set_ctx.ensures.context in
-    let heard = s.parses_ok g.I.Tokens.model g.B.Bodies.is_faithful view
-    (elements_inside g.B.BodyForms.forms) _ _ c.parse_elements-elems.result c.in_ok-elems-in-Array.field-0
-    c.in_ok-elems-in-Array.was read in
-    m.after {m = record c.args.p.now { input = opens.between }} c.array_lit.result begun (grows-same _)
-    (m.call c.array_lit.result (λ x p. Some (array_from lo p.0, p.1))
-    (λ x ts. refl) heard c.parse_elements-elems.ensures.grows (λ x h. h)
-    (c.array_lit.ensures (count c.args.p.now.nodes) (m.held_is _ c.parse_elements-elems.result
-    c.in_ok-elems-in-Array.field-0 c.in_ok-elems-in-Array.was c.parse_elements-elems.ensures.from)))
-
-pub parse_primary_expr-open_object-requires : goal.parse_primary_expr-open_object-requires
-parse_primary_expr-open_object-requires g t c = opening.is_object _ (sym c.primary_kind.ensures ∙ c.in-Object.is)
+    (sym c.primary_kind.ensures ∙ c.in-Array.is) took place in
+    let inner = elements_within g.B.BodyForms.forms c.get_ctx-in-Array.ensures
+    c.items_context-ctx-in-Array.ensures.decides c.replace_ctx-before-in-Array.ensures.before
+    c.replace_ctx-before-in-Array.ensures.moves c.replace_ctx-before-in-Array.ensures.context
+    c.parse_elements-read-in-Array.ensures c.in_ok-elems-in-Array.was c.replace_ctx-in-Array.ensures.moves
+    c.replace_ctx-in-Array.ensures.context in
+    m.after {m = record c.args.p.now { input = c.skip-in-Array.new.input }} c.array_lit.result begun (grows-same _)
+    (m.call c.array_lit.result (λ x p. Some (array_from start.lo p.0, p.1))
+    (λ x ts. refl) inner.reads inner.grows (λ x h. h)
+    (c.array_lit.ensures (count c.args.p.now.nodes) inner.from))
 
 pub parse_primary_expr-returns-in_err-props-in-Object : goal.parse_primary_expr-returns-in_err-props-in-Object
 parse_primary_expr-returns-in_err-props-in-Object g t c =
-    let opens = c.open_object.ensures.opens in
-    let lo = c.open_object.result.0 in
-    let view = props_at c.parse_props-props.new.p.nodes in
+    let took = c.skip-in-Object.ensures.took.1 in
+    let start = c.cur_span-in-Object.result in
+    let place = ap (λ v. v.lo) (sym (s.place_was took start c.cur_span-in-Object.ensures)) in
     let begun = opening.object_begins g.B.Bodies.is_faithful g.B.BodyForms.forms c.in_ok-look.ensures.looks
-    (sym c.primary_kind.ensures ∙ c.in-Object.is) opens in
-    let read = opening.props_read g.B.Bodies.is_faithful g.B.BodyForms.forms view c.parse_props-props.result opens
-    c.parse_props-props.ensures.reads c.set_ctx-in-Object.ensures.moves c.set_ctx-in-Object.ensures.context in
+    (sym c.primary_kind.ensures ∙ c.in-Object.is) took place in
+    let inner = aside c.get_ctx-in-Object.ensures c.without_colon-ctx-in-Object.ensures.decides
+    c.replace_ctx-before-in-Object.ensures.before c.replace_ctx-before-in-Object.ensures.moves
+    c.replace_ctx-before-in-Object.ensures.context c.parse_props-read-in-Object.ensures c.in_err-props-in-Object.was
+    c.replace_ctx-in-Object.ensures.moves c.replace_ctx-in-Object.ensures.context in
     m.refused c.from_residual-in_err-props-in-Object.ensures.1
     (s.unheard_after begun
-    (s.unheard_call (λ x p. Some (object_from lo p.0, p.1)) (λ x ts. refl)
-    (s.parses_err g.I.Tokens.model g.B.Bodies.is_faithful view
-    (run g.B.BodyForms.forms (at Props)) _ _ c.parse_props-props.result _ c.in_err-props-in-Object.was read)))
-    c.parse_props-props.ensures.grows
+    (s.unheard_call (λ x p. Some (object_from start.lo p.0, p.1)) (λ x ts. refl) inner.reads))
+    inner.grows
 
 pub parse_primary_expr-object_lit-requires : goal.parse_primary_expr-object_lit-requires
 parse_primary_expr-object_lit-requires g t c =
-    record {
-      apart = apart-down (props_parts c.in_ok-props-in-Object.field-0.items)
-          (m.held_is _ c.parse_props-props.result c.in_ok-props-in-Object.field-0 c.in_ok-props-in-Object.was
-          c.parse_props-props.ensures.from);
-    }
+    let inner = aside c.get_ctx-in-Object.ensures c.without_colon-ctx-in-Object.ensures.decides
+    c.replace_ctx-before-in-Object.ensures.before c.replace_ctx-before-in-Object.ensures.moves
+    c.replace_ctx-before-in-Object.ensures.context c.parse_props-read-in-Object.ensures c.in_ok-props-in-Object.was
+    c.replace_ctx-in-Object.ensures.moves c.replace_ctx-in-Object.ensures.context in
+    record { apart = apart-down (props_parts c.in_ok-props-in-Object.props.items) inner.from; }
 
 pub parse_primary_expr-returns-in_ok-props-in-Object : goal.parse_primary_expr-returns-in_ok-props-in-Object
 parse_primary_expr-returns-in_ok-props-in-Object g t c =
-    let opens = c.open_object.ensures.opens in
-    let lo = c.open_object.result.0 in
-    let view = props_at c.parse_props-props.new.p.nodes in
+    let took = c.skip-in-Object.ensures.took.1 in
+    let start = c.cur_span-in-Object.result in
+    let place = ap (λ v. v.lo) (sym (s.place_was took start c.cur_span-in-Object.ensures)) in
     let begun = opening.object_begins g.B.Bodies.is_faithful g.B.BodyForms.forms c.in_ok-look.ensures.looks
-    (sym c.primary_kind.ensures ∙ c.in-Object.is) opens in
-    let read = opening.props_read g.B.Bodies.is_faithful g.B.BodyForms.forms view c.parse_props-props.result opens
-    c.parse_props-props.ensures.reads c.set_ctx-in-Object.ensures.moves c.set_ctx-in-Object.ensures.context in
-    let heard = s.parses_ok g.I.Tokens.model g.B.Bodies.is_faithful view
-    (run g.B.BodyForms.forms (at Props)) _ _ c.parse_props-props.result c.in_ok-props-in-Object.field-0
-    c.in_ok-props-in-Object.was read in
-    m.after {m = record c.args.p.now { input = opens.between }} c.object_lit.result begun (grows-same _)
-    (m.call c.object_lit.result (λ x p. Some (object_from lo p.0, p.1))
-    (λ x ts. refl) heard c.parse_props-props.ensures.grows (λ x h. h)
-    (c.object_lit.ensures (count c.args.p.now.nodes) (m.held_is _ c.parse_props-props.result
-    c.in_ok-props-in-Object.field-0 c.in_ok-props-in-Object.was c.parse_props-props.ensures.from)))
+    (sym c.primary_kind.ensures ∙ c.in-Object.is) took place in
+    let inner = aside c.get_ctx-in-Object.ensures c.without_colon-ctx-in-Object.ensures.decides
+    c.replace_ctx-before-in-Object.ensures.before c.replace_ctx-before-in-Object.ensures.moves
+    c.replace_ctx-before-in-Object.ensures.context c.parse_props-read-in-Object.ensures c.in_ok-props-in-Object.was
+    c.replace_ctx-in-Object.ensures.moves c.replace_ctx-in-Object.ensures.context in
+    m.after {m = record c.args.p.now { input = c.skip-in-Object.new.input }} c.object_lit.result begun (grows-same _)
+    (m.call c.object_lit.result (λ x p. Some (object_from start.lo p.0, p.1))
+    (λ x ts. refl) inner.reads inner.grows (λ x h. h)
+    (c.object_lit.ensures (count c.args.p.now.nodes) inner.from))
 
 pub parse_primary_expr-returns-in_err-start-in-Template : goal.parse_primary_expr-returns-in_err-start-in-Template
 parse_primary_expr-returns-in_err-start-in-Template g t c =
@@ -498,9 +487,10 @@ parse_object_prop-returns-in-Shorthand g t c =
 
 pub parse_object_prop-returns-in_err-expr-in-Spread : goal.parse_object_prop-returns-in_err-expr-in-Spread
 parse_object_prop-returns-in_err-expr-in-Spread g t c =
-    let inner = assign_within g.B.BodyForms.forms c.include_in-before.ensures.before c.include_in-before.ensures.moves
-    c.include_in-before.ensures.context c.parse_assignment_expr-read.ensures c.in_err-expr-in-Spread.ensures.answer
-    c.in_err-expr-in-Spread.ensures.moves c.in_err-expr-in-Spread.ensures.context in
+    let inner = assign_within g.B.BodyForms.forms c.get_ctx.ensures c.include_in-ctx.ensures.decides
+    c.replace_ctx-before.ensures.before c.replace_ctx-before.ensures.moves c.replace_ctx-before.ensures.context
+    c.parse_assignment_expr-read.ensures c.in_err-expr-in-Spread.was c.replace_ctx.ensures.moves
+    c.replace_ctx.ensures.context in
     let left = begins.begun g.I.Tokens.model g.B.Bodies.is_faithful g.B.BodyForms.forms _ _
     (head.Spread c.in-Spread.dots) c.in-Spread.is c.in_ok-name.ensures.reads in
     m.refused c.from_residual-in_err-expr-in-Spread.ensures.1
@@ -510,10 +500,10 @@ parse_object_prop-returns-in_err-expr-in-Spread g t c =
 
 pub parse_object_prop-returns-in_ok-expr-in-Spread : goal.parse_object_prop-returns-in_ok-expr-in-Spread
 parse_object_prop-returns-in_ok-expr-in-Spread g t c =
-    let inner = assign_within g.B.BodyForms.forms {o =
-    Ok c.in_ok-expr-in-Spread.expr} c.include_in-before.ensures.before c.include_in-before.ensures.moves
-    c.include_in-before.ensures.context c.parse_assignment_expr-read.ensures c.in_ok-expr-in-Spread.ensures.answer
-    c.in_ok-expr-in-Spread.ensures.moves c.in_ok-expr-in-Spread.ensures.context in
+    let inner = assign_within g.B.BodyForms.forms c.get_ctx.ensures c.include_in-ctx.ensures.decides
+    c.replace_ctx-before.ensures.before c.replace_ctx-before.ensures.moves c.replace_ctx-before.ensures.context
+    c.parse_assignment_expr-read.ensures c.in_ok-expr-in-Spread.was c.replace_ctx.ensures.moves
+    c.replace_ctx.ensures.context in
     let left = begins.begun g.I.Tokens.model g.B.Bodies.is_faithful g.B.BodyForms.forms _ _
     (head.Spread c.in-Spread.dots) c.in-Spread.is c.in_ok-name.ensures.reads in
     m.yes (Ok _)
@@ -526,10 +516,10 @@ parse_object_prop-returns-in_ok-expr-in-Spread g t c =
 
 pub parse_object_prop-returns-in_err-value-in-Cover : goal.parse_object_prop-returns-in_err-value-in-Cover
 parse_object_prop-returns-in_err-value-in-Cover g t c =
-    let inner = assign_within g.B.BodyForms.forms c.include_in-before-in-Cover.ensures.before
-    c.include_in-before-in-Cover.ensures.moves c.include_in-before-in-Cover.ensures.context
-    c.parse_assignment_expr-read-in-Cover.ensures c.in_err-value-in-Cover.ensures.answer
-    c.in_err-value-in-Cover.ensures.moves c.in_err-value-in-Cover.ensures.context in
+    let inner = assign_within g.B.BodyForms.forms c.get_ctx-in-Cover.ensures c.include_in-ctx-in-Cover.ensures.decides
+    c.replace_ctx-before-in-Cover.ensures.before c.replace_ctx-before-in-Cover.ensures.moves
+    c.replace_ctx-before-in-Cover.ensures.context c.parse_assignment_expr-read-in-Cover.ensures
+    c.in_err-value-in-Cover.was c.replace_ctx-in-Cover.ensures.moves c.replace_ctx-in-Cover.ensures.context in
     let n = ident_spelling c.in-Cover.name in
     let left = begins.begun g.I.Tokens.model g.B.Bodies.is_faithful g.B.BodyForms.forms _ _
     (head.Cover c.in-Cover.name) c.in-Cover.is c.in_ok-name.ensures.reads in
@@ -539,11 +529,10 @@ parse_object_prop-returns-in_err-value-in-Cover g t c =
 
 pub parse_object_prop-returns-in_ok-value-in-Cover : goal.parse_object_prop-returns-in_ok-value-in-Cover
 parse_object_prop-returns-in_ok-value-in-Cover g t c =
-    let inner = assign_within g.B.BodyForms.forms {o =
-    Ok c.in_ok-value-in-Cover.value} c.include_in-before-in-Cover.ensures.before
-    c.include_in-before-in-Cover.ensures.moves c.include_in-before-in-Cover.ensures.context
-    c.parse_assignment_expr-read-in-Cover.ensures c.in_ok-value-in-Cover.ensures.answer
-    c.in_ok-value-in-Cover.ensures.moves c.in_ok-value-in-Cover.ensures.context in
+    let inner = assign_within g.B.BodyForms.forms c.get_ctx-in-Cover.ensures c.include_in-ctx-in-Cover.ensures.decides
+    c.replace_ctx-before-in-Cover.ensures.before c.replace_ctx-before-in-Cover.ensures.moves
+    c.replace_ctx-before-in-Cover.ensures.context c.parse_assignment_expr-read-in-Cover.ensures
+    c.in_ok-value-in-Cover.was c.replace_ctx-in-Cover.ensures.moves c.replace_ctx-in-Cover.ensures.context in
     let n = ident_spelling c.in-Cover.name in
     let left = begins.begun g.I.Tokens.model g.B.Bodies.is_faithful g.B.BodyForms.forms _ _
     (head.Cover c.in-Cover.name) c.in-Cover.is c.in_ok-name.ensures.reads in
@@ -627,10 +616,10 @@ parse_object_prop-returns-in_err-eat-in-Key g t c =
 
 pub parse_object_prop-returns-in_err-value-in-Some : goal.parse_object_prop-returns-in_err-value-in-Some
 parse_object_prop-returns-in_err-value-in-Some g t c =
-    let inner = assign_within g.B.BodyForms.forms c.include_in-before-in-Some.ensures.before
-    c.include_in-before-in-Some.ensures.moves c.include_in-before-in-Some.ensures.context
-    c.parse_assignment_expr-read-in-Some.ensures c.in_err-value-in-Some.ensures.answer
-    c.in_err-value-in-Some.ensures.moves c.in_err-value-in-Some.ensures.context in
+    let inner = assign_within g.B.BodyForms.forms c.get_ctx-in-Some.ensures c.include_in-ctx-in-Some.ensures.decides
+    c.replace_ctx-before-in-Some.ensures.before c.replace_ctx-before-in-Some.ensures.moves
+    c.replace_ctx-before-in-Some.ensures.context c.parse_assignment_expr-read-in-Some.ensures
+    c.in_err-value-in-Some.was c.replace_ctx-in-Some.ensures.moves c.replace_ctx-in-Some.ensures.context in
     let key = key_at c.parse_prop_name.new.p.nodes c.in_ok-key-in-Key.key in
     let left = begins.begun g.I.Tokens.model g.B.Bodies.is_faithful g.B.BodyForms.forms _ _ head.Key c.in-Key.is
     c.in_ok-name.ensures.reads in
@@ -647,11 +636,10 @@ parse_object_prop-returns-in_err-value-in-Some g t c =
 
 pub parse_object_prop-returns-in_ok-value-in-Some : goal.parse_object_prop-returns-in_ok-value-in-Some
 parse_object_prop-returns-in_ok-value-in-Some g t c =
-    let inner = assign_within g.B.BodyForms.forms {o =
-    Ok c.in_ok-value-in-Some.value} c.include_in-before-in-Some.ensures.before
-    c.include_in-before-in-Some.ensures.moves c.include_in-before-in-Some.ensures.context
-    c.parse_assignment_expr-read-in-Some.ensures c.in_ok-value-in-Some.ensures.answer
-    c.in_ok-value-in-Some.ensures.moves c.in_ok-value-in-Some.ensures.context in
+    let inner = assign_within g.B.BodyForms.forms c.get_ctx-in-Some.ensures c.include_in-ctx-in-Some.ensures.decides
+    c.replace_ctx-before-in-Some.ensures.before c.replace_ctx-before-in-Some.ensures.moves
+    c.replace_ctx-before-in-Some.ensures.context c.parse_assignment_expr-read-in-Some.ensures c.in_ok-value-in-Some.was
+    c.replace_ctx-in-Some.ensures.moves c.replace_ctx-in-Some.ensures.context in
     let key = key_at c.parse_prop_name.new.p.nodes c.in_ok-key-in-Key.key in
     let left = begins.begun g.I.Tokens.model g.B.Bodies.is_faithful g.B.BodyForms.forms _ _ head.Key c.in-Key.is
     c.in_ok-name.ensures.reads in
@@ -707,65 +695,59 @@ parse_object_prop-returns-in_ok-function-in-None g t c =
     (method.method_apart None c.span-start.result name fun c.method_of.result c.method_of.ensures grown
     c.in_ok-key-in-Key.ensures.from answer.from.0)
 
-pub parse_method-returns-in_err-start : goal.parse_method-returns-in_err-start
-parse_method-returns-in_err-start g t c =
-    m.refused c.from_residual.ensures.1
-    (s.unheard_call _ (function.function_opens g.B.BodyForms.forms g.met.B.Bodies.lawful c.args.kind)
-    (c.in_err-start.ensures.opened g.B.Bodies.is_faithful))
-    (grows-same _)
-
-pub parse_method-returns-in-Err : goal.parse_method-returns-in-Err
-parse_method-returns-in-Err g t c =
-    let hook = g.B.BodyForms.forms in
-    let place = g.B.Block.Spanned.place in
-    let kind = c.args.kind in
-    let start = c.in_ok-start.start in
-    let opened = c.in_ok-start.ensures.opened in
-    within {f = method_function hook kind} {g = method_inside hook place kind} {q = c.parse_formal_params.new.p}
-    (method_params (async_in kind) (generator_in kind)) (λ x. refl)
-    (function.function_inside hook g.met.B.Bodies.lawful kind) opened.before opened.moves opened.inside
-    (m.no
-    (s.unheard_after (s.on_call _ (function.inside_splits hook place kind) (opened.read g.B.Bodies.is_faithful).on)
-    (s.unheard_call _ (function.left_splits hook place kind start) c.in-Err.ensures.reads))
-    c.in-Err.ensures.grows)
-    refl c.set_ctx.ensures.moves c.set_ctx.ensures.context
-
 pub parse_method-returns : goal.parse_method-returns
 parse_method-returns g t c =
+    let kind = c.args.kind in
+    within (method_params (async_in kind) (generator_in kind)) (λ x. refl)
+    (function.function_inside g.B.BodyForms.forms g.met.B.Bodies.lawful kind) c.get_ctx.ensures (ap deciding
+    c.method_params-ctx.ensures) c.replace_ctx-before.ensures.before c.replace_ctx-before.ensures.moves
+    c.replace_ctx-before.ensures.context c.parse_method_inside-read.ensures refl c.replace_ctx.ensures.moves
+    c.replace_ctx.ensures.context
+
+pub parse_method_inside-returns-in_err-start : goal.parse_method_inside-returns-in_err-start
+parse_method_inside-returns-in_err-start g t c =
+    let hook = g.B.BodyForms.forms in
+    let place = g.B.Block.Spanned.place in
+    let kind = c.args.kind in
+    m.refused c.from_residual.ensures.1
+    (s.unheard_call _ (function.inside_splits hook place kind)
+    (c.in_err-start.ensures.expects g.B.Bodies.is_faithful)) (grows-same _)
+
+pub parse_method_inside-returns-in_err-params : goal.parse_method_inside-returns-in_err-params
+parse_method_inside-returns-in_err-params g t c =
     let hook = g.B.BodyForms.forms in
     let place = g.B.Block.Spanned.place in
     let kind = c.args.kind in
     let start = c.in_ok-start.start in
-    let opened = c.in_ok-start.ensures.opened in
-    let ps = params_at c.parse_formal_params.new.p.nodes c.in-Ok.value in
+    m.refused c.from_residual-in_err-params.ensures.1
+    (s.unheard_after (s.on_call _ (function.inside_splits hook place kind)
+    (c.in_ok-start.ensures.expects g.B.Bodies.is_faithful).on)
+    (s.unheard_call _ (function.left_splits hook place kind start) c.in_err-params.ensures.reads))
+    c.in_err-params.ensures.grows
+
+pub parse_method_inside-close_method-requires : goal.parse_method_inside-close_method-requires
+parse_method_inside-close_method-requires g t c =
+    record {
+      params = (apart-down (flat param_parts c.in_ok-params.params.items) c.in_ok-params.ensures.from.0,
+      c.in_ok-params.ensures.from.1);
+    }
+
+pub parse_method_inside-returns : goal.parse_method_inside-returns
+parse_method_inside-returns g t c =
+    let hook = g.B.BodyForms.forms in
+    let place = g.B.Block.Spanned.place in
+    let kind = c.args.kind in
+    let start = c.in_ok-start.start in
+    let ps = params_at c.parse_formal_params.new.p.nodes c.in_ok-params.params in
     let left = s.on_then
     (function.on_then_both (λ x p. method_end hook place kind start (items_of p.0) x p.1)
-    (function.left_splits hook place kind start) c.in-Ok.ensures.reads)
+    (function.left_splits hook place kind start) c.in_ok-params.ensures.reads)
     (s.on_here g.met.I.Tokens.laws _ (function.close_is hook place kind start ps)) in
-    within {f = method_function hook kind} {g = method_inside hook place kind} {q = c.close_method-method.new.p}
-    (method_params (async_in kind) (generator_in kind)) (λ x. refl)
-    (function.function_inside hook g.met.B.Bodies.lawful kind) opened.before opened.moves opened.inside
-    (m.call {m = record c.args.p.now { input = c.open_params.new.input }} c.close_method-method.result
-    _ (function.inside_splits hook place kind) (opened.read g.B.Bodies.is_faithful) (grows-same _) (λ x h. h)
-    (m.on_after {m = c.parse_formal_params.new.p} c.close_method-method.result left c.in-Ok.ensures.grows
-    (c.close_method-method.ensures (count c.args.p.now.nodes) c.in-Ok.ensures.from)))
-    refl c.set_ctx-2.ensures.moves c.set_ctx-2.ensures.context
-
-pub parse_method-close_method-method-requires : goal.parse_method-close_method-method-requires
-parse_method-close_method-method-requires g t c = record {
-  params = (apart-down (flat param_parts c.in-Ok.value.items) c.in-Ok.ensures.from.0, c.in-Ok.ensures.from.1);
-}
-
-pub parse_method-set_ctx-requires : goal.parse_method-set_ctx-requires
-parse_method-set_ctx-requires g t c =
-    c.in_ok-start.ensures.«module» ∙ sym (ap (λ x. x.«module») c.in-Err.ensures.reads.refuses.spends.read.context)
-
-pub parse_method-set_ctx-requires-2 : goal.parse_method-set_ctx-requires-2
-parse_method-set_ctx-requires-2 g t c =
-    c.in_ok-start.ensures.«module» ∙ sym (ap (λ x. x.«module»)
-    (function.continues_context g.I.Tokens.model g.B.Bodies.is_faithful _ _ _ _ c.close_method-method.result
-    (c.close_method-method.ensures (count c.args.p.now.nodes) c.in-Ok.ensures.from).reads
-    ∙ c.in-Ok.ensures.reads.leads.read.context))
+    m.call {m = record c.args.p.now { input = c.expect_or.new.input }} c.close_method.result
+    _ (function.inside_splits hook place kind) (c.in_ok-start.ensures.expects g.B.Bodies.is_faithful) (grows-same _)
+    (λ x h. h)
+    (m.on_after {m = c.parse_formal_params.new.p} c.close_method.result left c.in_ok-params.ensures.grows
+    (c.close_method.ensures (count c.args.p.now.nodes) c.in_ok-params.ensures.from))
 
 pub parse_lhs_expr-returns-in_err-look : goal.parse_lhs_expr-returns-in_err-look
 parse_lhs_expr-returns-in_err-look g t c =
@@ -797,12 +779,9 @@ parse_lhs_expr-returns-then-is_super_or_import g t c =
 
 pub parse_lhs_expr-returns-in_err-callee : goal.parse_lhs_expr-returns-in_err-callee
 parse_lhs_expr-returns-in_err-callee g t c =
-    let tree = tree_of c.parse_member_expr-member.new.p.nodes in
-    let member = s.parses_aside g.I.Tokens.model g.B.Bodies.is_faithful tree
-    (run _ (at (Lhs false))) c.parse_member_expr-member.result
-    c.set_ctx.ensures.moves (ap deciding c.set_ctx.ensures.context ∙ ap deciding c.get_ctx-ctx.ensures)
-    c.parse_member_expr-member.ensures.reads c.set_ctx-2.ensures.moves
-    (c.set_ctx-2.ensures.context ∙ c.get_ctx-ctx.ensures) in
+    let member = aside c.get_ctx.ensures c.member_context-ctx.ensures.decides c.replace_ctx-before.ensures.before
+    c.replace_ctx-before.ensures.moves c.replace_ctx-before.ensures.context c.parse_member_expr-read.ensures
+    c.in_err-callee.was c.replace_ctx.ensures.moves c.replace_ctx.ensures.context in
     m.refused c.from_residual-in_err-callee.ensures.1
     (s.unheard_after (s.on_seen {g = λ x ts. run _ (at (Lhs false)) x ts >>=
     (λ p. run _ (links true p.0) x p.1)} c.in_ok-look.ensures.looks
@@ -810,31 +789,22 @@ parse_lhs_expr-returns-in_err-callee g t c =
     (ap (λ o. at_token is_super o || at_token is_import o) e ∙ sym c.is_super_or_import.ensures
     ∙ c.if-is_super_or_import.false)))
     (s.unheard_call (λ x p. run _ (links true p.0) x p.1) (λ x ts. refl)
-    (s.parses_err g.I.Tokens.model g.B.Bodies.is_faithful tree
-    (run _ (at (Lhs false))) _ _ c.parse_member_expr-member.result _ c.in_err-callee.was member)))
-    c.parse_member_expr-member.ensures.grows
+    member.reads))
+    member.grows
 
 pub parse_lhs_expr-parse_subscripts-requires-2 : goal.parse_lhs_expr-parse_subscripts-requires-2
 parse_lhs_expr-parse_subscripts-requires-2 g t c =
-    let falls = c.parse_member_expr-member.ensures.falls in
+    let falls = c.parse_member_expr-read.ensures.falls in
     let read = c.in_ok-callee.was in
-    let from = from-down (omega arith) (m.held_is _ c.parse_member_expr-member.result c.in_ok-callee.callee read
-    c.parse_member_expr-member.ensures.from) in
+    let from = from-down (omega arith) (m.held_is _ c.parse_member_expr-read.result c.in_ok-callee.callee read
+    c.parse_member_expr-read.ensures.from) in
     λ κs outlives. (search rules, (search rules, (search rules, (search rules, (search rules, (search rules, from))))))
 
 pub parse_lhs_expr-returns : goal.parse_lhs_expr-returns
 parse_lhs_expr-returns g t c =
-    let tree = tree_of c.parse_member_expr-member.new.p.nodes in
-    let member = s.parses_aside g.I.Tokens.model g.B.Bodies.is_faithful tree
-    (run _ (at (Lhs false))) c.parse_member_expr-member.result
-    c.set_ctx.ensures.moves (ap deciding c.set_ctx.ensures.context ∙ ap deciding c.get_ctx-ctx.ensures)
-    c.parse_member_expr-member.ensures.reads c.set_ctx-2.ensures.moves
-    (c.set_ctx-2.ensures.context ∙ c.get_ctx-ctx.ensures) in
-    let read = s.parses_ok g.I.Tokens.model g.B.Bodies.is_faithful tree
-    (run _ (at (Lhs false))) _ _ c.parse_member_expr-member.result c.in_ok-callee.callee c.in_ok-callee.was
-    member in
-    let held = m.held_is _ c.parse_member_expr-member.result c.in_ok-callee.callee c.in_ok-callee.was
-    c.parse_member_expr-member.ensures.from in
+    let member = aside c.get_ctx.ensures c.member_context-ctx.ensures.decides c.replace_ctx-before.ensures.before
+    c.replace_ctx-before.ensures.moves c.replace_ctx-before.ensures.context c.parse_member_expr-read.ensures
+    c.in_ok-callee.was c.replace_ctx.ensures.moves c.replace_ctx.ensures.context in
     m.after {m = record c.args.p.now { input = c.look.new.input }} c.parse_subscripts-2.result
     (s.on_seen {g = λ x ts. run _ (at (Lhs false)) x ts >>=
     (λ p. run _ (links true p.0) x p.1)} c.in_ok-look.ensures.looks
@@ -842,7 +812,7 @@ parse_lhs_expr-returns g t c =
     (ap (λ o. at_token is_super o || at_token is_import o) e ∙ sym c.is_super_or_import.ensures
     ∙ c.if-is_super_or_import.false))) (grows-same _)
     (m.call c.parse_subscripts-2.result (λ x p. run _ (links true p.0) x p.1) (λ x ts. refl)
-    read c.parse_member_expr-member.ensures.grows (λ x. from-down held.above) c.parse_subscripts-2.ensures)
+    member.reads member.grows (λ x. from-down member.from.above) c.parse_subscripts-2.ensures)
 
 pub parse_member_expr-returns-in_err-look : goal.parse_member_expr-returns-in_err-look
 parse_member_expr-returns-in_err-look g t c =
@@ -1280,9 +1250,9 @@ parse_super-returns-in-Name g t c =
 
 pub parse_super-returns-in_err-expr-in-Computed : goal.parse_super-returns-in_err-expr-in-Computed
 parse_super-returns-in_err-expr-in-Computed g t c =
-    let inner = expr_within g.B.BodyForms.forms c.include_in-before.ensures.before c.include_in-before.ensures.moves
-    c.include_in-before.ensures.context c.parse_expr-read.ensures c.in_err-expr-in-Computed.ensures.answer
-    c.in_err-expr-in-Computed.ensures.moves c.in_err-expr-in-Computed.ensures.context in
+    let inner = expr_within g.B.BodyForms.forms c.get_ctx.ensures c.include_in-ctx.ensures.decides
+    c.replace_ctx-before.ensures.before c.replace_ctx-before.ensures.moves c.replace_ctx-before.ensures.context
+    c.parse_expr-read.ensures c.in_err-expr-in-Computed.was c.replace_ctx.ensures.moves c.replace_ctx.ensures.context in
     let q = c.in-Computed.bracket in
     m.refused c.from_residual-in_err-expr-in-Computed.ensures.1
     (s.unheard_after (s.on_call _ (base.super_splits _ (not c.args.no_call) c.args.start)
@@ -1291,10 +1261,9 @@ parse_super-returns-in_err-expr-in-Computed g t c =
 
 pub parse_super-returns-in-Computed : goal.parse_super-returns-in-Computed
 parse_super-returns-in-Computed g t c =
-    let inner = expr_within g.B.BodyForms.forms {o = Ok c.in_ok-expr-in-Computed.expr}
-    c.include_in-before.ensures.before c.include_in-before.ensures.moves c.include_in-before.ensures.context
-    c.parse_expr-read.ensures c.in_ok-expr-in-Computed.ensures.answer c.in_ok-expr-in-Computed.ensures.moves
-    c.in_ok-expr-in-Computed.ensures.context in
+    let inner = expr_within g.B.BodyForms.forms c.get_ctx.ensures c.include_in-ctx.ensures.decides
+    c.replace_ctx-before.ensures.before c.replace_ctx-before.ensures.moves c.replace_ctx-before.ensures.context
+    c.parse_expr-read.ensures c.in_ok-expr-in-Computed.was c.replace_ctx.ensures.moves c.replace_ctx.ensures.context in
     let q = c.in-Computed.bracket in
     m.after {m = record c.args.p.now { input = c.super_head.new.input }} c.super_computed.result
     (s.on_call _ (base.super_splits _ (not c.args.no_call) c.args.start)
@@ -1341,10 +1310,11 @@ parse_super-returns-in-Name-2 g t c =
 
 pub parse_super-returns-in_err-leave-in-Computed-2 : goal.parse_super-returns-in_err-leave-in-Computed-2
 parse_super-returns-in_err-leave-in-Computed-2 g t c =
-    let inner = expr_within g.B.BodyForms.forms c.include_in-before-in-Computed-2.ensures.before
-    c.include_in-before-in-Computed-2.ensures.moves c.include_in-before-in-Computed-2.ensures.context
-    c.parse_expr-read-in-Computed-2.ensures c.in_err-leave-in-Computed-2.ensures.answer
-    c.in_err-leave-in-Computed-2.ensures.moves c.in_err-leave-in-Computed-2.ensures.context in
+    let inner = expr_within g.B.BodyForms.forms c.get_ctx-in-Computed-2.ensures
+    c.include_in-ctx-in-Computed-2.ensures.decides c.replace_ctx-before-in-Computed-2.ensures.before
+    c.replace_ctx-before-in-Computed-2.ensures.moves c.replace_ctx-before-in-Computed-2.ensures.context
+    c.parse_expr-read-in-Computed-2.ensures c.in_err-leave-in-Computed-2.was c.replace_ctx-in-Computed-2.ensures.moves
+    c.replace_ctx-in-Computed-2.ensures.context in
     let other = s.on_call _ (base.super_splits g.B.BodyForms.forms (not c.args.no_call) c.args.start)
     (s.on_answer c.in-Other.is (c.in_ok-super_head.ensures.continues g.B.Bodies.is_faithful)) in
     m.refused c.from_residual-in_err-leave-in-Computed-2.ensures.1
@@ -1353,10 +1323,11 @@ parse_super-returns-in_err-leave-in-Computed-2 g t c =
 
 pub parse_super-returns-in_ok-leave-in-Computed-2 : goal.parse_super-returns-in_ok-leave-in-Computed-2
 parse_super-returns-in_ok-leave-in-Computed-2 g t c =
-    let inner = expr_within g.B.BodyForms.forms c.include_in-before-in-Computed-2.ensures.before
-    c.include_in-before-in-Computed-2.ensures.moves c.include_in-before-in-Computed-2.ensures.context
-    c.parse_expr-read-in-Computed-2.ensures c.in_ok-leave-in-Computed-2.ensures.answer
-    c.in_ok-leave-in-Computed-2.ensures.moves c.in_ok-leave-in-Computed-2.ensures.context in
+    let inner = expr_within g.B.BodyForms.forms c.get_ctx-in-Computed-2.ensures
+    c.include_in-ctx-in-Computed-2.ensures.decides c.replace_ctx-before-in-Computed-2.ensures.before
+    c.replace_ctx-before-in-Computed-2.ensures.moves c.replace_ctx-before-in-Computed-2.ensures.context
+    c.parse_expr-read-in-Computed-2.ensures c.in_ok-leave-in-Computed-2.was c.replace_ctx-in-Computed-2.ensures.moves
+    c.replace_ctx-in-Computed-2.ensures.context in
     let other = s.on_call _ (base.super_splits g.B.BodyForms.forms (not c.args.no_call) c.args.start)
     (s.on_answer c.in-Other.is (c.in_ok-super_head.ensures.continues g.B.Bodies.is_faithful)) in
     m.no (s.unheard_after other (s.unheard_none (λ x ts. refl)
@@ -1427,9 +1398,9 @@ parse_subscripts-loop-head-preserved-in-Name g t c =
 
 pub parse_subscripts-returns-in_err-expr-in-Computed : goal.parse_subscripts-returns-in_err-expr-in-Computed
 parse_subscripts-returns-in_err-expr-in-Computed g t c =
-    let inner = expr_within g.B.BodyForms.forms c.include_in-before.ensures.before c.include_in-before.ensures.moves
-    c.include_in-before.ensures.context c.parse_expr-read.ensures c.in_err-expr-in-Computed.ensures.answer
-    c.in_err-expr-in-Computed.ensures.moves c.in_err-expr-in-Computed.ensures.context in
+    let inner = expr_within g.B.BodyForms.forms c.get_ctx.ensures c.include_in-ctx.ensures.decides
+    c.replace_ctx-before.ensures.before c.replace_ctx-before.ensures.moves c.replace_ctx-before.ensures.context
+    c.parse_expr-read.ensures c.in_err-expr-in-Computed.was c.replace_ctx.ensures.moves c.replace_ctx.ensures.context in
     let l = tree_of c.loop-head.p.nodes c.loop-head.obj in
     m.passed_more c.from_residual-in_err-expr-in-Computed.ensures.1
     (chain.not_linked g.B.BodyForms.forms c.args.p.now c.loop-head.p _ c.loop-head.invariant c.in-Some.is
@@ -1440,19 +1411,17 @@ parse_subscripts-returns-in_err-expr-in-Computed g t c =
 
 pub parse_subscripts-computed_member-requires : goal.parse_subscripts-computed_member-requires
 parse_subscripts-computed_member-requires g t c =
-    let inner = expr_within g.B.BodyForms.forms {o = Ok c.in_ok-expr-in-Computed.expr}
-    c.include_in-before.ensures.before c.include_in-before.ensures.moves c.include_in-before.ensures.context
-    c.parse_expr-read.ensures c.in_ok-expr-in-Computed.ensures.answer c.in_ok-expr-in-Computed.ensures.moves
-    c.in_ok-expr-in-Computed.ensures.context in
+    let inner = expr_within g.B.BodyForms.forms c.get_ctx.ensures c.include_in-ctx.ensures.decides
+    c.replace_ctx-before.ensures.before c.replace_ctx-before.ensures.moves c.replace_ctx-before.ensures.context
+    c.parse_expr-read.ensures c.in_ok-expr-in-Computed.was c.replace_ctx.ensures.moves c.replace_ctx.ensures.context in
     apart-down (one_expr c.loop-head.obj ++ one_expr c.in_ok-expr-in-Computed.expr)
     (apart_behind inner.grows c.loop-head.invariant.3 (apart-from (expr_part c.in_ok-expr-in-Computed.expr) inner.from))
 
 pub parse_subscripts-returns-in_err-obj-in-Computed : goal.parse_subscripts-returns-in_err-obj-in-Computed
 parse_subscripts-returns-in_err-obj-in-Computed g t c =
-    let inner = expr_within g.B.BodyForms.forms {o = Ok c.in_ok-expr-in-Computed.expr}
-    c.include_in-before.ensures.before c.include_in-before.ensures.moves c.include_in-before.ensures.context
-    c.parse_expr-read.ensures c.in_ok-expr-in-Computed.ensures.answer c.in_ok-expr-in-Computed.ensures.moves
-    c.in_ok-expr-in-Computed.ensures.context in
+    let inner = expr_within g.B.BodyForms.forms c.get_ctx.ensures c.include_in-ctx.ensures.decides
+    c.replace_ctx-before.ensures.before c.replace_ctx-before.ensures.moves c.replace_ctx-before.ensures.context
+    c.parse_expr-read.ensures c.in_ok-expr-in-Computed.was c.replace_ctx.ensures.moves c.replace_ctx.ensures.context in
     m.passed_more c.from_residual-in_err-obj-in-Computed.ensures.1
     (chain.not_linked g.B.BodyForms.forms c.args.p.now c.loop-head.p _ c.loop-head.invariant c.in-Some.is
     (c.in_ok-head.ensures.begins g.B.Bodies.is_faithful)
@@ -1462,10 +1431,9 @@ parse_subscripts-returns-in_err-obj-in-Computed g t c =
 
 pub parse_subscripts-loop-head-preserved-in-Computed : goal.parse_subscripts-loop-head-preserved-in-Computed
 parse_subscripts-loop-head-preserved-in-Computed g t c =
-    let inner = expr_within g.B.BodyForms.forms {o = Ok c.in_ok-expr-in-Computed.expr}
-    c.include_in-before.ensures.before c.include_in-before.ensures.moves c.include_in-before.ensures.context
-    c.parse_expr-read.ensures c.in_ok-expr-in-Computed.ensures.answer c.in_ok-expr-in-Computed.ensures.moves
-    c.in_ok-expr-in-Computed.ensures.context in
+    let inner = expr_within g.B.BodyForms.forms c.get_ctx.ensures c.include_in-ctx.ensures.decides
+    c.replace_ctx-before.ensures.before c.replace_ctx-before.ensures.moves c.replace_ctx-before.ensures.context
+    c.parse_expr-read.ensures c.in_ok-expr-in-Computed.was c.replace_ctx.ensures.moves c.replace_ctx.ensures.context in
     chain.linked g.B.BodyForms.forms c.args.p.now c.loop-head.p _ c.loop-head.invariant c.in-Some.is
     (c.in_ok-head.ensures.begins g.B.Bodies.is_faithful) c.in_ok-head.ensures.falls
     (m.tail (Ok _) (λ v x p. computed_close c.in-Computed.optional c.in-Computed.start v p.0 x p.1)
@@ -1538,117 +1506,64 @@ parse_subscripts-loop-head-preserved g t c =
     (s.heard_inner c.in_ok-parts-in-Template.ensures.reads) c.parse_tpl_elements.ensures.grows c.loop-head.invariant.3
     c.in_ok-obj-in-Template.ensures)
 
-pub parse_args-loop-value-init : goal.parse_args-loop-value-init
-parse_args-loop-value-init g t c =
-    entered.list_entered c.enter_args-before.ensures.moves c.enter_args-before.ensures.context
-    (loop.started (args.args_list _ c.args.is_dynamic_import) _ item_parts _ _ g.met.I.Tokens.laws
-    c.new-items.ensures.items)
+pub parse_args-returns : goal.parse_args-returns
+parse_args-returns g t c =
+    args_within g.B.BodyForms.forms c.args.is_dynamic_import c.get_ctx.ensures c.items_context-ctx.ensures.decides
+    c.replace_ctx-before.ensures.before c.replace_ctx-before.ensures.moves c.replace_ctx-before.ensures.context
+    c.parse_arg_items-read.ensures refl c.replace_ctx.ensures.moves c.replace_ctx.ensures.context
 
-pub parse_args-loop-value-preserved : goal.parse_args-loop-value-preserved
-parse_args-loop-value-preserved g t c =
-    let inv = c.loop-value.invariant in
-    let more = loop.goes_on (args.args_list _ c.args.is_dynamic_import) inv.list c.in-None.is
-    (c.in-Ok.ensures.eats _) in
-    entered.list_further inv
-    (loop.added item_parts (λ at x. item_tree (λ e. at e.0) x) _ _ item-same inv.list more
-    (loop.separated c.in-Ok-parse_expr_or_spread.ensures.reads (c.in-Ok-separate_args.ensures.separates _))
-    c.parse_expr_or_spread.ensures.grows
-    (apart-from (expr_part c.in-Ok-parse_expr_or_spread.value.expr) c.in-Ok-parse_expr_or_spread.ensures.from)
-    c.in-Ok-add.ensures.added)
+pub parse_arg_items-loop-items-init : goal.parse_arg_items-loop-items-init
+parse_arg_items-loop-items-init g t c =
+    loop.started (args.args_list _ c.args.is_dynamic_import) _ item_parts _ _ g.met.I.Tokens.laws
+    c.new-items.ensures.items
 
-pub parse_args-returns-in-Err : goal.parse_args-returns-in-Err
-parse_args-returns-in-Err g t c =
-    let inv = c.loop-value.invariant in
-    entered.args_left {q = record c.loop-value.p { input = c.eat.new.input }}
-    _ _ c.enter_args-before.ensures.before (entered.around inv)
-    (m.no (loop.end_refused (args.args_list _ c.args.is_dynamic_import) inv.list (c.in-Err.ensures.eats _))
-    inv.list.grows)
-    c.set_ctx.ensures.moves c.set_ctx.ensures.context
+pub parse_arg_items-loop-items-preserved : goal.parse_arg_items-loop-items-preserved
+parse_arg_items-loop-items-preserved g t c =
+    let inv = c.loop-items.invariant in
+    let more = loop.goes_on (args.args_list _ c.args.is_dynamic_import) inv c.in-None.is
+    (c.in_ok-end.ensures.eats _) in
+    loop.added item_parts (λ at x. item_tree (λ e. at e.0) x) _ _ item-same inv more
+    (loop.separated c.in_ok-arg.ensures.reads (c.in_ok-trailing_comma.ensures.separates _))
+    c.parse_expr_or_spread.ensures.grows (apart-from (expr_part c.in_ok-arg.arg.expr) c.in_ok-arg.ensures.from)
+    c.in_ok-add.ensures.added
 
-pub parse_args-returns-in-Some : goal.parse_args-returns-in-Some
-parse_args-returns-in-Some g t c =
-    let inv = c.loop-value.invariant in
-    entered.args_left {q = record c.loop-value.p { input = c.eat.new.input }}
-    _ _ c.enter_args-before.ensures.before (entered.around inv)
-    (m.yes (Ok _)
-    (loop.closed (args.args_list _ c.args.is_dynamic_import) inv.list c.in-Some.is (c.in-Ok.ensures.eats _))
-    inv.list.grows inv.list.apart)
-    c.set_ctx-in-Some.ensures.moves c.set_ctx-in-Some.ensures.context
+pub parse_arg_items-returns-in_err-end : goal.parse_arg_items-returns-in_err-end
+parse_arg_items-returns-in_err-end g t c =
+    let inv = c.loop-items.invariant in
+    m.refused c.from_residual.ensures.1 (loop.end_refused (args.args_list _ c.args.is_dynamic_import) inv
+    (c.in_err-end.ensures.eats _)) inv.grows
 
-pub parse_args-returns-in-Err-parse_expr_or_spread : goal.parse_args-returns-in-Err-parse_expr_or_spread
-parse_args-returns-in-Err-parse_expr_or_spread g t c =
-    let inv = c.loop-value.invariant in
-    let more = loop.goes_on (args.args_list _ c.args.is_dynamic_import) inv.list c.in-None.is
-    (c.in-Ok.ensures.eats _) in
-    entered.args_left {q = c.parse_expr_or_spread.new.p}
-    _ _ c.enter_args-before.ensures.before (entered.around inv)
-    (m.no (loop.item_refused _ _ more c.in-Err-parse_expr_or_spread.ensures.reads)
-    (grows-then inv.list.grows c.parse_expr_or_spread.ensures.grows))
-    c.set_ctx-in-Err-parse_expr_or_spread.ensures.moves c.set_ctx-in-Err-parse_expr_or_spread.ensures.context
+pub parse_arg_items-returns-in-Some : goal.parse_arg_items-returns-in-Some
+parse_arg_items-returns-in-Some g t c =
+    let inv = c.loop-items.invariant in
+    m.yes (Ok _) (loop.closed (args.args_list _ c.args.is_dynamic_import) inv c.in-Some.is (c.in_ok-end.ensures.eats _))
+    inv.grows inv.apart
 
-pub parse_args-returns-in-Err-add : goal.parse_args-returns-in-Err-add
-parse_args-returns-in-Err-add g t c =
-    let inv = c.loop-value.invariant in
-    let more = loop.goes_on (args.args_list _ c.args.is_dynamic_import) inv.list c.in-None.is
-    (c.in-Ok.ensures.eats _) in
-    entered.args_left {q = c.parse_expr_or_spread.new.p}
-    _ _ c.enter_args-before.ensures.before (entered.around inv)
-    (m.no (loop.unkept _ more c.in-Ok-parse_expr_or_spread.ensures.reads c.in-Err-add.ensures.refused)
-    (grows-then inv.list.grows c.parse_expr_or_spread.ensures.grows))
-    c.set_ctx-in-Err-add.ensures.moves c.set_ctx-in-Err-add.ensures.context
+pub parse_arg_items-returns-in_err-arg : goal.parse_arg_items-returns-in_err-arg
+parse_arg_items-returns-in_err-arg g t c =
+    let inv = c.loop-items.invariant in
+    let more = loop.goes_on (args.args_list _ c.args.is_dynamic_import) inv c.in-None.is
+    (c.in_ok-end.ensures.eats _) in
+    m.refused c.from_residual-in_err-arg.ensures.1 (loop.item_refused _ _ more c.in_err-arg.ensures.reads)
+    (grows-then inv.grows c.parse_expr_or_spread.ensures.grows)
 
-pub parse_args-returns-in-Err-separate_args : goal.parse_args-returns-in-Err-separate_args
-parse_args-returns-in-Err-separate_args g t c =
-    let inv = c.loop-value.invariant in
-    let more = loop.goes_on (args.args_list _ c.args.is_dynamic_import) inv.list c.in-None.is
-    (c.in-Ok.ensures.eats _) in
-    entered.args_left {q = record c.parse_expr_or_spread.new.p { input = c.separate_args.new.input }}
-    _ _ c.enter_args-before.ensures.before (entered.around inv)
-    (m.no (loop.comma_behind_refused _ _ more c.in-Ok-parse_expr_or_spread.ensures.reads
-    (c.in-Err-separate_args.ensures.separates _))
-    (grows-then inv.list.grows c.parse_expr_or_spread.ensures.grows))
-    c.set_ctx-in-Err-separate_args.ensures.moves c.set_ctx-in-Err-separate_args.ensures.context
+pub parse_arg_items-returns-in_err-add : goal.parse_arg_items-returns-in_err-add
+parse_arg_items-returns-in_err-add g t c =
+    let inv = c.loop-items.invariant in
+    let more = loop.goes_on (args.args_list _ c.args.is_dynamic_import) inv c.in-None.is
+    (c.in_ok-end.ensures.eats _) in
+    m.refused c.from_residual-in_err-add.ensures.1
+    (loop.unkept _ more c.in_ok-arg.ensures.reads c.in_err-add.ensures.refused)
+    (grows-then inv.grows c.parse_expr_or_spread.ensures.grows)
 
-pub parse_args-set_ctx-requires : goal.parse_args-set_ctx-requires
-parse_args-set_ctx-requires g t c =
-    let inv = c.loop-value.invariant in
-    entered.list_text c.eat.new.input (λ x. refl) c.enter_args-before.ensures.before inv
-    (loop.end_refused (args.args_list _ c.args.is_dynamic_import) inv.list
-    (c.in-Err.ensures.eats g.B.Bodies.is_faithful)).refuses.spends.read.context
-
-pub parse_args-set_ctx-requires-in-Some : goal.parse_args-set_ctx-requires-in-Some
-parse_args-set_ctx-requires-in-Some g t c =
-    let inv = c.loop-value.invariant in
-    entered.list_text c.eat.new.input (λ x. refl) c.enter_args-before.ensures.before inv
-    (loop.closed (args.args_list _ c.args.is_dynamic_import) inv.list c.in-Some.is
-    (c.in-Ok.ensures.eats g.B.Bodies.is_faithful)).on.leads.read.context
-
-pub parse_args-set_ctx-requires-in-Err-parse_expr_or_spread :
-    goal.parse_args-set_ctx-requires-in-Err-parse_expr_or_spread
-parse_args-set_ctx-requires-in-Err-parse_expr_or_spread g t c =
-    let inv = c.loop-value.invariant in
-    let more = loop.goes_on (args.args_list _ c.args.is_dynamic_import) inv.list c.in-None.is
-    (c.in-Ok.ensures.eats g.B.Bodies.is_faithful) in
-    entered.list_text c.parse_expr_or_spread.new.p.input (λ x. refl) c.enter_args-before.ensures.before inv
-    (loop.item_refused _ _ more c.in-Err-parse_expr_or_spread.ensures.reads).refuses.spends.read.context
-
-pub parse_args-set_ctx-requires-in-Err-add : goal.parse_args-set_ctx-requires-in-Err-add
-parse_args-set_ctx-requires-in-Err-add g t c =
-    let inv = c.loop-value.invariant in
-    let more = loop.goes_on (args.args_list _ c.args.is_dynamic_import) inv.list c.in-None.is
-    (c.in-Ok.ensures.eats g.B.Bodies.is_faithful) in
-    entered.list_text c.parse_expr_or_spread.new.p.input (λ x. refl) c.enter_args-before.ensures.before inv
-    (loop.unkept _ more c.in-Ok-parse_expr_or_spread.ensures.reads
-    c.in-Err-add.ensures.refused).refuses.spends.read.context
-
-pub parse_args-set_ctx-requires-in-Err-separate_args : goal.parse_args-set_ctx-requires-in-Err-separate_args
-parse_args-set_ctx-requires-in-Err-separate_args g t c =
-    let inv = c.loop-value.invariant in
-    let more = loop.goes_on (args.args_list _ c.args.is_dynamic_import) inv.list c.in-None.is
-    (c.in-Ok.ensures.eats g.B.Bodies.is_faithful) in
-    entered.list_text c.separate_args.new.input (λ x. refl) c.enter_args-before.ensures.before inv
-    (loop.comma_behind_refused _ _ more c.in-Ok-parse_expr_or_spread.ensures.reads
-    (c.in-Err-separate_args.ensures.separates g.B.Bodies.is_faithful)).refuses.spends.read.context
+pub parse_arg_items-returns-in_err-trailing_comma : goal.parse_arg_items-returns-in_err-trailing_comma
+parse_arg_items-returns-in_err-trailing_comma g t c =
+    let inv = c.loop-items.invariant in
+    let more = loop.goes_on (args.args_list _ c.args.is_dynamic_import) inv c.in-None.is
+    (c.in_ok-end.ensures.eats _) in
+    m.refused c.from_residual-in_err-trailing_comma.ensures.1
+    (loop.comma_behind_refused _ _ more c.in_ok-arg.ensures.reads (c.in_err-trailing_comma.ensures.separates _))
+    (grows-then inv.grows c.parse_expr_or_spread.ensures.grows)
 
 pub parse_operand-returns-in_err-look : goal.parse_operand-returns-in_err-look
 parse_operand-returns-in_err-look g t c =
@@ -1971,10 +1886,11 @@ parse_unary_expr-returns g t c =
     c.in_ok-expr.ensures.reads c.parse_lhs_expr.ensures.grows
     (λ x. from-down c.in_ok-expr.ensures.from.above) c.parse_update_postfix.ensures)
 
-pub parse_plain_operand-parse_plain_member-member-requires : goal.parse_plain_operand-parse_plain_member-member-requires
-parse_plain_operand-parse_plain_member-member-requires g t c =
-    let plain = ap (λ o. at_token is_plain (seen_of o)) c.set_ctx.ensures.current ∙ c.requires.plain in
-    let looked = s.here_now g.met.I.Tokens.laws c.set_ctx.new.input (s.seen_some is_plain c.set_ctx.new.input plain) in
+pub parse_plain_operand-parse_plain_member-read-requires : goal.parse_plain_operand-parse_plain_member-read-requires
+parse_plain_operand-parse_plain_member-read-requires g t c =
+    let plain = ap (λ o. at_token is_plain (seen_of o)) c.replace_ctx-before.ensures.current ∙ c.requires.plain in
+    let looked = s.here_now g.met.I.Tokens.laws c.replace_ctx-before.new.input (s.seen_some is_plain
+    c.replace_ctx-before.new.input plain) in
     λ κs outlives. (
       search rules,
       (
@@ -1988,91 +1904,68 @@ parse_plain_operand-parse_plain_member-member-requires g t c =
 
 pub parse_plain_operand-returns-in_err-callee : goal.parse_plain_operand-returns-in_err-callee
 parse_plain_operand-returns-in_err-callee g t c =
-    let tree = tree_of c.parse_plain_member-member.new.p.nodes in
-    let member = s.parses_aside g.I.Tokens.model g.B.Bodies.is_faithful tree
-    (run _ (at (Lhs false))) c.parse_plain_member-member.result
-    c.set_ctx.ensures.moves (ap deciding c.set_ctx.ensures.context ∙ ap deciding c.get_ctx-ctx.ensures)
-    c.parse_plain_member-member.ensures.reads c.set_ctx-2.ensures.moves
-    (c.set_ctx-2.ensures.context ∙ c.get_ctx-ctx.ensures) in
+    let member = aside c.get_ctx.ensures c.member_context-ctx.ensures.decides c.replace_ctx-before.ensures.before
+    c.replace_ctx-before.ensures.moves c.replace_ctx-before.ensures.context c.parse_plain_member-read.ensures
+    c.in_err-callee.was c.replace_ctx.ensures.moves c.replace_ctx.ensures.context in
     let begun = s.on_seen {g = λ x ts. run g.B.BodyForms.forms (at (Lhs false)) x ts >>=
     operand.behind g.B.BodyForms.forms x} c.requires.looked
     (λ x ts same e. plain_operand.plain_unary _ x ts (s.no_head same) (ap (at_token is_plain) e ∙ c.requires.plain)) in
     m.refused c.from_residual.ensures.1
     (s.unheard_after begun
     (s.unheard_call (operand.behind _) (λ x ts. refl)
-    (s.parses_err g.I.Tokens.model g.B.Bodies.is_faithful tree
-    (run _ (at (Lhs false))) _ _ c.parse_plain_member-member.result _ c.in_err-callee.was member)))
-    c.parse_plain_member-member.ensures.grows
+    member.reads))
+    member.grows
 
 pub parse_plain_operand-returns-in_err-look : goal.parse_plain_operand-returns-in_err-look
 parse_plain_operand-returns-in_err-look g t c =
-    let tree = tree_of c.parse_plain_member-member.new.p.nodes in
-    let member = s.parses_aside g.I.Tokens.model g.B.Bodies.is_faithful tree
-    (run _ (at (Lhs false))) c.parse_plain_member-member.result
-    c.set_ctx.ensures.moves (ap deciding c.set_ctx.ensures.context ∙ ap deciding c.get_ctx-ctx.ensures)
-    c.parse_plain_member-member.ensures.reads c.set_ctx-2.ensures.moves
-    (c.set_ctx-2.ensures.context ∙ c.get_ctx-ctx.ensures) in
-    let read = s.parses_ok g.I.Tokens.model g.B.Bodies.is_faithful tree
-    (run _ (at (Lhs false))) _ _ c.parse_plain_member-member.result c.in_ok-callee.callee c.in_ok-callee.was
-    member in
+    let member = aside c.get_ctx.ensures c.member_context-ctx.ensures.decides c.replace_ctx-before.ensures.before
+    c.replace_ctx-before.ensures.moves c.replace_ctx-before.ensures.context c.parse_plain_member-read.ensures
+    c.in_ok-callee.was c.replace_ctx.ensures.moves c.replace_ctx.ensures.context in
     m.refused c.from_residual-in_err-look.ensures.1
-    (s.unheard_memory (s.forgoes_later read.on.leads c.in_err-look.ensures.looks))
-    c.parse_plain_member-member.ensures.grows
+    (s.unheard_memory (s.forgoes_later member.reads.on.leads c.in_err-look.ensures.looks))
+    member.grows
 
 pub parse_plain_operand-returns-then-not-may_go_on : goal.parse_plain_operand-returns-then-not-may_go_on
 parse_plain_operand-returns-then-not-may_go_on g t c =
-    let tree = tree_of c.parse_plain_member-member.new.p.nodes in
-    let member = s.parses_aside g.I.Tokens.model g.B.Bodies.is_faithful tree
-    (run _ (at (Lhs false))) c.parse_plain_member-member.result
-    c.set_ctx.ensures.moves (ap deciding c.set_ctx.ensures.context ∙ ap deciding c.get_ctx-ctx.ensures)
-    c.parse_plain_member-member.ensures.reads c.set_ctx-2.ensures.moves
-    (c.set_ctx-2.ensures.context ∙ c.get_ctx-ctx.ensures) in
-    let read = s.parses_ok g.I.Tokens.model g.B.Bodies.is_faithful tree
-    (run _ (at (Lhs false))) _ _ c.parse_plain_member-member.result c.in_ok-callee.callee c.in_ok-callee.was
-    member in
-    let held = m.held_is _ c.parse_plain_member-member.result c.in_ok-callee.callee c.in_ok-callee.was
-    c.parse_plain_member-member.ensures.from in
+    let member = aside c.get_ctx.ensures c.member_context-ctx.ensures.decides c.replace_ctx-before.ensures.before
+    c.replace_ctx-before.ensures.moves c.replace_ctx-before.ensures.context c.parse_plain_member-read.ensures
+    c.in_ok-callee.was c.replace_ctx.ensures.moves c.replace_ctx.ensures.context in
     let begun = s.on_seen {g = λ x ts. run g.B.BodyForms.forms (at (Lhs false)) x ts >>=
     operand.behind g.B.BodyForms.forms x} c.requires.looked
     (λ x ts same e. plain_operand.plain_unary _ x ts (s.no_head same) (ap (at_token is_plain) e ∙ c.requires.plain)) in
-    let l = tree c.in_ok-callee.callee in
+    let l = tree_of c.parse_plain_member-read.new.p.nodes c.in_ok-callee.callee in
     m.yes (Ok c.in_ok-callee.callee)
     (s.heard_after begun
-    (s.heard_more (operand.behind _) (λ x ts. refl) read
+    (s.heard_more (operand.behind _) (λ x ts. refl) member.reads
     (s.on_seen {g = s.give l} c.in_ok-look.ensures.looks
     (λ x ts same e. plain_operand.ends_here _ l x ts (ap
     (at_token goes_on) e ∙ sym c.may_go_on.ensures ∙ c.if-not-may_go_on.true)))))
-    c.parse_plain_member-member.ensures.grows held
+    member.grows member.from
 
 pub parse_plain_operand-parse_subscripts-requires : goal.parse_plain_operand-parse_subscripts-requires
 parse_plain_operand-parse_subscripts-requires g t c =
-    let falls = c.parse_plain_member-member.ensures.falls in
+    let falls = c.parse_plain_member-read.ensures.falls in
     let read = c.in_ok-callee.was in
-    let from = from-down (omega arith) (m.held_is _ c.parse_plain_member-member.result c.in_ok-callee.callee read
-    c.parse_plain_member-member.ensures.from) in
+    let from = from-down (omega arith) (m.held_is _ c.parse_plain_member-read.result c.in_ok-callee.callee read
+    c.parse_plain_member-read.ensures.from) in
     λ κs outlives. (search rules, (search rules, (search rules, (search rules, (search rules, (search rules, from))))))
 
 pub parse_plain_operand-returns-in_err-expr : goal.parse_plain_operand-returns-in_err-expr
 parse_plain_operand-returns-in_err-expr g t c =
-    let tree = tree_of c.parse_plain_member-member.new.p.nodes in
-    let member = s.parses_aside g.I.Tokens.model g.B.Bodies.is_faithful tree
-    (run _ (at (Lhs false))) c.parse_plain_member-member.result
-    c.set_ctx.ensures.moves (ap deciding c.set_ctx.ensures.context ∙ ap deciding c.get_ctx-ctx.ensures)
-    c.parse_plain_member-member.ensures.reads c.set_ctx-2.ensures.moves
-    (c.set_ctx-2.ensures.context ∙ c.get_ctx-ctx.ensures) in
-    let read = s.parses_ok g.I.Tokens.model g.B.Bodies.is_faithful tree
-    (run _ (at (Lhs false))) _ _ c.parse_plain_member-member.result c.in_ok-callee.callee c.in_ok-callee.was
-    member in
+    let member = aside c.get_ctx.ensures c.member_context-ctx.ensures.decides c.replace_ctx-before.ensures.before
+    c.replace_ctx-before.ensures.moves c.replace_ctx-before.ensures.context c.parse_plain_member-read.ensures
+    c.in_ok-callee.was c.replace_ctx.ensures.moves c.replace_ctx.ensures.context in
     let begun = s.on_seen {g = λ x ts. run g.B.BodyForms.forms (at (Lhs false)) x ts >>=
     operand.behind g.B.BodyForms.forms x} c.requires.looked
     (λ x ts same e. plain_operand.plain_unary _ x ts (s.no_head same) (ap (at_token is_plain) e ∙ c.requires.plain)) in
-    let l = tree c.in_ok-callee.callee in
-    let again = s.heard_then read.on read.onward (s.on_seen {f = s.give l} {g = s.give l} c.in_ok-look.ensures.looks
+    let l = tree_of c.parse_plain_member-read.new.p.nodes c.in_ok-callee.callee in
+    let again = s.heard_then member.reads.on member.reads.onward (s.on_seen {f = s.give l} {g = s.give l}
+    c.in_ok-look.ensures.looks
     (λ x ts same e. refl)) in
     m.refused c.from_residual-in_err-expr.ensures.1
     (s.unheard_after (s.on_then begun (s.on_call (operand.behind _) (λ x ts. refl) again.on))
     (s.unheard_call (operand.updated _) (λ x ts. refl) c.in_err-expr.ensures.reads))
-    (grows-then c.parse_plain_member-member.ensures.grows c.parse_subscripts.ensures.grows)
+    (grows-then member.grows c.parse_subscripts.ensures.grows)
 
 pub parse_plain_operand-parse_update_postfix-requires : goal.parse_plain_operand-parse_update_postfix-requires
 parse_plain_operand-parse_update_postfix-requires g t c =
@@ -2080,30 +1973,23 @@ parse_plain_operand-parse_update_postfix-requires g t c =
 
 pub parse_plain_operand-returns : goal.parse_plain_operand-returns
 parse_plain_operand-returns g t c =
-    let tree = tree_of c.parse_plain_member-member.new.p.nodes in
-    let member = s.parses_aside g.I.Tokens.model g.B.Bodies.is_faithful tree
-    (run _ (at (Lhs false))) c.parse_plain_member-member.result
-    c.set_ctx.ensures.moves (ap deciding c.set_ctx.ensures.context ∙ ap deciding c.get_ctx-ctx.ensures)
-    c.parse_plain_member-member.ensures.reads c.set_ctx-2.ensures.moves
-    (c.set_ctx-2.ensures.context ∙ c.get_ctx-ctx.ensures) in
-    let read = s.parses_ok g.I.Tokens.model g.B.Bodies.is_faithful tree
-    (run _ (at (Lhs false))) _ _ c.parse_plain_member-member.result c.in_ok-callee.callee c.in_ok-callee.was
-    member in
-    let held = m.held_is _ c.parse_plain_member-member.result c.in_ok-callee.callee c.in_ok-callee.was
-    c.parse_plain_member-member.ensures.from in
+    let member = aside c.get_ctx.ensures c.member_context-ctx.ensures.decides c.replace_ctx-before.ensures.before
+    c.replace_ctx-before.ensures.moves c.replace_ctx-before.ensures.context c.parse_plain_member-read.ensures
+    c.in_ok-callee.was c.replace_ctx.ensures.moves c.replace_ctx.ensures.context in
     let begun = s.on_seen {g = λ x ts. run g.B.BodyForms.forms (at (Lhs false)) x ts >>=
     operand.behind g.B.BodyForms.forms x} c.requires.looked
     (λ x ts same e. plain_operand.plain_unary _ x ts (s.no_head same) (ap (at_token is_plain) e ∙ c.requires.plain)) in
-    let l = tree c.in_ok-callee.callee in
-    let again = s.heard_then read.on read.onward (s.on_seen {f = s.give l} {g = s.give l} c.in_ok-look.ensures.looks
+    let l = tree_of c.parse_plain_member-read.new.p.nodes c.in_ok-callee.callee in
+    let again = s.heard_then member.reads.on member.reads.onward (s.on_seen {f = s.give l} {g = s.give l}
+    c.in_ok-look.ensures.looks
     (λ x ts same e. refl)) in
     let r = c.parse_update_postfix.result in
-    let a = held.above in
+    let a = member.from.above in
     let b = c.in_ok-expr.ensures.from.above in
     m.after {m = c.args.p.now} r begun (grows-same _)
-    (m.call {m = record c.parse_plain_member-member.new.p { input = c.look.new.input }} r (operand.behind _)
+    (m.call {m = record c.parse_plain_member-read.new.p { input = c.look.new.input }} r (operand.behind _)
     (λ x ts. refl) again
-    c.parse_plain_member-member.ensures.grows (λ x. from-down (omega arith))
+    member.grows (λ x. from-down (omega arith))
     (m.on_after r (s.on_call (operand.updated _) (λ x ts. refl) c.in_ok-expr.ensures.reads)
     c.parse_subscripts.ensures.grows c.parse_update_postfix.ensures))
 
@@ -3207,44 +3093,43 @@ parse_arrow_rest-returns-in-Ok g t c =
     (sym (list-later one_pat (λ at x. at x.0) (λ at by x f. same_first f) h.params.items read.grows apart))))
     read.grows (omega arith) (c.arrow_function.ensures k (apart-more read.grows apart read.from))
 
-pub parse_arrow_body-returns-in-Err-clause-reads : goal.parse_arrow_body-returns-in-Err-clause-reads
-parse_arrow_body-returns-in-Err-clause-reads g t c =
-    let forms = g.B.BodyForms.forms in
-    bodies.within_body forms g.met.B.Bodies.lawful c.args.is_async c.args.p.now.found_module_item
-    c.enter_arrow_body-before.ensures.before c.enter_arrow_body-before.ensures.moves
-    (ap deciding c.enter_arrow_body-before.ensures.context)
-    (m.no {q = record c.args.p.now { input = c.begins_block.new.input }} (s.unheard_memory c.in-Err.ensures.looks)
-    (grows-same _)) c.set_ctx.ensures.moves c.set_ctx.ensures.context
-
 pub parse_arrow_body-returns-clause-reads : goal.parse_arrow_body-returns-clause-reads
 parse_arrow_body-returns-clause-reads g t c =
+    bodies.within_body g.B.BodyForms.forms g.met.B.Bodies.lawful c.args.is_async c.args.p.now.found_module_item
+    c.get_ctx.ensures c.arrow_body-ctx.ensures c.replace_ctx-before.ensures.before c.replace_ctx-before.ensures.moves
+    c.replace_ctx-before.ensures.context c.parse_body-read.ensures c.replace_ctx.ensures.moves
+    c.replace_ctx.ensures.context
+
+pub parse_body-returns-in_err-begins_block : goal.parse_body-returns-in_err-begins_block
+parse_body-returns-in_err-begins_block g t c =
+    m.refused c.from_residual.ensures.1 (s.unheard_memory c.in_err-begins_block.ensures.looks) (grows-same _)
+
+pub parse_body-returns-then-begins_block : goal.parse_body-returns-then-begins_block
+parse_body-returns-then-begins_block g t c =
     let forms = g.B.BodyForms.forms in
-    let start = record c.args.p.now { input = c.enter_arrow_body-before.new.input } in
-    let read : Produces g.I.Tokens.model g.B.Bodies.is_faithful body_of body_at
-    (bodies.body_by forms g.B.Block.Spanned.place)
-    (count c.args.p.now.nodes) start c.if-value.body c.if-value.p =
-    elim c.if-value.branch [
-      | parse_arrow_body-then-value w ↦ rw (w.p-is, w.body-is)
-          (m.after {m = record start { input = c.begins_block.new.input }} w.parse_block_body-body.result
-          (s.on_seen {g = block_inside forms g.B.Block.Spanned.place} c.in-Ok.ensures.looks (λ x ts same e.
-          bodies.block_read forms g.B.Block.Spanned.place x ts
-          (ap (at_token is_brace) e ∙ sym c.in-Ok.ensures.value ∙ w.if-value.true)))
-          (grows-same _) w.parse_block_body-body.ensures)
-      | parse_arrow_body-else-value+in-Ok-parse_assignment_expr w ↦ rw (w.p-is, w.body-is)
-          (m.yes (Ok _) (s.heard_after (s.on_seen {g = run forms (at Assign)} c.in-Ok.ensures.looks (λ x ts same e.
-          bodies.expr_read forms g.B.Block.Spanned.place x ts
-          (ap (at_token is_brace) e ∙ sym c.in-Ok.ensures.value ∙ w.if-value.false)))
-          w.in-Ok-parse_assignment_expr.ensures.reads) w.in-Ok-parse_assignment_expr.ensures.grows
-          (apart-from (expr_part w.in-Ok-parse_assignment_expr.expr) w.in-Ok-parse_assignment_expr.ensures.from))
-      | parse_arrow_body-else-value+in-Err-parse_assignment_expr w ↦ rw (w.p-is, w.body-is)
-          (m.no (s.unheard_after (s.on_seen {g = run forms (at Assign)} c.in-Ok.ensures.looks (λ x ts same e.
-          bodies.expr_read forms g.B.Block.Spanned.place x ts
-          (ap (at_token is_brace) e ∙ sym c.in-Ok.ensures.value ∙ w.if-value.false)))
-          w.in-Err-parse_assignment_expr.ensures.reads) w.in-Err-parse_assignment_expr.ensures.grows)
-    ] in
-    bodies.within_body forms g.met.B.Bodies.lawful c.args.is_async c.args.p.now.found_module_item
-    c.enter_arrow_body-before.ensures.before c.enter_arrow_body-before.ensures.moves
-    (ap deciding c.enter_arrow_body-before.ensures.context) read c.set_ctx-2.ensures.moves c.set_ctx-2.ensures.context
+    m.after {m = record c.args.p.now { input = c.begins_block.new.input }} c.parse_block_body.result
+    (s.on_seen {g = block_inside forms g.B.Block.Spanned.place} c.in_ok-begins_block.ensures.looks
+    (λ x ts same e. bodies.block_read forms g.B.Block.Spanned.place x ts
+    (ap (at_token is_brace) e ∙ sym c.in_ok-begins_block.ensures.value ∙ c.if-begins_block.true)))
+    (grows-same _) c.parse_block_body.ensures
+
+pub parse_body-returns-in_err-expr : goal.parse_body-returns-in_err-expr
+parse_body-returns-in_err-expr g t c =
+    let forms = g.B.BodyForms.forms in
+    m.refused c.from_residual-in_err-expr.ensures.1
+    (s.unheard_after (s.on_seen {g = run forms (at Assign)} c.in_ok-begins_block.ensures.looks
+    (λ x ts same e. bodies.expr_read forms g.B.Block.Spanned.place x ts
+    (ap (at_token is_brace) e ∙ sym c.in_ok-begins_block.ensures.value ∙ c.if-begins_block.false)))
+    c.in_err-expr.ensures.reads) c.in_err-expr.ensures.grows
+
+pub parse_body-returns : goal.parse_body-returns
+parse_body-returns g t c =
+    let forms = g.B.BodyForms.forms in
+    m.yes (Ok _) (s.heard_after (s.on_seen {g = run forms (at Assign)} c.in_ok-begins_block.ensures.looks
+    (λ x ts same e. bodies.expr_read forms g.B.Block.Spanned.place x ts
+    (ap (at_token is_brace) e ∙ sym c.in_ok-begins_block.ensures.value ∙ c.if-begins_block.false)))
+    c.in_ok-expr.ensures.reads) c.in_ok-expr.ensures.grows
+    (apart-from (expr_part c.in_ok-expr.expr) c.in_ok-expr.ensures.from)
 
 pub finish_assignment_expr-returns-in_err-look : goal.finish_assignment_expr-returns-in_err-look
 finish_assignment_expr-returns-in_err-look g t c =
@@ -3256,133 +3141,110 @@ pub finish_assignment_expr-returns-in_err-cons : goal.finish_assignment_expr-ret
 finish_assignment_expr-returns-in_err-cons g t c =
     let l = tree_of c.args.p.now.nodes c.args.left in
     let lo = start_at c.args.p.now.nodes c.args.left.0 in
-    let middle = assign.in_middle g.I.Tokens.model g.B.Bodies.is_faithful _ _ c.get_ctx-ctx.result
-    c.parse_assignment_expr-middle.result c.get_ctx-ctx.ensures c.set_ctx.ensures.moves
-    (c.set_ctx.ensures.context ∙ c.cond_middle.ensures) c.parse_assignment_expr-middle.ensures.reads
-    c.set_ctx-then-is_sign.ensures.moves c.set_ctx-then-is_sign.ensures.context in
+    let middle = assign_within g.B.BodyForms.forms c.get_ctx.ensures (ap deciding c.cond_middle-ctx.ensures)
+    c.replace_ctx-before.ensures.before c.replace_ctx-before.ensures.moves c.replace_ctx-before.ensures.context
+    c.parse_assignment_expr-read.ensures c.in_err-cons.was c.replace_ctx.ensures.moves c.replace_ctx.ensures.context in
     rewriting.refused c.from_residual-in_err-cons.ensures.1
     (s.unheard_after (s.on_seen {g = behind (cond_tail _ lo l)} c.in_ok-look.ensures.looks
     (λ x ts same e. assign.from_question _ lo l x ts
     (ap (at_token is_question) e ∙ sym c.is_sign.ensures.value ∙ c.if-is_sign.true)))
     (s.unheard_after (s.on_took {g = cond_tail _ lo l} g.met.I.Tokens.laws c.skip.ensures.took.1 (λ x ts. refl))
     (s.unheard_call _ (assign.cond_tail_splits _ lo l)
-    (s.parses_err g.I.Tokens.model g.B.Bodies.is_faithful (tree_of c.parse_assignment_expr-middle.new.p.nodes)
-    (inside _) _ _ c.parse_assignment_expr-middle.result _ c.in_err-cons.was middle))))
+    middle.reads)))
     (let w = c.requires.from.within in let f = c.requires.from.first in
-    omega arith) c.parse_assignment_expr-middle.ensures.grows
+    omega arith) middle.grows
 
 pub finish_assignment_expr-returns-in_err-expect : goal.finish_assignment_expr-returns-in_err-expect
 finish_assignment_expr-returns-in_err-expect g t c =
     let l = tree_of c.args.p.now.nodes c.args.left in
     let lo = start_at c.args.p.now.nodes c.args.left.0 in
-    let e = tree_of c.parse_assignment_expr-middle.new.p.nodes c.in_ok-cons.cons in
-    let middle = assign.in_middle g.I.Tokens.model g.B.Bodies.is_faithful _ _ c.get_ctx-ctx.result
-    c.parse_assignment_expr-middle.result c.get_ctx-ctx.ensures c.set_ctx.ensures.moves
-    (c.set_ctx.ensures.context ∙ c.cond_middle.ensures) c.parse_assignment_expr-middle.ensures.reads
-    c.set_ctx-then-is_sign.ensures.moves c.set_ctx-then-is_sign.ensures.context in
-    let read = s.parses_ok g.I.Tokens.model g.B.Bodies.is_faithful (tree_of c.parse_assignment_expr-middle.new.p.nodes)
-    (inside _) _ _ c.parse_assignment_expr-middle.result c.in_ok-cons.cons c.in_ok-cons.was middle in
+    let e = tree_of c.parse_assignment_expr-read.new.p.nodes c.in_ok-cons.cons in
+    let middle = assign_within g.B.BodyForms.forms c.get_ctx.ensures (ap deciding c.cond_middle-ctx.ensures)
+    c.replace_ctx-before.ensures.before c.replace_ctx-before.ensures.moves c.replace_ctx-before.ensures.context
+    c.parse_assignment_expr-read.ensures c.in_ok-cons.was c.replace_ctx.ensures.moves c.replace_ctx.ensures.context in
     rewriting.refused c.from_residual-in_err-expect.ensures.1
     (s.unheard_after (s.on_seen {g = behind (cond_tail _ lo l)} c.in_ok-look.ensures.looks
     (λ x ts same e. assign.from_question _ lo l x ts
     (ap (at_token is_question) e ∙ sym c.is_sign.ensures.value ∙ c.if-is_sign.true)))
     (s.unheard_after (s.on_then (s.on_took {g = cond_tail _ lo l} g.met.I.Tokens.laws c.skip.ensures.took.1
     (λ x ts. refl))
-    (s.on_call _ (assign.cond_tail_splits _ lo l) read.on))
+    (s.on_call _ (assign.cond_tail_splits _ lo l) middle.reads.on))
     (s.unheard_call (λ x q. cond_close _ lo l e x q.1) (λ x ts. refl)
     (c.in_err-expect.ensures.expects g.B.Bodies.is_faithful)))) (let w = c.requires.from.within in
-    let f = c.requires.from.first in omega arith) c.parse_assignment_expr-middle.ensures.grows
+    let f = c.requires.from.first in omega arith) middle.grows
 
 pub finish_assignment_expr-returns-in_err-alt : goal.finish_assignment_expr-returns-in_err-alt
 finish_assignment_expr-returns-in_err-alt g t c =
     let l = tree_of c.args.p.now.nodes c.args.left in
     let lo = start_at c.args.p.now.nodes c.args.left.0 in
-    let e = tree_of c.parse_assignment_expr-middle.new.p.nodes c.in_ok-cons.cons in
-    let middle = assign.in_middle g.I.Tokens.model g.B.Bodies.is_faithful _ _ c.get_ctx-ctx.result
-    c.parse_assignment_expr-middle.result c.get_ctx-ctx.ensures c.set_ctx.ensures.moves
-    (c.set_ctx.ensures.context ∙ c.cond_middle.ensures) c.parse_assignment_expr-middle.ensures.reads
-    c.set_ctx-then-is_sign.ensures.moves c.set_ctx-then-is_sign.ensures.context in
-    let read = s.parses_ok g.I.Tokens.model g.B.Bodies.is_faithful (tree_of c.parse_assignment_expr-middle.new.p.nodes)
-    (inside _) _ _ c.parse_assignment_expr-middle.result c.in_ok-cons.cons c.in_ok-cons.was middle in
-    let kept = (c.in_ok-expect.ensures.expects g.B.Bodies.is_faithful).on.leads.read.context
-    ∙ c.set_ctx-then-is_sign.ensures.context in
-    let last = assign.in_last g.I.Tokens.model g.B.Bodies.is_faithful _ _ c.get_ctx-ctx.result
-    c.parse_assignment_expr-last.result (sym kept) c.set_ctx-then-is_sign-2.ensures.moves
-    (c.set_ctx-then-is_sign-2.ensures.context ∙ c.cond_last.ensures) c.parse_assignment_expr-last.ensures.reads
-    c.set_ctx-then-is_sign-3.ensures.moves c.set_ctx-then-is_sign-3.ensures.context in
+    let e = tree_of c.parse_assignment_expr-read.new.p.nodes c.in_ok-cons.cons in
+    let middle = assign_within g.B.BodyForms.forms c.get_ctx.ensures (ap deciding c.cond_middle-ctx.ensures)
+    c.replace_ctx-before.ensures.before c.replace_ctx-before.ensures.moves c.replace_ctx-before.ensures.context
+    c.parse_assignment_expr-read.ensures c.in_ok-cons.was c.replace_ctx.ensures.moves c.replace_ctx.ensures.context in
+    let last = aside c.get_ctx-then-is_sign.ensures (ap deciding c.cond_last-ctx.ensures)
+    c.replace_ctx-before-then-is_sign.ensures.before c.replace_ctx-before-then-is_sign.ensures.moves
+    c.replace_ctx-before-then-is_sign.ensures.context c.parse_assignment_expr-read-then-is_sign.ensures
+    c.in_err-alt.was c.replace_ctx-then-is_sign.ensures.moves c.replace_ctx-then-is_sign.ensures.context in
     rewriting.refused c.from_residual-in_err-alt.ensures.1
     (s.unheard_after (s.on_seen {g = behind (cond_tail _ lo l)} c.in_ok-look.ensures.looks
     (λ x ts same e. assign.from_question _ lo l x ts
     (ap (at_token is_question) e ∙ sym c.is_sign.ensures.value ∙ c.if-is_sign.true)))
     (s.unheard_after (s.on_then (s.on_then (s.on_took {g = cond_tail _ lo l} g.met.I.Tokens.laws c.skip.ensures.took.1
     (λ x ts. refl))
-    (s.on_call _ (assign.cond_tail_splits _ lo l) read.on))
+    (s.on_call _ (assign.cond_tail_splits _ lo l) middle.reads.on))
     (s.on_call (λ x q. cond_close _ lo l e x q.1) (λ x ts. refl)
     (c.in_ok-expect.ensures.expects g.B.Bodies.is_faithful).on))
     (s.unheard_call (λ x q. Some (cond_e (from_to lo (span_of q.0).hi) l e q.0, q.1)) (λ x ts. refl)
-    (s.parses_err g.I.Tokens.model g.B.Bodies.is_faithful (tree_of c.parse_assignment_expr-last.new.p.nodes)
-    (run _ (at Assign)) _ _ c.parse_assignment_expr-last.result _ c.in_err-alt.was last))))
+    last.reads)))
     (let w = c.requires.from.within in let f = c.requires.from.first in
-    omega arith) (grows-then c.parse_assignment_expr-middle.ensures.grows
-    c.parse_assignment_expr-last.ensures.grows)
-
-pub finish_assignment_expr-set_ctx-requires-then-is_sign-2 : goal.finish_assignment_expr-set_ctx-requires-then-is_sign-2
-finish_assignment_expr-set_ctx-requires-then-is_sign-2 g t c =
-    let kept = (c.in_ok-expect.ensures.expects g.B.Bodies.is_faithful).on.leads.read.context
-    ∙ c.set_ctx-then-is_sign.ensures.context in
-    ap (λ x. x.«module») c.cond_last.ensures ∙ ap (λ x. x.«module») (sym kept)
+    omega arith) (grows-then middle.grows
+    last.grows)
 
 pub finish_assignment_expr-cond_expr-node-requires-clause-test :
     goal.finish_assignment_expr-cond_expr-node-requires-clause-test
 finish_assignment_expr-cond_expr-node-requires-clause-test g t c =
-    from-later (grows-then c.parse_assignment_expr-middle.ensures.grows c.parse_assignment_expr-last.ensures.grows)
+    from-later (grows-then c.parse_assignment_expr-read.ensures.grows
+    c.parse_assignment_expr-read-then-is_sign.ensures.grows)
     c.requires.from
 
 pub finish_assignment_expr-cond_expr-node-requires-clause-then :
     goal.finish_assignment_expr-cond_expr-node-requires-clause-then
 finish_assignment_expr-cond_expr-node-requires-clause-then g t c =
-    from-down (let h = c.requires.from.within in omega arith) (from-later c.parse_assignment_expr-last.ensures.grows
-    (m.held_is _ c.parse_assignment_expr-middle.result c.in_ok-cons.cons c.in_ok-cons.was
-    c.parse_assignment_expr-middle.ensures.from))
+    from-down (let h = c.requires.from.within in omega arith) (from-later
+    c.parse_assignment_expr-read-then-is_sign.ensures.grows
+    (m.held_is _ c.parse_assignment_expr-read.result c.in_ok-cons.cons c.in_ok-cons.was
+    c.parse_assignment_expr-read.ensures.from))
 
 pub finish_assignment_expr-cond_expr-node-requires-clause-other :
     goal.finish_assignment_expr-cond_expr-node-requires-clause-other
 finish_assignment_expr-cond_expr-node-requires-clause-other g t c =
-    let cons_from = m.held_is _ c.parse_assignment_expr-middle.result c.in_ok-cons.cons c.in_ok-cons.was
-    c.parse_assignment_expr-middle.ensures.from in
+    let cons_from = m.held_is _ c.parse_assignment_expr-read.result c.in_ok-cons.cons c.in_ok-cons.was
+    c.parse_assignment_expr-read.ensures.from in
     from-down (let h = cons_from.within in omega arith)
-    (m.held_is _ c.parse_assignment_expr-last.result c.in_ok-alt.alt c.in_ok-alt.was
-    c.parse_assignment_expr-last.ensures.from)
+    (m.held_is _ c.parse_assignment_expr-read-then-is_sign.result c.in_ok-alt.alt c.in_ok-alt.was
+    c.parse_assignment_expr-read-then-is_sign.ensures.from)
 
 pub finish_assignment_expr-returns-then-is_sign : goal.finish_assignment_expr-returns-then-is_sign
 finish_assignment_expr-returns-then-is_sign g t c =
     let l = tree_of c.args.p.now.nodes c.args.left in
     let lo = start_at c.args.p.now.nodes c.args.left.0 in
-    let e = tree_of c.parse_assignment_expr-middle.new.p.nodes c.in_ok-cons.cons in
-    let ns = c.parse_assignment_expr-last.new.p.nodes in
+    let e = tree_of c.parse_assignment_expr-read.new.p.nodes c.in_ok-cons.cons in
+    let ns = c.parse_assignment_expr-read-then-is_sign.new.p.nodes in
     let a = tree_of ns c.in_ok-alt.alt in
-    let middle = assign.in_middle g.I.Tokens.model g.B.Bodies.is_faithful _ _ c.get_ctx-ctx.result
-    c.parse_assignment_expr-middle.result c.get_ctx-ctx.ensures c.set_ctx.ensures.moves
-    (c.set_ctx.ensures.context ∙ c.cond_middle.ensures) c.parse_assignment_expr-middle.ensures.reads
-    c.set_ctx-then-is_sign.ensures.moves c.set_ctx-then-is_sign.ensures.context in
-    let read = s.parses_ok g.I.Tokens.model g.B.Bodies.is_faithful (tree_of c.parse_assignment_expr-middle.new.p.nodes)
-    (inside _) _ _ c.parse_assignment_expr-middle.result c.in_ok-cons.cons c.in_ok-cons.was middle in
-    let kept = (c.in_ok-expect.ensures.expects g.B.Bodies.is_faithful).on.leads.read.context
-    ∙ c.set_ctx-then-is_sign.ensures.context in
-    let last = assign.in_last g.I.Tokens.model g.B.Bodies.is_faithful _ _ c.get_ctx-ctx.result
-    c.parse_assignment_expr-last.result (sym kept) c.set_ctx-then-is_sign-2.ensures.moves
-    (c.set_ctx-then-is_sign-2.ensures.context ∙ c.cond_last.ensures) c.parse_assignment_expr-last.ensures.reads
-    c.set_ctx-then-is_sign-3.ensures.moves c.set_ctx-then-is_sign-3.ensures.context in
-    let read_last = s.parses_ok g.I.Tokens.model g.B.Bodies.is_faithful (tree_of ns)
-    (run _ (at Assign)) _ _ c.parse_assignment_expr-last.result c.in_ok-alt.alt c.in_ok-alt.was last in
-    let grows = grows-then c.parse_assignment_expr-middle.ensures.grows c.parse_assignment_expr-last.ensures.grows in
+    let middle = assign_within g.B.BodyForms.forms c.get_ctx.ensures (ap deciding c.cond_middle-ctx.ensures)
+    c.replace_ctx-before.ensures.before c.replace_ctx-before.ensures.moves c.replace_ctx-before.ensures.context
+    c.parse_assignment_expr-read.ensures c.in_ok-cons.was c.replace_ctx.ensures.moves c.replace_ctx.ensures.context in
+    let last = aside c.get_ctx-then-is_sign.ensures (ap deciding c.cond_last-ctx.ensures)
+    c.replace_ctx-before-then-is_sign.ensures.before c.replace_ctx-before-then-is_sign.ensures.moves
+    c.replace_ctx-before-then-is_sign.ensures.context c.parse_assignment_expr-read-then-is_sign.ensures c.in_ok-alt.was
+    c.replace_ctx-then-is_sign.ensures.moves c.replace_ctx-then-is_sign.ensures.context in
+    let grows = grows-then middle.grows last.grows in
     let place = from_to (start_at ns c.args.left.0) (span_of a).hi in
     let whole = ap (λ v. cond_e (from_to v (span_of a).hi) l e a) (sym (start-later grows c.requires.from))
     ∙ ap (λ v. cond_e place v e a) (sym (tree-later grows c.requires.from))
     ∙ ap (λ v. cond_e place (tree_of ns c.args.left) v a)
-    (sym (tree-later c.parse_assignment_expr-last.ensures.grows
-    (m.held_is _ c.parse_assignment_expr-middle.result c.in_ok-cons.cons c.in_ok-cons.was
-    c.parse_assignment_expr-middle.ensures.from))) in
+    (sym (tree-later last.grows
+    middle.from)) in
     rewriting.goes_on c.made.result (let w = c.requires.from.within in let f = c.requires.from.first in omega arith)
     (m.on_after {m = record c.args.p.now { input = c.look.new.input }} c.made.result
     (s.on_seen {g = behind (cond_tail _ lo l)} c.in_ok-look.ensures.looks
@@ -3392,10 +3254,10 @@ finish_assignment_expr-returns-then-is_sign g t c =
     (m.node _ c.cond_expr-node.result c.made.result (first_kept grows c.requires.from) c.cond_expr-node.ensures.made
     c.made.ensures.ok c.made.ensures.refused grows c.cond_expr-node.ensures.grows
     (s.heard_answer whole (s.heard_first g.met.I.Tokens.laws c.skip.ensures.took.1 (λ x ts. refl)
-    (s.on_then (s.on_call _ (assign.cond_tail_splits _ lo l) read.on)
+    (s.on_then (s.on_call _ (assign.cond_tail_splits _ lo l) middle.reads.on)
     (s.on_then (s.on_call (λ x q. cond_close _ lo l e x q.1) (λ x ts. refl)
     (c.in_ok-expect.ensures.expects g.B.Bodies.is_faithful).on)
-    (s.on_call (λ x q. Some (cond_e (from_to lo (span_of q.0).hi) l e q.0, q.1)) (λ x ts. refl) read_last.on))))))))
+    (s.on_call (λ x q. Some (cond_e (from_to lo (span_of q.0).hi) l e q.0, q.1)) (λ x ts. refl) last.reads.on))))))))
 
 pub finish_assignment_expr-returns-in-None : goal.finish_assignment_expr-returns-in-None
 finish_assignment_expr-returns-in-None g t c =
@@ -3487,103 +3349,66 @@ finish_assignment_expr-returns g t c =
     (way.lowered c.assign_node.result (way.target_above c.in_ok-target.target later)
     (rewriting.goes_on c.assign_node.result low c.assign_node.ensures))
 
-pub parse_prop_name-returns-in-Err : goal.parse_prop_name-returns-in-Err
-parse_prop_name-returns-in-Err g t c =
-    entered.aside {q = record c.args.p.now { input = c.eat.new.input }}
-    c.enter_prop_name-before.ensures.before c.enter_prop_name-before.ensures.moves
-    c.enter_prop_name-before.ensures.context
-    (m.no (s.unheard_call _ (key.key_splits _) (c.in-Err.ensures.eats g.B.Bodies.is_faithful)) (grows-same _))
-    c.set_ctx.ensures.moves c.set_ctx.ensures.context
+pub parse_prop_name-returns : goal.parse_prop_name-returns
+parse_prop_name-returns g t c =
+    aside c.get_ctx.ensures c.prop_name_context-ctx.ensures.decides c.replace_ctx-before.ensures.before
+    c.replace_ctx-before.ensures.moves c.replace_ctx-before.ensures.context c.parse_key-read.ensures refl
+    c.replace_ctx.ensures.moves c.replace_ctx.ensures.context
 
-pub parse_prop_name-returns-in-Err-2 : goal.parse_prop_name-returns-in-Err-2
-parse_prop_name-returns-in-Err-2 g t c =
-    let inner = assign_within g.B.BodyForms.forms c.include_in-before.ensures.before c.include_in-before.ensures.moves
-    c.include_in-before.ensures.context c.parse_assignment_expr-read.ensures c.in-Err-2.ensures.answer
-    c.in-Err-2.ensures.moves c.in-Err-2.ensures.context in
+pub parse_key-returns-in_err-start : goal.parse_key-returns-in_err-start
+parse_key-returns-in_err-start g t c =
+    m.refused c.from_residual.ensures.1
+    (s.unheard_call _ (key.key_splits _) (c.in_err-start.ensures.eats g.B.Bodies.is_faithful)) (grows-same _)
+
+pub parse_key-returns-in_err-expr-in-Some : goal.parse_key-returns-in_err-expr-in-Some
+parse_key-returns-in_err-expr-in-Some g t c =
+    let inner = assign_within g.B.BodyForms.forms c.get_ctx.ensures c.include_in-ctx.ensures.decides
+    c.replace_ctx-before.ensures.before c.replace_ctx-before.ensures.moves c.replace_ctx-before.ensures.context
+    c.parse_assignment_expr-read.ensures c.in_err-expr-in-Some.was c.replace_ctx.ensures.moves
+    c.replace_ctx.ensures.context in
     let some = s.on_call _ (key.key_splits g.B.BodyForms.forms)
     (s.eats_some g.B.Bodies.is_faithful is_lbracket _ c.in-Some.start _ _ c.in-Some.is
-    (c.in-Ok.ensures.eats g.B.Bodies.is_faithful)).on in
-    entered.aside {q = record c.parse_assignment_expr-read.new.p { input = c.leave.new.input }}
-    c.enter_prop_name-before.ensures.before c.enter_prop_name-before.ensures.moves
-    c.enter_prop_name-before.ensures.context
-    (m.no (s.unheard_after some
-    (s.unheard_call _ (key.computed_key_splits _ c.in-Some.start) inner.reads)) inner.grows)
-    c.set_ctx-in-Err-2.ensures.moves c.set_ctx-in-Err-2.ensures.context
+    (c.in_ok-start.ensures.eats g.B.Bodies.is_faithful)).on in
+    m.refused c.from_residual-in_err-expr-in-Some.ensures.1
+    (s.unheard_after some (s.unheard_call _ (key.computed_key_splits _ c.in-Some.start) inner.reads)) inner.grows
 
-pub parse_prop_name-returns-in-Ok-2 : goal.parse_prop_name-returns-in-Ok-2
-parse_prop_name-returns-in-Ok-2 g t c =
-    let inner = assign_within g.B.BodyForms.forms {o =
-    Ok c.in-Ok-2.value} c.include_in-before.ensures.before c.include_in-before.ensures.moves
-    c.include_in-before.ensures.context c.parse_assignment_expr-read.ensures c.in-Ok-2.ensures.answer
-    c.in-Ok-2.ensures.moves c.in-Ok-2.ensures.context in
+pub parse_key-returns-in_ok-expr-in-Some : goal.parse_key-returns-in_ok-expr-in-Some
+parse_key-returns-in_ok-expr-in-Some g t c =
+    let inner = assign_within g.B.BodyForms.forms c.get_ctx.ensures c.include_in-ctx.ensures.decides
+    c.replace_ctx-before.ensures.before c.replace_ctx-before.ensures.moves c.replace_ctx-before.ensures.context
+    c.parse_assignment_expr-read.ensures c.in_ok-expr-in-Some.was c.replace_ctx.ensures.moves
+    c.replace_ctx.ensures.context in
     let some = s.on_call _ (key.key_splits g.B.BodyForms.forms)
     (s.eats_some g.B.Bodies.is_faithful is_lbracket _ c.in-Some.start _ _ c.in-Some.is
-    (c.in-Ok.ensures.eats g.B.Bodies.is_faithful)).on in
-    entered.aside {q = c.computed_prop_name-key.new.p}
-    c.enter_prop_name-before.ensures.before c.enter_prop_name-before.ensures.moves
-    c.enter_prop_name-before.ensures.context
-    (m.after_held c.computed_prop_name-key.result
-    (s.on_then some
-    (s.on_call _ (key.computed_key_splits _ c.in-Some.start) inner.reads.on))
-    inner.grows (λ x. apart-lower (key_parts x) inner.from.above) c.computed_prop_name-key.ensures)
-    c.set_ctx-in-Some.ensures.moves c.set_ctx-in-Some.ensures.context
+    (c.in_ok-start.ensures.eats g.B.Bodies.is_faithful)).on in
+    m.after_held c.computed_prop_name.result
+    (s.on_then some (s.on_call _ (key.computed_key_splits _ c.in-Some.start) inner.reads.on))
+    inner.grows (λ x. apart-lower (key_parts x) inner.from.above) c.computed_prop_name.ensures
 
-pub parse_prop_name-returns-in-None : goal.parse_prop_name-returns-in-None
-parse_prop_name-returns-in-None g t c =
-    entered.aside {q = record c.args.p.now { input = c.parse_plain_prop_name-key.new.input }}
-    c.enter_prop_name-before.ensures.before c.enter_prop_name-before.ensures.moves
-    c.enter_prop_name-before.ensures.context
-    (m.after c.parse_plain_prop_name-key.result
+pub parse_key-returns-in-None : goal.parse_key-returns-in-None
+parse_key-returns-in-None g t c =
+    m.after c.parse_plain_prop_name.result
     (s.on_call _ (key.key_splits _)
-    (s.eats_none g.B.Bodies.is_faithful is_lbracket _ _ _ c.in-None.is (c.in-Ok.ensures.eats g.B.Bodies.is_faithful)))
-    (grows-same _) (key.plain_key_produces c.parse_plain_prop_name-key.result
-    (c.parse_plain_prop_name-key.ensures.parses g.B.Bodies.is_faithful) c.parse_plain_prop_name-key.ensures.parts))
-    c.set_ctx-in-None.ensures.moves c.set_ctx-in-None.ensures.context
+    (s.eats_none g.B.Bodies.is_faithful is_lbracket _ _ _ c.in-None.is
+    (c.in_ok-start.ensures.eats g.B.Bodies.is_faithful)))
+    (grows-same _) (key.plain_key_produces c.parse_plain_prop_name.result
+    (c.parse_plain_prop_name.ensures.parses g.B.Bodies.is_faithful) c.parse_plain_prop_name.ensures.parts)
 
-pub parse_prop_name-set_ctx-requires : goal.parse_prop_name-set_ctx-requires
-parse_prop_name-set_ctx-requires g t c =
-    c.enter_prop_name-before.ensures.«module» ∙ sym (ap (λ x. x.«module»)
-    ((c.in-Err.ensures.eats g.B.Bodies.is_faithful).refuses.spends.read.context))
+pub parse_tpl_elements-returns : goal.parse_tpl_elements-returns
+parse_tpl_elements-returns g t c =
+    aside c.get_ctx.ensures c.without_colon-ctx.ensures.decides c.replace_ctx-before.ensures.before
+    c.replace_ctx-before.ensures.moves c.replace_ctx-before.ensures.context c.parse_tpl_parts-read.ensures refl
+    c.replace_ctx.ensures.moves c.replace_ctx.ensures.context
 
-pub parse_prop_name-set_ctx-requires-in-Err-2 : goal.parse_prop_name-set_ctx-requires-in-Err-2
-parse_prop_name-set_ctx-requires-in-Err-2 g t c =
-    let inner = assign_within g.B.BodyForms.forms c.include_in-before.ensures.before c.include_in-before.ensures.moves
-    c.include_in-before.ensures.context c.parse_assignment_expr-read.ensures c.in-Err-2.ensures.answer
-    c.in-Err-2.ensures.moves c.in-Err-2.ensures.context in
-    c.enter_prop_name-before.ensures.«module» ∙ sym (ap (λ x. x.«module»)
-    (inner.reads.refuses.spends.read.context
-    ∙ (s.eats_some g.B.Bodies.is_faithful is_lbracket _ c.in-Some.start _ _ c.in-Some.is
-    (c.in-Ok.ensures.eats g.B.Bodies.is_faithful)).on.leads.read.context))
-
-pub parse_prop_name-set_ctx-requires-in-Some : goal.parse_prop_name-set_ctx-requires-in-Some
-parse_prop_name-set_ctx-requires-in-Some g t c =
-    let inner = assign_within g.B.BodyForms.forms {o =
-    Ok c.in-Ok-2.value} c.include_in-before.ensures.before c.include_in-before.ensures.moves
-    c.include_in-before.ensures.context c.parse_assignment_expr-read.ensures c.in-Ok-2.ensures.answer
-    c.in-Ok-2.ensures.moves c.in-Ok-2.ensures.context in
-    c.enter_prop_name-before.ensures.«module» ∙ sym (ap (λ x. x.«module»)
-    (key.parses_context g.I.Tokens.model g.B.Bodies.is_faithful _ _ _ _ c.computed_prop_name-key.result
-    c.computed_prop_name-key.ensures.reads
-    ∙ inner.reads.on.leads.read.context ∙ (s.eats_some g.B.Bodies.is_faithful is_lbracket _ c.in-Some.start _ _
-    c.in-Some.is (c.in-Ok.ensures.eats g.B.Bodies.is_faithful)).on.leads.read.context))
-
-pub parse_prop_name-set_ctx-requires-in-None : goal.parse_prop_name-set_ctx-requires-in-None
-parse_prop_name-set_ctx-requires-in-None g t c =
-    c.enter_prop_name-before.ensures.«module» ∙ sym (ap (λ x. x.«module»)
-    (key.parses_context g.I.Tokens.model g.B.Bodies.is_faithful _ _ _ _ c.parse_plain_prop_name-key.result
-    (c.parse_plain_prop_name-key.ensures.parses g.B.Bodies.is_faithful)
-    ∙ (s.eats_none g.B.Bodies.is_faithful is_lbracket _ _ _ c.in-None.is
-    (c.in-Ok.ensures.eats g.B.Bodies.is_faithful)).leads.read.context))
-
-pub parse_tpl_elements-loop-value-init : goal.parse_tpl_elements-loop-value-init
-parse_tpl_elements-loop-value-init g t c = (
-  entered.entered g.met.I.Tokens.laws c.enter_tpl-before.ensures.moves c.enter_tpl-before.ensures.context
+pub parse_tpl_parts-loop-quasis-init : goal.parse_tpl_parts-loop-quasis-init
+parse_tpl_parts-loop-quasis-init g t c = (
+  s.on_here g.met.I.Tokens.laws c.args.p.now.input
       (λ x ts. tpl.parts_first _ c.args.is_tagged x ts
       ∙ ap (λ v. parts_behind g.B.BodyForms.forms c.args.is_tagged (trees (map quasi_tree v)) nil x ts)
       (sym c.new-quasis.ensures.items)
       ∙ ap (λ v. parts_behind g.B.BodyForms.forms c.args.is_tagged (trees (map quasi_tree c.new-quasis.result.items))
       (trees (map (tree_of c.args.p.now.nodes) v)) x ts) (sym c.new-exprs.ensures.items)),
-  let a = c.enter_tpl-before.ensures.stays in omega arith,
+  omega arith,
   grows-same _,
   record {
     chained = ap (λ v. chain (seat_at c.args.p.now.nodes) (count c.args.p.now.nodes) (flat one_expr v)
@@ -3592,218 +3417,143 @@ parse_tpl_elements-loop-value-init g t c = (
   },
 )
 
-pub parse_tpl_elements-loop-value-preserved : goal.parse_tpl_elements-loop-value-preserved
-parse_tpl_elements-loop-value-preserved g t c =
-    let inner = expr_within g.B.BodyForms.forms {o = Ok c.in-Ok-2.value} c.include_in-before.ensures.before
-    c.include_in-before.ensures.moves c.include_in-before.ensures.context c.parse_expr-read.ensures
-    c.in-Ok-2.ensures.answer c.in-Ok-2.ensures.moves c.in-Ok-2.ensures.context in
-    let texts = trees (map quasi_tree c.loop-value.quasis.items) in
-    let exprs = trees (map (tree_of c.loop-value.p.nodes) c.loop-value.exprs.items) in
-    let now = trees_append texts (cons (quasi_tree c.in-Ok.value) nil) in
+pub parse_tpl_parts-loop-quasis-preserved : goal.parse_tpl_parts-loop-quasis-preserved
+parse_tpl_parts-loop-quasis-preserved g t c =
+    let inner = expr_within g.B.BodyForms.forms c.get_ctx.ensures c.include_in-ctx.ensures.decides
+    c.replace_ctx-before.ensures.before c.replace_ctx-before.ensures.moves c.replace_ctx-before.ensures.context
+    c.parse_expr-read.ensures c.in_ok-expr.was c.replace_ctx.ensures.moves c.replace_ctx.ensures.context in
+    let texts = trees (map quasi_tree c.loop-quasis.quasis.items) in
+    let exprs = trees (map (tree_of c.loop-quasis.p.nodes) c.loop-quasis.exprs.items) in
+    let now = trees_append texts (cons (quasi_tree c.in_ok-quasi.quasi) nil) in
     let element = s.on_call _ (tpl.behind_splits g.B.BodyForms.forms c.args.is_tagged texts exprs)
-    (c.in-Ok.ensures.parses g.B.Bodies.is_faithful).on in
+    (c.in_ok-quasi.ensures.parses g.B.Bodies.is_faithful).on in
     let opened = s.on_call (λ x p. parts_by g.B.BodyForms.forms c.args.is_tagged now exprs p.0 x p.1) (λ x ts. refl)
-    (s.on_answer c.in-None.is (c.in-Ok-eat_tpl_end.ensures.ends g.B.Bodies.is_faithful).on) in
-    let added = ap (λ v. trees (map quasi_tree v)) c.in-Ok-add.ensures.added
-    ∙ trees-more quasi_tree c.loop-value.quasis.items c.in-Ok.value in
+    (s.on_answer c.in-None.is (c.in_ok-end.ensures.ends g.B.Bodies.is_faithful).on) in
+    let added = ap (λ v. trees (map quasi_tree v)) c.in_ok-add.ensures.added
+    ∙ trees-more quasi_tree c.loop-quasis.quasis.items c.in_ok-quasi.quasi in
     let grows = inner.grows in
     let nodes = c.parse_expr-read.new.p.nodes in
-    let more = ap (λ v. trees (map (tree_of nodes) v)) c.in-Ok-add-2.ensures.added
-    ∙ exprs-more c.loop-value.exprs.items c.in-Ok-2.value grows c.loop-value.invariant.3 in
-    let parts = exprs-apart-more c.loop-value.exprs.items c.in-Ok-2.value grows c.loop-value.invariant.3 inner.from in (
-      entered.further c.loop-value.invariant.0 (s.on_then element (s.on_then opened
+    let more = ap (λ v. trees (map (tree_of nodes) v)) c.in_ok-add-2.ensures.added
+    ∙ exprs-more c.loop-quasis.exprs.items c.in_ok-expr.expr grows c.loop-quasis.invariant.3 in
+    let parts = exprs-apart-more c.loop-quasis.exprs.items c.in_ok-expr.expr grows c.loop-quasis.invariant.3 inner.from
+    in (
+      s.on_then c.loop-quasis.invariant.0 (s.on_then element (s.on_then opened
           (s.on_to (s.on_call (λ x p. parts_behind g.B.BodyForms.forms c.args.is_tagged now
           (trees_append exprs (cons p.0 nil)) x p.1) (λ x ts. refl)
           (s.on_then (s.on_call (λ x p. tpl_expr_close g.B.BodyForms.forms p.0 x p.1) (λ x ts. refl) inner.reads.on)
-          (s.on_call (λ x q. Some (tree_of nodes c.in-Ok-2.value, q.1)) (λ x ts. refl)
-          (c.in-Ok-expect.ensures.expects g.B.Bodies.is_faithful).on)))
+          (s.on_call (λ x q. Some (tree_of nodes c.in_ok-expr.expr, q.1)) (λ x ts. refl)
+          (c.in_ok-expect.ensures.expects g.B.Bodies.is_faithful).on)))
           (tpl.behind_same g.B.BodyForms.forms c.args.is_tagged (sym added) (sym more))))),
-      let a = c.loop-value.invariant.1 in let b = c.in-Ok.ensures.falls in let d = c.in-Ok-eat_tpl_end.ensures.falls in
-          let e = inner.falls in let f = c.in-Ok-expect.ensures.falls in omega arith,
-      grows-then c.loop-value.invariant.2 grows,
+      let a = c.loop-quasis.invariant.1 in let b = c.in_ok-quasi.ensures.falls in let d = c.in_ok-end.ensures.falls in
+          let e = inner.falls in let f = c.in_ok-expect.ensures.falls in omega arith,
+      grows-then c.loop-quasis.invariant.2 grows,
       record {
         chained = ap (λ v. chain (seat_at nodes) (count c.args.p.now.nodes) (flat one_expr v) (count nodes))
-            c.in-Ok-add-2.ensures.added ∙ parts.chained;
+            c.in_ok-add-2.ensures.added ∙ parts.chained;
       },
     )
 
-pub parse_tpl_elements-returns-in-Err : goal.parse_tpl_elements-returns-in-Err
-parse_tpl_elements-returns-in-Err g t c =
-    let texts = trees (map quasi_tree c.loop-value.quasis.items) in
-    let exprs = trees (map (tree_of c.loop-value.p.nodes) c.loop-value.exprs.items) in
-    entered.left {q = record c.loop-value.p { input = c.parse_tpl_element.new.input }}
-    c.enter_tpl-before.ensures.before c.loop-value.invariant.0
-    (m.no (s.unheard_after c.loop-value.invariant.0.on
+pub parse_tpl_parts-returns-in_err-quasi : goal.parse_tpl_parts-returns-in_err-quasi
+parse_tpl_parts-returns-in_err-quasi g t c =
+    let texts = trees (map quasi_tree c.loop-quasis.quasis.items) in
+    let exprs = trees (map (tree_of c.loop-quasis.p.nodes) c.loop-quasis.exprs.items) in
+    m.refused c.from_residual.ensures.1
+    (s.unheard_after c.loop-quasis.invariant.0
     (s.unheard_call _ (tpl.behind_splits g.B.BodyForms.forms c.args.is_tagged texts exprs)
-    (c.in-Err.ensures.parses g.B.Bodies.is_faithful)))
-    c.loop-value.invariant.2)
-    c.set_ctx.ensures.moves c.set_ctx.ensures.context
+    (c.in_err-quasi.ensures.parses g.B.Bodies.is_faithful)))
+    c.loop-quasis.invariant.2
 
-pub parse_tpl_elements-returns-in-Err-add : goal.parse_tpl_elements-returns-in-Err-add
-parse_tpl_elements-returns-in-Err-add g t c =
-    entered.left {q = record c.loop-value.p { input = c.parse_tpl_element.new.input }}
-    c.enter_tpl-before.ensures.before c.loop-value.invariant.0
-    (m.no (s.unheard_memory (s.forgoes_later (s.leads_then c.loop-value.invariant.0.on.leads
-    (c.in-Ok.ensures.parses g.B.Bodies.is_faithful).on.leads)
-    (s.forgoes_here g.met.I.Tokens.laws _ _ _ c.in-Err-add.ensures.refused)))
-    c.loop-value.invariant.2)
-    c.set_ctx-in-Err-add.ensures.moves c.set_ctx-in-Err-add.ensures.context
+pub parse_tpl_parts-returns-in_err-add : goal.parse_tpl_parts-returns-in_err-add
+parse_tpl_parts-returns-in_err-add g t c =
+    m.refused c.from_residual-in_err-add.ensures.1
+    (s.unheard_memory (s.forgoes_later (s.leads_then c.loop-quasis.invariant.0.leads
+    (c.in_ok-quasi.ensures.parses g.B.Bodies.is_faithful).on.leads)
+    (s.forgoes_here g.met.I.Tokens.laws _ _ _ c.in_err-add.ensures.refused)))
+    c.loop-quasis.invariant.2
 
-pub parse_tpl_elements-returns-in-Err-eat_tpl_end : goal.parse_tpl_elements-returns-in-Err-eat_tpl_end
-parse_tpl_elements-returns-in-Err-eat_tpl_end g t c =
-    let texts = trees (map quasi_tree c.loop-value.quasis.items) in
-    let exprs = trees (map (tree_of c.loop-value.p.nodes) c.loop-value.exprs.items) in
-    let now = trees_append texts (cons (quasi_tree c.in-Ok.value) nil) in
+pub parse_tpl_parts-returns-in_err-end : goal.parse_tpl_parts-returns-in_err-end
+parse_tpl_parts-returns-in_err-end g t c =
+    let texts = trees (map quasi_tree c.loop-quasis.quasis.items) in
+    let exprs = trees (map (tree_of c.loop-quasis.p.nodes) c.loop-quasis.exprs.items) in
+    let now = trees_append texts (cons (quasi_tree c.in_ok-quasi.quasi) nil) in
     let element = s.on_call _ (tpl.behind_splits g.B.BodyForms.forms c.args.is_tagged texts exprs)
-    (c.in-Ok.ensures.parses g.B.Bodies.is_faithful).on in
-    entered.left {q = record c.loop-value.p { input = c.eat_tpl_end.new.input }}
-    c.enter_tpl-before.ensures.before c.loop-value.invariant.0
-    (m.no (s.unheard_after c.loop-value.invariant.0.on
+    (c.in_ok-quasi.ensures.parses g.B.Bodies.is_faithful).on in
+    m.refused c.from_residual-in_err-end.ensures.1
+    (s.unheard_after c.loop-quasis.invariant.0
     (s.unheard_after element (s.unheard_call (λ x p.
     parts_by g.B.BodyForms.forms c.args.is_tagged now exprs p.0 x p.1) (λ x ts. refl)
-    (c.in-Err-eat_tpl_end.ensures.ends g.B.Bodies.is_faithful))))
-    c.loop-value.invariant.2)
-    c.set_ctx-in-Err-eat_tpl_end.ensures.moves c.set_ctx-in-Err-eat_tpl_end.ensures.context
+    (c.in_err-end.ensures.ends g.B.Bodies.is_faithful))))
+    c.loop-quasis.invariant.2
 
-pub parse_tpl_elements-returns-in-Some : goal.parse_tpl_elements-returns-in-Some
-parse_tpl_elements-returns-in-Some g t c =
-    let texts = trees (map quasi_tree c.loop-value.quasis.items) in
-    let exprs = trees (map (tree_of c.loop-value.p.nodes) c.loop-value.exprs.items) in
-    let now = trees_append texts (cons (quasi_tree c.in-Ok.value) nil) in
+pub parse_tpl_parts-returns-in-Some : goal.parse_tpl_parts-returns-in-Some
+parse_tpl_parts-returns-in-Some g t c =
+    let texts = trees (map quasi_tree c.loop-quasis.quasis.items) in
+    let exprs = trees (map (tree_of c.loop-quasis.p.nodes) c.loop-quasis.exprs.items) in
+    let now = trees_append texts (cons (quasi_tree c.in_ok-quasi.quasi) nil) in
     let element = s.on_call _ (tpl.behind_splits g.B.BodyForms.forms c.args.is_tagged texts exprs)
-    (c.in-Ok.ensures.parses g.B.Bodies.is_faithful).on in
-    let added = ap (λ v. trees (map quasi_tree v)) c.in-Ok-add.ensures.added
-    ∙ trees-more quasi_tree c.loop-value.quasis.items c.in-Ok.value in
-    let some = s.heard_answer c.in-Some.is (c.in-Ok-eat_tpl_end.ensures.ends g.B.Bodies.is_faithful) in
+    (c.in_ok-quasi.ensures.parses g.B.Bodies.is_faithful).on in
+    let added = ap (λ v. trees (map quasi_tree v)) c.in_ok-add.ensures.added
+    ∙ trees-more quasi_tree c.loop-quasis.quasis.items c.in_ok-quasi.quasi in
+    let some = s.heard_answer c.in-Some.is (c.in_ok-end.ensures.ends g.B.Bodies.is_faithful) in
     let whole = ap (λ v. parts_e c.in-Some.end v exprs) (sym added) in
-    entered.left {q = record c.loop-value.p { input = c.eat_tpl_end.new.input }}
-    c.enter_tpl-before.ensures.before c.loop-value.invariant.0
-    (m.yes (Ok _)
-    (s.heard_answer whole (s.heard_after c.loop-value.invariant.0.on
+    m.yes (Ok _)
+    (s.heard_answer whole (s.heard_after c.loop-quasis.invariant.0
     (s.heard_after element (s.heard_call (λ x p. parts_by g.B.BodyForms.forms c.args.is_tagged now exprs p.0 x p.1)
     (λ x ts. refl) (λ x ts. refl) some))))
-    c.loop-value.invariant.2 c.loop-value.invariant.3)
-    c.set_ctx-in-Some.ensures.moves c.set_ctx-in-Some.ensures.context
+    c.loop-quasis.invariant.2 c.loop-quasis.invariant.3
 
-pub parse_tpl_elements-returns-in-Err-2 : goal.parse_tpl_elements-returns-in-Err-2
-parse_tpl_elements-returns-in-Err-2 g t c =
-    let inner = expr_within g.B.BodyForms.forms c.include_in-before.ensures.before c.include_in-before.ensures.moves
-    c.include_in-before.ensures.context c.parse_expr-read.ensures c.in-Err-2.ensures.answer c.in-Err-2.ensures.moves
-    c.in-Err-2.ensures.context in
-    let texts = trees (map quasi_tree c.loop-value.quasis.items) in
-    let exprs = trees (map (tree_of c.loop-value.p.nodes) c.loop-value.exprs.items) in
-    let now = trees_append texts (cons (quasi_tree c.in-Ok.value) nil) in
+pub parse_tpl_parts-returns-in_err-expr : goal.parse_tpl_parts-returns-in_err-expr
+parse_tpl_parts-returns-in_err-expr g t c =
+    let inner = expr_within g.B.BodyForms.forms c.get_ctx.ensures c.include_in-ctx.ensures.decides
+    c.replace_ctx-before.ensures.before c.replace_ctx-before.ensures.moves c.replace_ctx-before.ensures.context
+    c.parse_expr-read.ensures c.in_err-expr.was c.replace_ctx.ensures.moves c.replace_ctx.ensures.context in
+    let texts = trees (map quasi_tree c.loop-quasis.quasis.items) in
+    let exprs = trees (map (tree_of c.loop-quasis.p.nodes) c.loop-quasis.exprs.items) in
+    let now = trees_append texts (cons (quasi_tree c.in_ok-quasi.quasi) nil) in
     let element = s.on_call _ (tpl.behind_splits g.B.BodyForms.forms c.args.is_tagged texts exprs)
-    (c.in-Ok.ensures.parses g.B.Bodies.is_faithful).on in
+    (c.in_ok-quasi.ensures.parses g.B.Bodies.is_faithful).on in
     let opened = s.on_call (λ x p. parts_by g.B.BodyForms.forms c.args.is_tagged now exprs p.0 x p.1) (λ x ts. refl)
-    (s.on_answer c.in-None.is (c.in-Ok-eat_tpl_end.ensures.ends g.B.Bodies.is_faithful).on) in
-    entered.left {q = record c.parse_expr-read.new.p { input = c.leave.new.input }}
-    c.enter_tpl-before.ensures.before c.loop-value.invariant.0
-    (m.no (s.unheard_after c.loop-value.invariant.0.on (s.unheard_after element (s.unheard_after opened
+    (s.on_answer c.in-None.is (c.in_ok-end.ensures.ends g.B.Bodies.is_faithful).on) in
+    m.refused c.from_residual-in_err-expr.ensures.1
+    (s.unheard_after c.loop-quasis.invariant.0 (s.unheard_after element (s.unheard_after opened
     (s.unheard_call (λ x p. parts_behind g.B.BodyForms.forms c.args.is_tagged now
     (trees_append exprs (cons p.0 nil)) x p.1) (λ x ts. refl)
     (s.unheard_call (λ x p. tpl_expr_close g.B.BodyForms.forms p.0 x p.1) (λ x ts. refl) inner.reads)))))
-    (grows-then c.loop-value.invariant.2 inner.grows))
-    c.set_ctx-in-Err-2.ensures.moves c.set_ctx-in-Err-2.ensures.context
+    (grows-then c.loop-quasis.invariant.2 inner.grows)
 
-pub parse_tpl_elements-returns-in-Err-expect : goal.parse_tpl_elements-returns-in-Err-expect
-parse_tpl_elements-returns-in-Err-expect g t c =
-    let inner = expr_within g.B.BodyForms.forms {o = Ok c.in-Ok-2.value} c.include_in-before.ensures.before
-    c.include_in-before.ensures.moves c.include_in-before.ensures.context c.parse_expr-read.ensures
-    c.in-Ok-2.ensures.answer c.in-Ok-2.ensures.moves c.in-Ok-2.ensures.context in
-    let texts = trees (map quasi_tree c.loop-value.quasis.items) in
-    let exprs = trees (map (tree_of c.loop-value.p.nodes) c.loop-value.exprs.items) in
-    let now = trees_append texts (cons (quasi_tree c.in-Ok.value) nil) in
+pub parse_tpl_parts-returns-in_err-expect : goal.parse_tpl_parts-returns-in_err-expect
+parse_tpl_parts-returns-in_err-expect g t c =
+    let inner = expr_within g.B.BodyForms.forms c.get_ctx.ensures c.include_in-ctx.ensures.decides
+    c.replace_ctx-before.ensures.before c.replace_ctx-before.ensures.moves c.replace_ctx-before.ensures.context
+    c.parse_expr-read.ensures c.in_ok-expr.was c.replace_ctx.ensures.moves c.replace_ctx.ensures.context in
+    let texts = trees (map quasi_tree c.loop-quasis.quasis.items) in
+    let exprs = trees (map (tree_of c.loop-quasis.p.nodes) c.loop-quasis.exprs.items) in
+    let now = trees_append texts (cons (quasi_tree c.in_ok-quasi.quasi) nil) in
     let element = s.on_call _ (tpl.behind_splits g.B.BodyForms.forms c.args.is_tagged texts exprs)
-    (c.in-Ok.ensures.parses g.B.Bodies.is_faithful).on in
+    (c.in_ok-quasi.ensures.parses g.B.Bodies.is_faithful).on in
     let opened = s.on_call (λ x p. parts_by g.B.BodyForms.forms c.args.is_tagged now exprs p.0 x p.1) (λ x ts. refl)
-    (s.on_answer c.in-None.is (c.in-Ok-eat_tpl_end.ensures.ends g.B.Bodies.is_faithful).on) in
-    let e = tree_of c.parse_expr-read.new.p.nodes c.in-Ok-2.value in
-    entered.left {q = record c.parse_expr-read.new.p { input = c.expect.new.input }}
-    c.enter_tpl-before.ensures.before c.loop-value.invariant.0
-    (m.no (s.unheard_after c.loop-value.invariant.0.on (s.unheard_after element (s.unheard_after opened
+    (s.on_answer c.in-None.is (c.in_ok-end.ensures.ends g.B.Bodies.is_faithful).on) in
+    let e = tree_of c.parse_expr-read.new.p.nodes c.in_ok-expr.expr in
+    m.refused c.from_residual-in_err-expect.ensures.1
+    (s.unheard_after c.loop-quasis.invariant.0 (s.unheard_after element (s.unheard_after opened
     (s.unheard_call (λ x p. parts_behind g.B.BodyForms.forms c.args.is_tagged now
     (trees_append exprs (cons p.0 nil)) x p.1) (λ x ts. refl)
     (s.unheard_after (s.on_call (λ x p. tpl_expr_close g.B.BodyForms.forms p.0 x p.1) (λ x ts. refl) inner.reads.on)
-    (s.unheard_call (λ x q. Some (e, q.1)) (λ x ts. refl) (c.in-Err-expect.ensures.expects g.B.Bodies.is_faithful)))))))
-    (grows-then c.loop-value.invariant.2 inner.grows))
-    c.set_ctx-in-Err-expect.ensures.moves c.set_ctx-in-Err-expect.ensures.context
+    (s.unheard_call (λ x q. Some (e, q.1)) (λ x ts. refl) (c.in_err-expect.ensures.expects g.B.Bodies.is_faithful)))))))
+    (grows-then c.loop-quasis.invariant.2 inner.grows)
 
-pub parse_tpl_elements-returns-in-Err-add-2 : goal.parse_tpl_elements-returns-in-Err-add-2
-parse_tpl_elements-returns-in-Err-add-2 g t c =
-    let inner = expr_within g.B.BodyForms.forms {o = Ok c.in-Ok-2.value} c.include_in-before.ensures.before
-    c.include_in-before.ensures.moves c.include_in-before.ensures.context c.parse_expr-read.ensures
-    c.in-Ok-2.ensures.answer c.in-Ok-2.ensures.moves c.in-Ok-2.ensures.context in
-    entered.left {q = record c.parse_expr-read.new.p { input = c.expect.new.input }}
-    c.enter_tpl-before.ensures.before c.loop-value.invariant.0
-    (m.no (s.unheard_memory (s.forgoes_later (s.leads_then c.loop-value.invariant.0.on.leads
-    (s.leads_then (c.in-Ok.ensures.parses g.B.Bodies.is_faithful).on.leads
-    (s.leads_then (c.in-Ok-eat_tpl_end.ensures.ends g.B.Bodies.is_faithful).on.leads
-    (s.leads_then inner.reads.on.leads (c.in-Ok-expect.ensures.expects g.B.Bodies.is_faithful).on.leads))))
-    (s.forgoes_here g.met.I.Tokens.laws _ _ _ c.in-Err-add-2.ensures.refused)))
-    (grows-then c.loop-value.invariant.2 inner.grows))
-    c.set_ctx-in-Err-add-2.ensures.moves c.set_ctx-in-Err-add-2.ensures.context
-
-pub parse_tpl_elements-set_ctx-requires : goal.parse_tpl_elements-set_ctx-requires
-parse_tpl_elements-set_ctx-requires g t c =
-    entered.text c.parse_tpl_element.new.input (λ x. refl)
-    c.enter_tpl-before.ensures.before c.loop-value.invariant.0
-    ((c.in-Err.ensures.parses g.B.Bodies.is_faithful).refuses.spends.read.context)
-
-pub parse_tpl_elements-set_ctx-requires-in-Err-add : goal.parse_tpl_elements-set_ctx-requires-in-Err-add
-parse_tpl_elements-set_ctx-requires-in-Err-add g t c =
-    entered.text c.parse_tpl_element.new.input (λ x. refl)
-    c.enter_tpl-before.ensures.before c.loop-value.invariant.0
-    ((c.in-Ok.ensures.parses g.B.Bodies.is_faithful).on.leads.read.context)
-
-pub parse_tpl_elements-set_ctx-requires-in-Err-eat_tpl_end : goal.parse_tpl_elements-set_ctx-requires-in-Err-eat_tpl_end
-parse_tpl_elements-set_ctx-requires-in-Err-eat_tpl_end g t c =
-    entered.text c.eat_tpl_end.new.input (λ x. refl)
-    c.enter_tpl-before.ensures.before c.loop-value.invariant.0
-    ((c.in-Err-eat_tpl_end.ensures.ends g.B.Bodies.is_faithful).refuses.spends.read.context
-    ∙ (c.in-Ok.ensures.parses g.B.Bodies.is_faithful).on.leads.read.context)
-
-pub parse_tpl_elements-set_ctx-requires-in-Some : goal.parse_tpl_elements-set_ctx-requires-in-Some
-parse_tpl_elements-set_ctx-requires-in-Some g t c =
-    entered.text c.eat_tpl_end.new.input (λ x. refl)
-    c.enter_tpl-before.ensures.before c.loop-value.invariant.0
-    ((c.in-Ok-eat_tpl_end.ensures.ends g.B.Bodies.is_faithful).on.leads.read.context
-    ∙ (c.in-Ok.ensures.parses g.B.Bodies.is_faithful).on.leads.read.context)
-
-pub parse_tpl_elements-set_ctx-requires-in-Err-2 : goal.parse_tpl_elements-set_ctx-requires-in-Err-2
-parse_tpl_elements-set_ctx-requires-in-Err-2 g t c =
-    let inner = expr_within g.B.BodyForms.forms c.include_in-before.ensures.before c.include_in-before.ensures.moves
-    c.include_in-before.ensures.context c.parse_expr-read.ensures c.in-Err-2.ensures.answer c.in-Err-2.ensures.moves
-    c.in-Err-2.ensures.context in
-    entered.text c.leave.new.input (λ x. refl)
-    c.enter_tpl-before.ensures.before c.loop-value.invariant.0
-    (inner.reads.refuses.spends.read.context
-    ∙ (c.in-Ok-eat_tpl_end.ensures.ends g.B.Bodies.is_faithful).on.leads.read.context
-    ∙ (c.in-Ok.ensures.parses g.B.Bodies.is_faithful).on.leads.read.context)
-
-pub parse_tpl_elements-set_ctx-requires-in-Err-expect : goal.parse_tpl_elements-set_ctx-requires-in-Err-expect
-parse_tpl_elements-set_ctx-requires-in-Err-expect g t c =
-    let inner = expr_within g.B.BodyForms.forms {o = Ok c.in-Ok-2.value} c.include_in-before.ensures.before
-    c.include_in-before.ensures.moves c.include_in-before.ensures.context c.parse_expr-read.ensures
-    c.in-Ok-2.ensures.answer c.in-Ok-2.ensures.moves c.in-Ok-2.ensures.context in
-    entered.text c.expect.new.input (λ x. refl)
-    c.enter_tpl-before.ensures.before c.loop-value.invariant.0
-    ((c.in-Err-expect.ensures.expects g.B.Bodies.is_faithful).refuses.spends.read.context
-    ∙ inner.reads.on.leads.read.context ∙ (c.in-Ok-eat_tpl_end.ensures.ends
-    g.B.Bodies.is_faithful).on.leads.read.context ∙ (c.in-Ok.ensures.parses
-    g.B.Bodies.is_faithful).on.leads.read.context)
-
-pub parse_tpl_elements-set_ctx-requires-in-Err-add-2 : goal.parse_tpl_elements-set_ctx-requires-in-Err-add-2
-parse_tpl_elements-set_ctx-requires-in-Err-add-2 g t c =
-    let inner = expr_within g.B.BodyForms.forms {o = Ok c.in-Ok-2.value} c.include_in-before.ensures.before
-    c.include_in-before.ensures.moves c.include_in-before.ensures.context c.parse_expr-read.ensures
-    c.in-Ok-2.ensures.answer c.in-Ok-2.ensures.moves c.in-Ok-2.ensures.context in
-    entered.text c.expect.new.input (λ x. refl)
-    c.enter_tpl-before.ensures.before c.loop-value.invariant.0
-    ((c.in-Ok-expect.ensures.expects g.B.Bodies.is_faithful).on.leads.read.context
-    ∙ inner.reads.on.leads.read.context ∙ (c.in-Ok-eat_tpl_end.ensures.ends
-    g.B.Bodies.is_faithful).on.leads.read.context ∙ (c.in-Ok.ensures.parses
-    g.B.Bodies.is_faithful).on.leads.read.context)
+pub parse_tpl_parts-returns-in_err-add-2 : goal.parse_tpl_parts-returns-in_err-add-2
+parse_tpl_parts-returns-in_err-add-2 g t c =
+    let inner = expr_within g.B.BodyForms.forms c.get_ctx.ensures c.include_in-ctx.ensures.decides
+    c.replace_ctx-before.ensures.before c.replace_ctx-before.ensures.moves c.replace_ctx-before.ensures.context
+    c.parse_expr-read.ensures c.in_ok-expr.was c.replace_ctx.ensures.moves c.replace_ctx.ensures.context in
+    m.refused c.from_residual-in_err-add-2.ensures.1
+    (s.unheard_memory (s.forgoes_later (s.leads_then c.loop-quasis.invariant.0.leads
+    (s.leads_then (c.in_ok-quasi.ensures.parses g.B.Bodies.is_faithful).on.leads
+    (s.leads_then (c.in_ok-end.ensures.ends g.B.Bodies.is_faithful).on.leads
+    (s.leads_then inner.reads.on.leads (c.in_ok-expect.ensures.expects g.B.Bodies.is_faithful).on.leads))))
+    (s.forgoes_here g.met.I.Tokens.laws _ _ _ c.in_err-add-2.ensures.refused)))
+    (grows-then c.loop-quasis.invariant.2 inner.grows)
 
 pub parse_object_pat_prop-returns-in_err-dots : goal.parse_object_pat_prop-returns-in_err-dots
 parse_object_pat_prop-returns-in_err-dots g t c =
@@ -3862,10 +3612,10 @@ parse_object_pat_prop-returns-in_ok-value-in-Value g t c =
 
 pub parse_object_pat_prop-returns-in_err-value-in-Default : goal.parse_object_pat_prop-returns-in_err-value-in-Default
 parse_object_pat_prop-returns-in_err-value-in-Default g t c =
-    let inner = assign_within g.B.BodyForms.forms c.include_in-before.ensures.before c.include_in-before.ensures.moves
-    c.include_in-before.ensures.context c.parse_assignment_expr-read.ensures
-    c.in_err-value-in-Default.ensures.answer c.in_err-value-in-Default.ensures.moves
-    c.in_err-value-in-Default.ensures.context in
+    let inner = assign_within g.B.BodyForms.forms c.get_ctx.ensures c.include_in-ctx.ensures.decides
+    c.replace_ctx-before.ensures.before c.replace_ctx-before.ensures.moves c.replace_ctx-before.ensures.context
+    c.parse_assignment_expr-read.ensures c.in_err-value-in-Default.was c.replace_ctx.ensures.moves
+    c.replace_ctx.ensures.context in
     let named = pat_prop.key_read _ c.in-None.is (c.in_ok-dots.ensures.eats _) c.in_ok-key.ensures.reads in
     m.refused c.from_residual-in_err-value-in-Default.ensures.1
     (pat_prop.default_refused _ (tree_of c.parse_prop_name.new.p.nodes) c.in_ok-key.key named c.in-Default.name
@@ -3875,10 +3625,10 @@ parse_object_pat_prop-returns-in_err-value-in-Default g t c =
 pub parse_object_pat_prop-returns-in_ok-value-in-Default : goal.parse_object_pat_prop-returns-in_ok-value-in-Default
 parse_object_pat_prop-returns-in_ok-value-in-Default g t c =
     let value = c.in_ok-value-in-Default.value in
-    let inner = assign_within g.B.BodyForms.forms {o =
-    Ok value} c.include_in-before.ensures.before c.include_in-before.ensures.moves
-    c.include_in-before.ensures.context c.parse_assignment_expr-read.ensures c.in_ok-value-in-Default.ensures.answer
-    c.in_ok-value-in-Default.ensures.moves c.in_ok-value-in-Default.ensures.context in
+    let inner = assign_within g.B.BodyForms.forms c.get_ctx.ensures c.include_in-ctx.ensures.decides
+    c.replace_ctx-before.ensures.before c.replace_ctx-before.ensures.moves c.replace_ctx-before.ensures.context
+    c.parse_assignment_expr-read.ensures c.in_ok-value-in-Default.was c.replace_ctx.ensures.moves
+    c.replace_ctx.ensures.context in
     let ns = c.parse_prop_name.new.p.nodes in
     let named = pat_prop.key_read _ c.in-None.is (c.in_ok-dots.ensures.eats _) c.in_ok-key.ensures.reads in
     let equals = pat_prop.behind_read _ (tree_of ns) c.in_ok-key.key named _ c.in-Default.is
@@ -3959,9 +3709,10 @@ parse_binding_element-returns-in_err-eat g t c =
 
 pub parse_binding_element-returns-in_err-value-in-Some : goal.parse_binding_element-returns-in_err-value-in-Some
 parse_binding_element-returns-in_err-value-in-Some g t c =
-    let inner = assign_within g.B.BodyForms.forms c.include_in-before.ensures.before c.include_in-before.ensures.moves
-    c.include_in-before.ensures.context c.parse_assignment_expr-read.ensures c.in_err-value-in-Some.ensures.answer
-    c.in_err-value-in-Some.ensures.moves c.in_err-value-in-Some.ensures.context in
+    let inner = assign_within g.B.BodyForms.forms c.get_ctx.ensures c.include_in-ctx.ensures.decides
+    c.replace_ctx-before.ensures.before c.replace_ctx-before.ensures.moves c.replace_ctx-before.ensures.context
+    c.parse_assignment_expr-read.ensures c.in_err-value-in-Some.was c.replace_ctx.ensures.moves
+    c.replace_ctx.ensures.context in
     let left = pat_at c.parse_pat.new.p.nodes c.in_ok-left.left in
     let some = s.eats_some g.B.Bodies.is_faithful is_equals _ c.in-Some.field-0 _ _ c.in-Some.is
     (c.in_ok-eat.ensures.eats g.B.Bodies.is_faithful) in
@@ -3980,10 +3731,10 @@ parse_binding_element-default_pat-requires-clause-left g t c =
 
 pub parse_binding_element-returns-in_ok-value-in-Some : goal.parse_binding_element-returns-in_ok-value-in-Some
 parse_binding_element-returns-in_ok-value-in-Some g t c =
-    let inner = assign_within g.B.BodyForms.forms {o =
-    Ok c.in_ok-value-in-Some.value} c.include_in-before.ensures.before c.include_in-before.ensures.moves
-    c.include_in-before.ensures.context c.parse_assignment_expr-read.ensures c.in_ok-value-in-Some.ensures.answer
-    c.in_ok-value-in-Some.ensures.moves c.in_ok-value-in-Some.ensures.context in
+    let inner = assign_within g.B.BodyForms.forms c.get_ctx.ensures c.include_in-ctx.ensures.decides
+    c.replace_ctx-before.ensures.before c.replace_ctx-before.ensures.moves c.replace_ctx-before.ensures.context
+    c.parse_assignment_expr-read.ensures c.in_ok-value-in-Some.was c.replace_ctx.ensures.moves
+    c.replace_ctx.ensures.context in
     let left = pat_at c.parse_pat.new.p.nodes c.in_ok-left.left in
     let some = s.eats_some g.B.Bodies.is_faithful is_equals _ c.in-Some.field-0 _ _ c.in-Some.is
     (c.in_ok-eat.ensures.eats g.B.Bodies.is_faithful) in
@@ -4066,41 +3817,44 @@ parse_pat-returns-in_err-less-in-Object g t c =
 
 pub parse_pat-returns-in_err-props-in-Object : goal.parse_pat-returns-in_err-props-in-Object
 parse_pat-returns-in_err-props-in-Object g t c =
-    let opens = c.open_object.ensures.opens in
     m.refused c.from_residual-in_err-props-in-Object.ensures.1
     (pat_begins.object_refused g.B.BodyForms.forms c.in_ok-look.ensures.looks
-    (sym c.pat_kind.ensures ∙ c.in-Object.is) opens.took
-    (leaving.unheard_aside opens.moves (opens.inside ∙ ap deciding opens.outside)
-    (leaving.leaves_err (λ l. props_done (pat_props_at c.parse_pat_props-props.new.p.nodes l))
-    c.parse_pat_props-props.result _ c.in_err-props-in-Object.was c.parse_pat_props-props.ensures.reads)
-    c.set_ctx.ensures.moves (c.set_ctx.ensures.context ∙ opens.outside)))
-    c.parse_pat_props-props.ensures.grows
+    (sym c.pat_kind.ensures ∙ c.in-Object.is) c.skip-in-Object.ensures.took.1
+    (leaving.unheard_aside c.replace_ctx-before.ensures.moves (as_set (λ x. x) c.get_ctx.ensures
+    c.without_colon-ctx.ensures.decides c.replace_ctx-before.ensures.context)
+    (leaving.leaves_err (λ l. props_done (pat_props_at c.parse_pat_props-read.new.p.nodes l))
+    c.parse_pat_props-read.result _ c.in_err-props-in-Object.was c.parse_pat_props-read.ensures.reads)
+    c.replace_ctx.ensures.moves (c.replace_ctx.ensures.context ∙ c.replace_ctx-before.ensures.before)))
+    c.parse_pat_props-read.ensures.grows
 
 pub parse_pat-object_pat-requires : goal.parse_pat-object_pat-requires
 parse_pat-object_pat-requires g t c =
     record {
-      apart = apart-down (pat_props_parts c.in_ok-props-in-Object.field-0.items)
-          (m.held_is _ c.parse_pat_props-props.result c.in_ok-props-in-Object.field-0 c.in_ok-props-in-Object.was
-          c.parse_pat_props-props.ensures.from);
+      apart = apart-down (pat_props_parts c.in_ok-props-in-Object.props.items)
+          (m.held_is _ c.parse_pat_props-read.result c.in_ok-props-in-Object.props c.in_ok-props-in-Object.was
+          c.parse_pat_props-read.ensures.from);
     }
 
 pub parse_pat-returns-in_ok-props-in-Object : goal.parse_pat-returns-in_ok-props-in-Object
 parse_pat-returns-in_ok-props-in-Object g t c =
-    let opens = c.open_object.ensures.opens in
-    let ns = c.parse_pat_props-props.new.p.nodes in
-    let list = c.in_ok-props-in-Object.field-0 in
-    let apart = m.held_is _ c.parse_pat_props-props.result list c.in_ok-props-in-Object.was
-    c.parse_pat_props-props.ensures.from in
+    let ns = c.parse_pat_props-read.new.p.nodes in
+    let list = c.in_ok-props-in-Object.props in
+    let took = c.skip-in-Object.ensures.took.1 in
+    let start = c.cur_span-in-Object.result in
+    let place = ap (λ v. v.lo) (sym (s.place_was took start c.cur_span-in-Object.ensures)) in
+    let apart = m.held_is _ c.parse_pat_props-read.result list c.in_ok-props-in-Object.was
+    c.parse_pat_props-read.ensures.from in
     let made = c.object_pat.ensures (count c.args.p.now.nodes) apart in
     m.yes c.object_pat.result
     (pat_begins.object_reads g.B.BodyForms.forms (pat_at c.object_pat.new.p.nodes)
     (pat_props_at ns list) c.object_pat.result c.object_pat.new.p.input c.in_ok-look.ensures.looks
-    (sym c.pat_kind.ensures ∙ c.in-Object.is) opens.took opens.place
-    (s.on_aside opens.moves (opens.inside ∙ ap deciding opens.outside)
-    (leaving.leaves_ok (λ l. props_done (pat_props_at ns l)) c.parse_pat_props-props.result list
-    c.in_ok-props-in-Object.was c.parse_pat_props-props.ensures.reads)
-    c.set_ctx.ensures.moves (c.set_ctx.ensures.context ∙ opens.outside)) made.reads)
-    (grows-then c.parse_pat_props-props.ensures.grows made.grows) made.from
+    (sym c.pat_kind.ensures ∙ c.in-Object.is) took place
+    (s.on_aside c.replace_ctx-before.ensures.moves (as_set (λ x. x) c.get_ctx.ensures
+    c.without_colon-ctx.ensures.decides c.replace_ctx-before.ensures.context)
+    (leaving.leaves_ok (λ l. props_done (pat_props_at ns l)) c.parse_pat_props-read.result list
+    c.in_ok-props-in-Object.was c.parse_pat_props-read.ensures.reads)
+    c.replace_ctx.ensures.moves (c.replace_ctx.ensures.context ∙ c.replace_ctx-before.ensures.before)) made.reads)
+    (grows-then c.parse_pat_props-read.ensures.grows made.grows) made.from
 
 pub parse_pat-returns-in-Plain : goal.parse_pat-returns-in-Plain
 parse_pat-returns-in-Plain g t c =
@@ -4664,3 +4418,4 @@ parse_formal_params-loop-params-preserved g t c =
           (c.in_ok-next_param.ensures.next g.B.Bodies.is_faithful).leads item.reads.on
           (c.in_ok-rest-in-Item.ensures.separates g.B.Bodies.is_faithful).leads c.loop-params.invariant.5 l n),
     )
+

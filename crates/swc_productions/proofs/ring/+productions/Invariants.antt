@@ -7,7 +7,6 @@ use Rattle.swc_input.specs.Buffer.{to_come}
 use Rattle.swc_ast.specs.Parts.{item_trees, quasi_tree}
 use Rattle.swc_ast.specs.Tree.{trees}
 use Rattle.swc_grammar.specs.Symbols.{Args, Elements, Props, Parts}
-use Rattle.swc_grammar.specs.Tokens.{include_in}
 use Rattle.swc_grammar.specs.Clean.{sym, links, run}
 use Rattle.swc_nodes.specs.NodeParts.{expr_part, args_parts}
 use Rattle.swc_nodes.specs.Lists.{elem_parts, elem_trees, props_parts, props_trees, exprs_parts, expr_trees}
@@ -15,7 +14,6 @@ use Rattle.swc_nodes.specs.declared.node.ExprId.{ExprId}
 use Rattle.swc_nodes.specs.Pending.{all_pending, operand_parts, first_operand}
 use Rattle.swc_nodes.specs.GrowingNodes.{tree_at, count, first_at, Apart, From, Grows}
 use Rattle.swc_operators.specs.Assignments.{seqs_more}
-use Rattle.swc_operators.specs.Entered.{Entered, EnteredList}
 use Rattle.swc_operators.specs.Pending.{pending_reads}
 use Rattle.swc_steps.specs.Loops.{ItemsRead}
 use Rattle.swc_input.specs.Calls.{Loud, recorded}
@@ -34,22 +32,22 @@ use Rattle.swc_patterns.specs.ParamsRead.{AllReadAlone}
 use Rattle.swc_patterns.specs.Rests.{stage_of}
 
 abbrev pub decreases-parse_primary_expr : goal.decreases-parse_primary_expr
-decreases-parse_primary_expr g l = l.room * 20 + 6
+decreases-parse_primary_expr g l = l.room * 20 + 7
 
 abbrev pub decreases-parse_base : goal.decreases-parse_base
-decreases-parse_base g l = l.room * 20 + 7
+decreases-parse_base g l = l.room * 20 + 8
 
 abbrev pub decreases-parse_super : goal.decreases-parse_super
-decreases-parse_super g l = l.room * 20 + 3
+decreases-parse_super g l = l.room * 20 + 4
 
 abbrev pub decreases-parse_lhs_expr : goal.decreases-parse_lhs_expr
-decreases-parse_lhs_expr g l = l.room * 20 + 9
+decreases-parse_lhs_expr g l = l.room * 20 + 10
 
 abbrev pub decreases-parse_member_expr : goal.decreases-parse_member_expr
-decreases-parse_member_expr g l = l.room * 20 + 8
+decreases-parse_member_expr g l = l.room * 20 + 9
 
 abbrev pub decreases-parse_subscripts : goal.decreases-parse_subscripts
-decreases-parse_subscripts g l = l.room * 20 + 3
+decreases-parse_subscripts g l = l.room * 20 + 4
 
 abbrev pub invariant-parse_subscripts-loop-head : goal.invariant-parse_subscripts-loop-head
 invariant-parse_subscripts-loop-head g l =
@@ -65,22 +63,24 @@ abbrev pub decreases-parse_subscripts-loop-head : goal.decreases-parse_subscript
 decreases-parse_subscripts-loop-head g l = to_come g.I.Tokens.model l.p.input
 
 abbrev pub decreases-parse_args : goal.decreases-parse_args
-decreases-parse_args g l = l.room * 20 + 2
+decreases-parse_args g l = l.room * 20 + 3
 
-abbrev pub invariant-parse_args-loop-value : goal.invariant-parse_args-loop-value
-invariant-parse_args-loop-value g l =
-    EnteredList g.I.Tokens.model g.B.Bodies.is_faithful include_in
-    (run g.B.BodyForms.forms (sym (Args l.fn.is_dynamic_import)))
+abbrev pub decreases-parse_arg_items : goal.decreases-parse_arg_items
+decreases-parse_arg_items g l = l.room * 20 + 2
+
+abbrev pub invariant-parse_arg_items-loop-items : goal.invariant-parse_arg_items-loop-items
+invariant-parse_arg_items-loop-items g l =
+    ItemsRead g.I.Tokens.model g.B.Bodies.is_faithful (run g.B.BodyForms.forms (sym (Args l.fn.is_dynamic_import)))
     (item_trees (tree_of l.p.nodes) l.items.items) (args_parts l.items) l.trailing_comma l.fn.p l.p
 
-abbrev pub decreases-parse_args-loop-value : goal.decreases-parse_args-loop-value
-decreases-parse_args-loop-value g l = to_come g.I.Tokens.model l.p.input
+abbrev pub decreases-parse_arg_items-loop-items : goal.decreases-parse_arg_items-loop-items
+decreases-parse_arg_items-loop-items g l = to_come g.I.Tokens.model l.p.input
 
 abbrev pub decreases-parse_operand : goal.decreases-parse_operand
-decreases-parse_operand g l = l.room * 20 + 11
+decreases-parse_operand g l = l.room * 20 + 12
 
 abbrev pub decreases-parse_unary_expr : goal.decreases-parse_unary_expr
-decreases-parse_unary_expr g l = l.room * 20 + 10
+decreases-parse_unary_expr g l = l.room * 20 + 11
 
 abbrev pub decreases-parse_plain_operand : goal.decreases-parse_plain_operand
 decreases-parse_plain_operand g l = l.room * 20 + 9
@@ -89,7 +89,7 @@ abbrev pub decreases-parse_plain_member : goal.decreases-parse_plain_member
 decreases-parse_plain_member g l = l.room * 20 + 8
 
 abbrev pub decreases-parse_operators : goal.decreases-parse_operators
-decreases-parse_operators g l = l.room * 20 + 12
+decreases-parse_operators g l = l.room * 20 + 13
 
 abbrev pub invariant-parse_operators-loop-pending : goal.invariant-parse_operators-loop-pending
 invariant-parse_operators-loop-pending g l =
@@ -106,10 +106,10 @@ abbrev pub decreases-parse_operators-loop-pending : goal.decreases-parse_operato
 decreases-parse_operators-loop-pending g l = to_come g.I.Tokens.model l.p.input * 2 + length (all_pending l.pending)
 
 abbrev pub decreases-recover_operators : goal.decreases-recover_operators
-decreases-recover_operators g l = l.room * 20 + 13
+decreases-recover_operators g l = l.room * 20 + 14
 
 abbrev pub decreases-parse_bin_expr : goal.decreases-parse_bin_expr
-decreases-parse_bin_expr g l = l.room * 20 + 14
+decreases-parse_bin_expr g l = l.room * 20 + 15
 
 abbrev pub decreases-parse_expr : goal.decreases-parse_expr
 decreases-parse_expr g l = l.room * 20 + 1
@@ -136,19 +136,22 @@ abbrev pub decreases-parse_yield_expr : goal.decreases-parse_yield_expr
 decreases-parse_yield_expr g l = l.room * 20 + 1
 
 abbrev pub decreases-parse_arrow_or_assign : goal.decreases-parse_arrow_or_assign
-decreases-parse_arrow_or_assign g l = l.room * 20 + 15
+decreases-parse_arrow_or_assign g l = l.room * 20 + 16
 
 abbrev pub decreases-parse_arrow_or_operand : goal.decreases-parse_arrow_or_operand
-decreases-parse_arrow_or_operand g l = l.room * 20 + 4
+decreases-parse_arrow_or_operand g l = l.room * 20 + 5
 
 abbrev pub decreases-parse_arrow_or_base : goal.decreases-parse_arrow_or_base
-decreases-parse_arrow_or_base g l = l.room * 20 + 3
+decreases-parse_arrow_or_base g l = l.room * 20 + 4
 
 abbrev pub decreases-parse_arrow_rest : goal.decreases-parse_arrow_rest
-decreases-parse_arrow_rest g l = l.room * 20 + 2
+decreases-parse_arrow_rest g l = l.room * 20 + 3
 
 abbrev pub decreases-parse_arrow_body : goal.decreases-parse_arrow_body
-decreases-parse_arrow_body g l = l.room * 20 + 1
+decreases-parse_arrow_body g l = l.room * 20 + 2
+
+abbrev pub decreases-parse_body : goal.decreases-parse_body
+decreases-parse_body g l = l.room * 20 + 1
 
 abbrev pub decreases-finish_assignment_expr : goal.decreases-finish_assignment_expr
 decreases-finish_assignment_expr g l = l.room * 20 + 1
@@ -168,16 +171,22 @@ abbrev pub decreases-parse_elements-loop-items : goal.decreases-parse_elements-l
 decreases-parse_elements-loop-items g l = to_come g.I.Tokens.model l.p.input
 
 abbrev pub decreases-parse_prop_name : goal.decreases-parse_prop_name
-decreases-parse_prop_name g l = l.room * 20 + 1
+decreases-parse_prop_name g l = l.room * 20 + 2
+
+abbrev pub decreases-parse_key : goal.decreases-parse_key
+decreases-parse_key g l = l.room * 20 + 1
 
 abbrev pub decreases-parse_object_prop : goal.decreases-parse_object_prop
-decreases-parse_object_prop g l = l.room * 20 + 4
+decreases-parse_object_prop g l = l.room * 20 + 5
 
 abbrev pub decreases-parse_method : goal.decreases-parse_method
-decreases-parse_method g l = l.room * 20 + 3
+decreases-parse_method g l = l.room * 20 + 4
+
+abbrev pub decreases-parse_method_inside : goal.decreases-parse_method_inside
+decreases-parse_method_inside g l = l.room * 20 + 3
 
 abbrev pub decreases-parse_props : goal.decreases-parse_props
-decreases-parse_props g l = l.room * 20 + 5
+decreases-parse_props g l = l.room * 20 + 6
 
 abbrev pub invariant-parse_props-loop-items : goal.invariant-parse_props-loop-items
 invariant-parse_props-loop-items g l =
@@ -189,11 +198,14 @@ abbrev pub decreases-parse_props-loop-items : goal.decreases-parse_props-loop-it
 decreases-parse_props-loop-items g l = to_come g.I.Tokens.model l.p.input
 
 abbrev pub decreases-parse_tpl_elements : goal.decreases-parse_tpl_elements
-decreases-parse_tpl_elements g l = l.room * 20 + 2
+decreases-parse_tpl_elements g l = l.room * 20 + 3
 
-abbrev pub invariant-parse_tpl_elements-loop-value : goal.invariant-parse_tpl_elements-loop-value
-invariant-parse_tpl_elements-loop-value g l =
-    Entered g.I.Tokens.model g.B.Bodies.is_faithful (λ x. x)
+abbrev pub decreases-parse_tpl_parts : goal.decreases-parse_tpl_parts
+decreases-parse_tpl_parts g l = l.room * 20 + 2
+
+abbrev pub invariant-parse_tpl_parts-loop-quasis : goal.invariant-parse_tpl_parts-loop-quasis
+invariant-parse_tpl_parts-loop-quasis g l =
+    On g.I.Tokens.model g.B.Bodies.is_faithful
     (run g.B.BodyForms.forms (sym (Parts l.fn.is_tagged)))
     (parts_behind g.B.BodyForms.forms l.fn.is_tagged (trees (map quasi_tree l.quasis.items))
     (trees (map (tree_of l.p.nodes) l.exprs.items)))
@@ -202,11 +214,11 @@ invariant-parse_tpl_elements-loop-value g l =
     × Grows l.fn.p.nodes l.p.nodes
     × Apart (count l.fn.p.nodes) l.p.nodes (exprs_parts l.exprs)
 
-abbrev pub decreases-parse_tpl_elements-loop-value : goal.decreases-parse_tpl_elements-loop-value
-decreases-parse_tpl_elements-loop-value g l = to_come g.I.Tokens.model l.p.input
+abbrev pub decreases-parse_tpl_parts-loop-quasis : goal.decreases-parse_tpl_parts-loop-quasis
+decreases-parse_tpl_parts-loop-quasis g l = to_come g.I.Tokens.model l.p.input
 
 abbrev pub decreases-parse_object_pat_prop : goal.decreases-parse_object_pat_prop
-decreases-parse_object_pat_prop g l = l.room * 20 + 2
+decreases-parse_object_pat_prop g l = l.room * 20 + 3
 
 abbrev pub invariant-parse_pat_props-loop-items : goal.invariant-parse_pat_props-loop-items
 invariant-parse_pat_props-loop-items g l =
@@ -216,7 +228,7 @@ abbrev pub decreases-parse_pat_props-loop-items : goal.decreases-parse_pat_props
 decreases-parse_pat_props-loop-items g l = to_come g.I.Tokens.model l.p.input
 
 abbrev pub decreases-parse_pat_props : goal.decreases-parse_pat_props
-decreases-parse_pat_props g l = l.room * 20 + 3
+decreases-parse_pat_props g l = l.room * 20 + 4
 
 abbrev pub decreases-parse_binding_element : goal.decreases-parse_binding_element
 decreases-parse_binding_element g l = l.room * 20 + 1

@@ -1,5 +1,5 @@
 use Rattle.swc_steps.proofs.Steps.{moved}
-use Rattle.swc_steps.proofs.tokens.set_ctx.Goals as goal
+use Rattle.swc_steps.proofs.tokens.replace_ctx.Goals as goal
 
 pub returns-clause-moves : goal.returns-clause-moves
 returns-clause-moves g c = moved g.met.I.Tokens.laws
