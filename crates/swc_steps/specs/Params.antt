@@ -1,4 +1,5 @@
--- Formal parameters among nodes (15.1): the tree of a pattern, and of parameters, each of which lies where its pattern does.
+-- Formal parameters among nodes (15.1): the tree of a pattern, and of parameters, each of which lies where its pattern
+-- does.
 use Rattle.std.specs.Prelude.{◌≡◌, ℕ, List, [], ◌∷◌, Some, None, map}
 use Rattle.std.specs.{declared.alloc.Global.Global, declared.vec.Vec.Vec}
 use Rattle.swc_input.specs.declared.token.TokenAndSpan.{TokenAndSpan}

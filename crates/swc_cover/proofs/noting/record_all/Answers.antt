@@ -2,7 +2,7 @@ use Rattle.std.proofs.Common.{true, refl, sym, subst, arith}
 use Rattle.std.proofs.lemmas.Result.{err_from_is_err_and}
 use Rattle.swc_cover.proofs.{Checked.faults-more, Checked.faults-all, Clear.stays-then, FaultsNoted.errors-all, FaultsNoted.errors-more}
 use Rattle.swc_input.specs.Recordings.{NotesAll}
-use Rattle.swc_steps.proofs.Emitted.{emitted, fit_seen, notes-none, notes-one, notes-then, one_more, unrecorded}
+use Rattle.swc_steps.proofs.Emitted.{fit_seen, notes-none, notes-one, notes-then}
 use Rattle.swc_steps.proofs.Steps.{check_passes, forgoes_later}
 use Rattle.swc_cover.proofs.noting.record_all.Goals as goal
 
@@ -18,18 +18,16 @@ pub returns-in_err-emit_err-clause-checks : goal.returns-in_err-emit_err-clause-
 returns-in_err-emit_err-clause-checks g c =
     let p = err_from_is_err_and c.from_residual.result c.from_residual.ensures.1 in rw (p.1, p.2)
     (forgoes_later c.loop-fault.invariant.0.leads
-    (unrecorded g.met.I.Tokens.laws c.in_err-emit_err.ensures.read c.in_err-emit_err.ensures.refused.2))
+    c.in_err-emit_err.ensures.tries)
 
 pub loop-fault-preserved : goal.loop-fault-preserved
 loop-fault-preserved g c =
-    let laws = g.met.I.Tokens.laws in
     let done = c.in_ok-emit_err.ensures in
-    let leads = emitted laws done.read (λ s. (done.silent s).1) done.recorded in
     let found = errors-more c.deref-fault-items.result.now c.loop-fault.fault-index _ c.in_order.result c.kind_of.result
     c.loop-fault-test.true c.in_order.ensures c.kind_of.ensures.is in (
       faults-more c.deref-fault-items.result.now c.loop-fault.fault-index c.loop-fault-test.true
-          c.loop-fault.invariant.0 leads (λ l. one_more laws (done.recorded l)),
-      let a = c.loop-fault.invariant.1 in let b = leads.read.lower in omega arith,
+          c.loop-fault.invariant.0 done.tries done.notes,
+      let a = c.loop-fault.invariant.1 in let b = done.falls in omega arith,
       stays-then _ _ _ c.loop-fault.invariant.2 (λ n. done.kept (fit_seen _ n)),
       rw (found) (notes-then g.I.Tokens.model c.loop-fault.invariant.0.leads c.loop-fault.invariant.3
           (notes-one g.I.Tokens.model _ _ _ (λ s. (done.silent s).1) done.recorded)),

@@ -1,7 +1,7 @@
 use Rattle.std.proofs.Common.{refl, sym, ap, subst}
 use Rattle.std.proofs.lemmas.Result.{err_from_is_err_and}
 use Rattle.std.specs.Prelude.{IsSome}
-use Rattle.swc_steps.proofs.Steps.{forgoes_refuses, refused, refuses_later}
+use Rattle.swc_steps.proofs.Steps.{forgoes_refuses, refuses_later}
 use Rattle.swc_cover.proofs.FaultsNoted.{refused-at}
 use Rattle.swc_cover.specs.Noting.{no_pattern, refusal_of}
 use Rattle.swc_context.specs.declared.error.SyntaxError.TheVariants.{InvalidPat}
@@ -15,8 +15,7 @@ returns-in_err-record_all-clause-refuses g c =
 pub returns-in-Some-clause-refuses : goal.returns-in-Some-clause-refuses
 returns-in-Some-clause-refuses g c = (
   refuses_later c.in_ok-record_all.ensures.checks.leads
-      (refused g.met.I.Tokens.laws (λ here. no_pattern c.in-Some.span) _ (λ here. λ e. cc)
-      (refused-at c.in-Some.span c.in_order.result InvalidPat c.in_order.ensures c.syntax_error.ensures.refused)),
+      (c.syntax_error.ensures.refuses (λ e. cc)),
   λ n. subst IsSome (sym c.in-Some.is) refl,
 )
 

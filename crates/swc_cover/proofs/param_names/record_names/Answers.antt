@@ -1,10 +1,9 @@
-use Rattle.std.proofs.Common.{[], Ok, get_or, sym, subst, arith}
+use Rattle.std.proofs.Common.{sym, subst, arith}
 use Rattle.std.proofs.lemmas.Result.{err_from_is_err_and}
 use Rattle.swc_cover.proofs.Checked.{names-none, names-more, names-all}
 use Rattle.swc_cover.proofs.FaultsNoted.{none-strict}
 use Rattle.swc_cover.proofs.FaultsNoted as errors
-use Rattle.swc_steps.proofs.{Emitted.unrecorded, Steps.forgoes_later, Steps.strict_checked}
-use Rattle.swc_cover.specs.Noting.{name_error, NotesStrict}
+use Rattle.swc_steps.proofs.Steps.{forgoes_later}
 use Rattle.swc_cover.proofs.param_names.record_names.Goals as goal
 
 pub loop-span-init : goal.loop-span-init
@@ -13,19 +12,15 @@ loop-span-init g c = (names-none g.met.I.Tokens.laws _ _, omega arith, none-stri
 pub returns-in_err-emit_strict_mode_err-clause-checks : goal.returns-in_err-emit_strict_mode_err-clause-checks
 returns-in_err-emit_strict_mode_err-clause-checks g c =
     let p = err_from_is_err_and c.from_residual.result c.from_residual.ensures.1 in rw (p.1, p.2)
-    (let done = c.in_err-emit_strict_mode_err.ensures in
-    forgoes_later c.loop-span.invariant.0.leads (unrecorded g.met.I.Tokens.laws ([], done.read) done.refused.0))
+    (forgoes_later c.loop-span.invariant.0.leads c.in_err-emit_strict_mode_err.ensures.checks)
 
 pub loop-span-preserved : goal.loop-span-preserved
 loop-span-preserved g c =
     let done = c.in_ok-emit_strict_mode_err.ensures in
-    let checks = strict_checked g.I.Tokens.model {T = Unit {0}} g.met.I.Tokens.laws _ _ (Ok tt)
-    (name_error (get_or c.deref-span-items.result.now c.loop-span.span-index _)) done.read done.silent
-    done.recorded tt in
     let found = errors.names-more c.deref-span-items.result.now c.loop-span.span-index _ c.loop-span-test.true in (
       names-more c.deref-span-items.result.now c.loop-span.span-index c.loop-span-test.true c.loop-span.invariant.0
-          checks,
-      let a = c.loop-span.invariant.1 in let b = done.read.lower in omega arith,
+          done.checks,
+      let a = c.loop-span.invariant.1 in let b = done.falls in omega arith,
       rw (found) (errors.strict-more _ c.loop-span.invariant.0.leads.read.context
           c.loop-span.invariant.2 (λ i. (done.silent i).1) done.recorded done.rest),
     )

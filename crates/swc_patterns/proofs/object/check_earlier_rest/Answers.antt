@@ -1,14 +1,13 @@
-use Rattle.std.proofs.Common.{not, sym, ap}
+use Rattle.std.proofs.Common.{false, not, refl, sym, ap}
 use Rattle.std.specs.Option.{is_some}
-use Rattle.swc_steps.proofs.Emitted.{emit-checked, emit-noted, notes-none}
-use Rattle.swc_steps.proofs.Steps.{check_passes}
+use Rattle.swc_steps.proofs.Emitted.{emit-noted, notes-none}
+use Rattle.swc_steps.proofs.Steps.{check_notes, check_passes}
 use Rattle.swc_patterns.proofs.object.check_earlier_rest.Goals as goal
 
 pub returns-in-Some-clause-checks : goal.returns-in-Some-clause-checks
 returns-in-Some-clause-checks g c =
-    let done = c.emit_err.ensures in
     rw (c.in-Some.is)
-    (emit-checked g.met.I.Tokens.laws _ _ _ c.emit_err.result done.silent done.recorded done.refused done.read)
+    (check_notes g.I.Tokens.model false _ _ c.emit_err.result refl c.emit_err.ensures.tries c.emit_err.ensures.notes)
 
 pub returns-in-Some-clause-notes : goal.returns-in-Some-clause-notes
 returns-in-Some-clause-notes g c =

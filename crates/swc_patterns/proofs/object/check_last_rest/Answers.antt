@@ -1,6 +1,6 @@
-use Rattle.std.proofs.Common.{refl, ap}
+use Rattle.std.proofs.Common.{false, refl, ap}
 use Rattle.swc_context.specs.{Spans.in_order, declared.error.SyntaxError.TheVariants.DotsWithoutIdentifier}
-use Rattle.swc_steps.proofs.Emitted.{emit-checked, emit-noted, notes-none}
+use Rattle.swc_steps.proofs.Emitted.{emit-noted, notes-none}
 use Rattle.swc_steps.proofs.Steps as s
 use Rattle.swc_steps.specs.Parsing.{scope}
 use Rattle.swc_patterns.specs.Objects.{last_stage, rests_checked}
@@ -17,8 +17,7 @@ returns-in_default-clause-judges g c = rw (c.in_default.is) (refl, notes-none g.
 
 pub returns-then-not-rest-clause-checks : goal.returns-then-not-rest-clause-checks
 returns-then-not-rest-clause-checks g c = λ sure. record {
-  refuses = s.refused g.met.I.Tokens.laws (λ here. record { span = c.in_order.result; kind = DotsWithoutIdentifier }) _
-      (λ here. λ e. cc) c.syntax_error.ensures.refused;
+  refuses = c.syntax_error.ensures.refuses (λ e. cc);
   none = λ n y l ts k. unnamed c.args.rest c.in-Some.rest c.args.comma
       (scope g.I.Tokens.model c.args.input.now) ts c.in-Some.is c.if-not-rest.true;
 }
@@ -31,10 +30,9 @@ returns-then-not-rest-clause-judges g c = λ n.
 
 pub returns-in-Some-comma-clause-checks : goal.returns-in-Some-comma-clause-checks
 returns-in-Some-comma-clause-checks g c =
-    let done = c.emit_err.ensures in
     comma_checked g.I.Tokens.model _ _ c.args.rest c.in-Some.rest c.args.comma c.emit_err.result c.in-Some.is
     c.if-not-rest.false c.in-Some-comma.is
-    (emit-checked g.met.I.Tokens.laws _ _ _ c.emit_err.result done.silent done.recorded done.refused done.read)
+    (s.check_notes g.I.Tokens.model false _ _ c.emit_err.result refl c.emit_err.ensures.tries c.emit_err.ensures.notes)
 
 pub returns-in-Some-comma-clause-judges : goal.returns-in-Some-comma-clause-judges
 returns-in-Some-comma-clause-judges g c =
@@ -42,7 +40,7 @@ returns-in-Some-comma-clause-judges g c =
     comma_judged g.I.Tokens.model _ _ c.args.rest c.in-Some.rest c.args.comma c.emit_err.result c.in-Some.is
     c.if-not-rest.false c.in-Some-comma.is
     (emit-noted g.I.Tokens.model _ _ _ c.emit_err.result done.silent done.recorded)
-    (emit-checked g.met.I.Tokens.laws _ _ _ c.emit_err.result done.silent done.recorded done.refused done.read)
+    (s.check_notes g.I.Tokens.model false _ _ c.emit_err.result refl c.emit_err.ensures.tries c.emit_err.ensures.notes)
 
 pub returns-in-None-clause-checks : goal.returns-in-None-clause-checks
 returns-in-None-clause-checks g c = λ sure.
