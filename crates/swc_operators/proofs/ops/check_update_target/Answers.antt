@@ -2,6 +2,7 @@ use Rattle.std.proofs.Common.{sym, ap, ◌∙◌}
 use Rattle.swc_input.specs.Buffer.{context}
 use Rattle.swc_ast.specs.Targets.{is_target}
 use Rattle.swc_steps.specs.Parsing.{tree_of}
+use Rattle.swc_steps.proofs.Emitted.{fit_seen}
 use Rattle.swc_steps.proofs.Steps.{check_passes, check_notes, on_ok}
 use Rattle.swc_operators.proofs.ops.check_update_target.Goals as goal
 

@@ -55,6 +55,7 @@ use Rattle.swc_primary.specs.declared.object.PropHead.TheVariants as head
 use Rattle.swc_nodes.proofs.Standing.{grows-count, grows-same, grows-then}
 use Rattle.swc_nodes.proofs.Held.{apart-from, from-down, from-later, from_self, first_kept, if_from, tree-later}
 use Rattle.swc_steps.proofs.Building.{apart-down, apart-lower, apart_behind, grows-kept, made_over}
+use Rattle.swc_steps.proofs.Emitted.{fit_here}
 use Rattle.swc_operators.specs.Operands.{is_plain, goes_on}
 use Rattle.swc_operators.specs.Pending.{pending_reads}
 use Rattle.swc_operators.proofs.Assignments as assign
@@ -2508,7 +2509,7 @@ parse_assignment_expr-parse_arrow_or_assign-requires g t c =
                 (
                   opening.looked c.in_ok-require_cur.ensures.fits,
                   (
-                    c.in_ok-require_cur.ensures.token,
+                    fit_here _ c.in_ok-require_cur.ensures.found.1 c.in_ok-require_cur.ensures.found.2,
                     sym c.is_yield_operator.ensures.value ∙ c.if-is_yield_operator.false,
                   ),
                 ),
