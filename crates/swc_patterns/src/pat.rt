@@ -1,18 +1,17 @@
 // Binding patterns (ECMA-262, 14.3.3): names, array patterns and rests, and initialisers.
 ghost use Rattle.std.specs.Prelude.{ℕ, ◌≡◌, ◌+◌, ◌<◌, ◌≤◌, Some, IfOk, OnOk, Bool, false, Ok, IfErr};
 ghost use Rattle.swc_input.specs.{Buffer.to_come, Buffer.last_position, Kinds.at_token, Recording.no_memory};
-ghost use Rattle.swc_grammar.specs.{Names.may_bind, Words.word, Tokens.is_word};
+ghost use Rattle.swc_grammar.specs.Tokens.{is_word};
 ghost use Rattle.swc_nodes.specs.GrowingNodes.{count, end_at, first_at, Apart, From};
 ghost use Rattle.swc_nodes.specs.{Lists.pat_elem_parts, NodeParts.expr_part, NodeParts.pat_part};
-ghost use Rattle.swc_steps.specs.Parsing.{seen, binding_spelling, tree_of, ContinuesAlone, GoesOn, ParsesAlone, Heard, Produces};
+ghost use Rattle.swc_steps.specs.Parsing.{seen, tree_of, ContinuesAlone, GoesOn, Heard, Produces};
 ghost use Rattle.swc_steps.specs.Params.{pat_at};
 ghost use Rattle.swc_patterns.specs.Answers.{pat_itself, pat_elems_at};
 ghost use Rattle.swc_patterns.specs.Arrays.{default_to, pat_kind, plain_pat, next_element, element_head, array_from, is_item, ends_in_hole, without_holes};
 ghost use Rattle.swc_patterns.specs.Rests.{rest_node, stage_of};
 
 use crate::rest::{SeenRest, check_comma, check_last};
-use std::alloc::{AllocError, Global};
-use swc_ast::ident::BindingIdent;
+use std::alloc::AllocError;
 use swc_bodies::bodies::Bodies;
 use swc_context::error::{PResult, SyntaxError, Wanted};
 use swc_context::span::Span;
@@ -56,7 +55,7 @@ pub fn parse_plain_pat<I: Tokens, B: Bodies<I>>(p: &mut Productions<I, B>) -> PR
         let kind = SyntaxError::Unexpected(Wanted::Binding);
         return Err(p.input.unexpected(kind));
     }
-    let name = parse_binding_ident(p.alloc, &mut p.input)?;
+    let name = ident::parse_binding_ident(p.alloc, &mut p.input)?;
     let node = p.nodes.ident_pat(name);
     made(&p.input, node)
 }
@@ -66,14 +65,6 @@ fn is_word<I: Tokens>(input: &Buffer<I>) -> bool
     ensures { result ≡ at_token is_word (seen input.now) }
 {
     matches!(input.cur_debug(), Some(Token::Word(_)))
-}
-
-/// A name that is bound.
-fn parse_binding_ident<I: Tokens>(alloc: Global, input: &mut Buffer<I>) -> PResult<BindingIdent>
-    ensures parses { ParsesAlone I.model binding_spelling (word may_bind) input.old result input.new }
-    ensures falls { OnOk result (to_come I.model input.new < to_come I.model input.old) }
-{
-    ident::parse_binding_ident(alloc, input)
 }
 
 /// The number of a pattern's node. Refused only when out of memory.
