@@ -414,5 +414,5 @@ module _ {S : Type 0} {model : Model S} {sure : Bool} {b c : Buffer S} (laws : L
 
   pub ref_unread : {e : Error} → at_token (may_be_reference (context model b)) (seen b) ≡ true
       → Unnamed model reference_verdict b e c → Unheard model sure (word may_refer) b e c
-  ref_unread {e} may h = parses_ref {T = Spelling} model sure (λ x. x) b c (Err e) laws may
+  ref_unread {e} may h = parses_ref model sure (λ x. x) b c (Err e) laws may
       (unheard_name reference_verdict honest-reference laws h)

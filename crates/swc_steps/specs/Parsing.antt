@@ -1,7 +1,7 @@
 -- What parsing calls do to the buffer, and which clean reading each answers.
 use Rattle.std.specs.Prelude.{◌≡◌, ◌≢◌, ℕ, ◌≤◌, ◌<◌, Bool, true, false, List, [], ◌∷◌, ◌++◌, Option, Some, None, Result, MatchResult, MatchOption, OnOk, IfOk, IfErr, length, ◌&&◌}
 use Rattle.swc_context.specs.{declared.context.Context.Context, declared.context.Syntax.Syntax, declared.error.Error.Error, declared.error.SyntaxError.SyntaxError, declared.error.SyntaxError.TheVariants.OutOfMemory, declared.error.SyntaxError.TheVariants.ParserFailed, declared.operator.BinaryOp.BinaryOp, declared.span.BytePos.BytePos, declared.span.Span.Span, declared.word.Keyword.Keyword as keyword, declared.word.Word.Word, declared.word.Word.Word as word, Contexts.view as deciding}
-use Rattle.swc_input.specs.Buffer.{Took, Lives, Still, Future, Known, context, to_come}
+use Rattle.swc_input.specs.Buffer.{Took, Read, Lives, Still, Future, Known, context, to_come}
 use Rattle.swc_input.specs.Calls.{Forgoes, Leads, Loud, Refuses, Tries, recorded}
 use Rattle.swc_input.specs.{declared.buffer.Buffer.Buffer, declared.token.Token.Token, declared.token.TokenAndSpan.TokenAndSpan, Plain.plain, Source.Model, Source.Laws, Kinds.at_token}
 use Rattle.swc_input.specs.declared.token.Token.TheVariants as token
