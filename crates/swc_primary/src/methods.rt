@@ -24,9 +24,7 @@ use swc_nodes::node::{ExprId, PatId, PropNode};
 use swc_nodes::nodes::NodesOf;
 use swc_nodes::patterns::first_param_pat;
 use swc_steps::productions::Productions;
-use swc_steps::tokens::{
-    Sign, answered, emit_err, expect, is_sign, look, replace_ctx, unexpected,
-};
+use swc_steps::tokens::{Sign, answered, emit_err, expect, is_sign, look, replace_ctx, unexpected};
 
 /// What a token is refused as that is where a method's parameters begin.
 pub fn without_params(kind: Option<MethodKind>) -> SyntaxError
