@@ -1078,17 +1078,11 @@ fn finish_assignment_expr<I: Tokens, B: Bodies<I>>(
     tokens::look(&mut p.input)?;
     if tokens::is_sign(&p.input, Sign::Question) {
         tokens::skip(&mut p.input);
-        let cons = within!(
-            p,
-            assign::cond_middle(p.get_ctx()),
-            parse_assignment_expr(p, room)
-        )?;
+        let ctx = assign::cond_middle(p.get_ctx());
+        let cons = within!(p, ctx, parse_assignment_expr(p, room))?;
         tokens::expect(&mut p.input, Sign::Colon)?;
-        let alt = within!(
-            p,
-            assign::cond_last(p.get_ctx()),
-            parse_assignment_expr(p, room)
-        )?;
+        let ctx = assign::cond_last(p.get_ctx());
+        let alt = within!(p, ctx, parse_assignment_expr(p, room))?;
         let node = p.nodes.cond_expr(left, cons, alt);
         return p.made(node);
     }
