@@ -1,15 +1,15 @@
 -- What the clean parser reads in parentheses, sequences, conditionals, assignments and of `yield`, a step at a time, as
 -- the code goes it.
-use Rattle.std.proofs.Common.{◌≡◌, Bool, true, false, not, ◌&&◌, if◌then◌else◌, List, [], ◌∷◌, Option, Some, None, Result, refl, sym, ap, ◌∙◌, ◌||◌}
-use Rattle.swc_context.specs.{declared.context.Context.Context, declared.error.Error.Error, declared.operator.AssignOp.AssignOp, declared.operator.AssignOp.AssignOp as write, declared.span.BytePos.BytePos, declared.span.Span.Span, declared.word.Keyword.Keyword as keyword, declared.word.Word.Word as written, Contexts.view as deciding}
-use Rattle.swc_input.specs.{declared.buffer.Buffer.Buffer, declared.token.Token.Token, declared.token.Token.Token as token, declared.token.TokenAndSpan.TokenAndSpan, Buffer.context, Kinds.at_token, Recording.is_some, Source.Model}
+use Rattle.std.proofs.Common.{◌≡◌, Bool, true, false, not, ◌&&◌, if◌then◌else◌, List, [], ◌∷◌, Option, Some, None, refl, sym, ap, ◌∙◌, ◌||◌}
+use Rattle.swc_context.specs.{declared.operator.AssignOp.AssignOp, declared.operator.AssignOp.AssignOp as write, declared.span.BytePos.BytePos, declared.span.Span.Span, declared.word.Keyword.Keyword as keyword, declared.word.Word.Word as written}
+use Rattle.swc_input.specs.{declared.token.Token.Token, declared.token.Token.Token as token, declared.token.TokenAndSpan.TokenAndSpan, Buffer.context, Kinds.at_token, Recording.is_some}
 use Rattle.swc_ast.specs.Tree.{Tree, Trees, nil, cons, span_of, node, array_with, object_with}
 use Rattle.swc_ast.specs.Trees.{to, trees_append, cond_e, assign_e, yield_e, hole_e, is_operation, is_valid}
 use Rattle.swc_ast.specs.{Targets.is_target, Patterns.array_p, Patterns.object_p}
 use Rattle.swc_bodies.specs.Readings.{Hook}
 use Rattle.swc_grammar.specs.Cover.{is_assign as is_assign_tree, as_literal, as_elements, as_props, is_pattern, is_plain_assign, target, ◌>>>◌}
 use Rattle.swc_grammar.specs.Rule.{gives, take, check, read, sees, given, symbol, ◌>>=◌ as ◌▸◌}
-use Rattle.swc_grammar.specs.Tokens.{include_in, with_in, assign_of, is_assign, is_comma, is_question, is_colon, is_star, is_equals, tk, is_yield, yield_ok, goes_on_yield, begins_yielded}
+use Rattle.swc_grammar.specs.Tokens.{with_in, assign_of, is_assign, is_comma, is_question, is_colon, is_star, is_equals, tk, is_yield, yield_ok, goes_on_yield, begins_yielded}
 use Rattle.swc_grammar.specs.Clean.{Out, and_then, first, sym as at, assigns, seqs, begins_yield, plan, writes_tail, goes_on_yield_at, exec, run, chosen, yield_by as yield_choice}
 use Rattle.swc_grammar.specs.{Scope.Scope, Symbols.Expr, Symbols.Assign, Words.◌>>=◌, Words.rest}
 use Rattle.swc_grammar.proofs.{Answers.both, Complete.last, Knot.knot}
@@ -18,10 +18,9 @@ use Rattle.swc_cover.proofs.{Clear.clear-fits, Formed.Formed, Ties.pattern-is}
 use Rattle.swc_cover.specs.PatTypes.{stands_whole, verdict_as, want_as}
 use Rattle.swc_cover.specs.{Clear.is_clear, declared.pat_type.PatType.TheVariants.AssignPat}
 use Rattle.swc_steps.specs.Readers.{begun_if, inside, whole_inside}
-use Rattle.swc_steps.specs.Parsing.{behind, Moves, Parses}
-use Rattle.swc_steps.specs.{Keys.expected, Lists.eaten, Lists.eaten_by, Contexts.cond_middle, Contexts.cond_last}
-use Rattle.swc_steps.proofs.Steps.{parses_within, parses_aside, parses_inner, inner_of}
-use Rattle.swc_steps.proofs.{Keys.then_calls, Keys.then_token, Lists.calls, Rules.inside_assign}
+use Rattle.swc_steps.specs.Parsing.{behind}
+use Rattle.swc_steps.specs.{Keys.expected, Lists.eaten, Lists.eaten_by}
+use Rattle.swc_steps.proofs.{Keys.then_calls, Keys.then_token, Lists.calls}
 use Rattle.swc_operators.proofs.Updates.{if_on, if_off}
 use Rattle.std.specs.Prelude.{is_some as is_given}
 

@@ -1,5 +1,5 @@
 -- What a production reads in a context that was set for it, and set back after it.
-use Rattle.std.proofs.Common.{◌≡◌, ℕ, Bool, List, Result, refl, sym, ap, subst, ◌∙◌}
+use Rattle.std.proofs.Common.{◌≡◌, ℕ, Bool, List, Result, refl, ap, subst, ◌∙◌}
 use Rattle.swc_context.specs.{Contexts.view as deciding, declared.context.Context.Context, declared.error.Error.Error}
 use Rattle.swc_input.specs.{declared.buffer.Buffer.Buffer, declared.token.TokenAndSpan.TokenAndSpan, Buffer.context, Source.Model}
 use Rattle.swc_ast.specs.{Tree.Tree, declared.spanned.Spanned.Ghosts}
@@ -17,10 +17,10 @@ use Rattle.swc_steps.proofs.Steps.{Reader, inner_of, parses_inner, parses_within
 use Rattle.swc_operators.proofs.Assignments.{inside_expr}
 
 -- what w makes of the context at a was set, and decides so
-pub as_set : {S : Type 0} {model : Model S} {a b : Buffer S} {was made : Context} (w : Context → Context)
+pub as_set : {S : Type 0} (model : Model S) (a b : Buffer S) {was made : Context} (w : Context → Context)
     → was ≡ context model a → deciding made ≡ w (deciding was) → context model b ≡ made
     → deciding (context model b) ≡ w (deciding (context model a))
-as_set w from says set = ap deciding set ∙ says ∙ ap (λ x. w (deciding x)) from
+as_set model a b w from says set = ap deciding set ∙ says ∙ ap (λ x. w (deciding x)) from
 
 module _ {S H F C K : Type 0} {fg : Ghosts F} {cg : Ghosts C} {kg : Ghosts K} {model : Model S} {sure : Bool}
     {T A : Type 0} {held : ℕ → Nodes F C K fg cg kg → T → Type 0}
@@ -36,7 +36,7 @@ module _ {S H F C K : Type 0} {fg : Ghosts F} {cg : Ghosts C} {kg : Ghosts K} {m
       → Produces model sure held view f k p o (record q { input = e })
   within {f = f} {g = g} w quiet step from says before to set h answer back left =
       subst (λ x. Produces model sure held view f k p x (record q { input = e })) answer
-      (m.yes r (parses_within model sure (view q.nodes) f g r w quiet step to (as_set w from says set) h.reads back
+      (m.yes r (parses_within model sure (view q.nodes) f g r w quiet step to (as_set model p.input b w from says set) h.reads back
       (left ∙ before))
       h.grows h.from)
 

@@ -1,5 +1,5 @@
 -- The clean parser's steps in the functions of methods (15.4), as the code goes them.
-use Rattle.std.proofs.Common.{◌≡◌, Bool, true, false, not, ◌&&◌, ◌||◌, List, [], ◌∷◌, ◌++◌, Some, None, Result, Ok, Err, ℕ, ◌≤◌, map, length, refl, sym, ap, subst, ◌∙◌, arith}
+use Rattle.std.proofs.Common.{◌≡◌, Bool, true, false, not, ◌&&◌, List, [], ◌∷◌, ◌++◌, Some, None, Result, Ok, Err, ℕ, ◌≤◌, map, length, refl, sym, ap, subst, ◌∙◌, arith}
 use Rattle.std.specs.{declared.alloc.Global.Global, declared.vec.Vec.Vec, Option.is_some, Prelude.Option}
 use Rattle.swc_context.specs.{Contexts.method_block, Contexts.method_params, declared.context.Context.Context, declared.error.Error.Error, declared.span.Span.Span}
 use Rattle.swc_input.specs.{declared.buffer.Buffer.Buffer, declared.token.Token.Token, declared.token.TokenAndSpan.TokenAndSpan, Source.Model, Buffer.context}

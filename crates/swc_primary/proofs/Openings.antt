@@ -1,22 +1,22 @@
 -- Which primary expression the current token begins, and what is left of a literal after the token that opens it.
-use Rattle.std.proofs.Common.{◌≡◌, Bool, true, false, not, codes, ◌&&◌, List, [], ◌∷◌, ◌++◌, if◌then◌else◌, Option, refl, ◌∙◌, Some, None, Result, ap, sym, subst}
-use Rattle.swc_input.specs.{declared.buffer.Buffer.Buffer, declared.token.TokenAndSpan.TokenAndSpan, declared.token.Token.Token, declared.token.Token.Token as token, Plain.plain, Source.Model, Buffer.held, Buffer.context, Laws.Read-same, Kinds.at_token}
-use Rattle.swc_context.specs.{declared.atom.Atom.Atom, declared.word.Word.Word as word, Texts.is_text, Reserved.reserved_name, Contexts.view as deciding, declared.context.Context.Context, declared.error.Error.Error, declared.span.BytePos.BytePos, declared.span.Span.Span}
-use Rattle.swc_grammar.specs.Symbols.{Primary, Elements, Props}
+use Rattle.std.proofs.Common.{◌≡◌, Bool, true, false, not, codes, ◌&&◌, List, [], ◌∷◌, ◌++◌, if◌then◌else◌, Option, refl, ◌∙◌, Some, None, ap, sym, subst}
+use Rattle.swc_input.specs.{declared.buffer.Buffer.Buffer, declared.token.TokenAndSpan.TokenAndSpan, declared.token.Token.Token, declared.token.Token.Token as token, Plain.plain, Source.Model, Buffer.held, Buffer.context, Buffer.Bumped, Laws.Read-same, Kinds.at_token}
+use Rattle.swc_context.specs.{declared.atom.Atom.Atom, declared.word.Word.Word as word, Texts.is_text, Reserved.reserved_name, declared.context.Context.Context, declared.span.BytePos.BytePos, declared.span.Span.Span}
+use Rattle.swc_grammar.specs.Symbols.{Primary, Props}
 use Rattle.swc_grammar.specs.Clean.{sym as at, run, first}
-use Rattle.swc_grammar.specs.Tokens.{include_in, is_lparen, is_lbracket, is_backquote, is_reference, may_be_reference}
+use Rattle.swc_grammar.specs.Tokens.{is_lparen, is_lbracket, is_backquote, is_reference, may_be_reference}
 use Rattle.swc_grammar.specs.{Scope.Scope, Scope.inner, Parts.lit_of, Words.◌>>=◌}
 use Rattle.swc_ast.specs.{Parts.lit_tree, Tree.Tree, declared.lit.Lit.Lit}
 use Rattle.swc_bodies.specs.Readings.{Hook, is_async, is_brace}
 use Rattle.swc_input.specs.Calls.{Here}
-use Rattle.swc_steps.specs.Parsing.{Moves, On, Parses, seen, begins_async}
+use Rattle.swc_steps.specs.Parsing.{On, seen, begins_async}
 use Rattle.swc_steps.specs.Lists.{elements_inside}
 use Rattle.swc_steps.proofs.Lists as list
 use Rattle.swc_steps.proofs.Rules as rule
 use Rattle.swc_steps.proofs.Steps as s
 use Rattle.swc_steps.proofs.Words.{is_same}
 use Rattle.swc_primary.proofs.Properties as props
-use Rattle.swc_primary.specs.Openings.{primary_kind, literal, BeginsPlain, Opens, array_from, object_from}
+use Rattle.swc_primary.specs.Openings.{primary_kind, literal, BeginsPlain, array_from, object_from}
 use Rattle.swc_primary.specs.{declared.primary.PrimaryKind.PrimaryKind, declared.primary.PrimaryKind.PrimaryKind as kind, declared.primary.PlainKind.PlainKind, declared.primary.PlainKind.PlainKind as one}
 
 -- ---- literals

@@ -1,8 +1,8 @@
 -- What the steps of the code read in properties that have a key, methods among them, by the clean parser.
 use Rattle.std.specs.Prelude.{◌≡◌, Bool, true, false, not, if◌then◌else◌, List, [], ◌∷◌, Option, Some, None, ℕ, ◌&&◌}
 use Rattle.std.specs.{declared.alloc.Global.Global, declared.vec.Vec.Vec}
-use Rattle.swc_context.specs.{Contexts.method_params, Contexts.view as deciding, declared.context.Context.Context, declared.error.Error.Error, declared.span.Span.Span}
-use Rattle.swc_input.specs.{declared.buffer.Buffer.Buffer, declared.token.TokenAndSpan.TokenAndSpan, Buffer.context, Source.Model}
+use Rattle.swc_context.specs.{Contexts.method_params, declared.span.Span.Span}
+use Rattle.swc_input.specs.{declared.token.TokenAndSpan.TokenAndSpan}
 use Rattle.swc_ast.specs.Tree.{Tree, node, Trees, nil, cons, span_of, getter}
 use Rattle.swc_ast.specs.Trees.{to, value_e, prop_of, method_e, setter_e, items_of, has_items, is_rest, function_e, block_e, params_e, getter_ok, setter_ok}
 use Rattle.swc_ast.specs.{Spans.prop_name_span, declared.function.Function.Function, declared.function.Param.Param, declared.prop.PropName.PropName, declared.spanned.Spanned.Ghosts}
@@ -14,7 +14,7 @@ use Rattle.swc_grammar.specs.{Scope.Scope, Scope.in_context, Words.◌>>=◌}
 use Rattle.swc_nodes.specs.{Lists.first_param_pat, declared.node.ExprId.ExprId, declared.node.PatId.PatId, declared.node.PropNode.PropNode, declared.node.PropNode.PropNode as prop, declared.nodes.Nodes.Nodes}
 use Rattle.swc_steps.specs.Params.{pat_at}
 use Rattle.swc_primary.specs.declared.modifiers.MethodKind.{MethodKind, MethodKind as kind}
-use Rattle.swc_steps.specs.Parsing.{shell_of, Heard, Moves, Unheard}
+use Rattle.swc_steps.specs.Parsing.{shell_of}
 use Rattle.swc_steps.specs.{Keys.expected, Keys.method_body, Readers.inside}
 
 -- which kinds of methods are async and generators; and of a method with or without a kind

@@ -1,7 +1,7 @@
 -- Which primary expression a token begins (13.2), and what opening a literal does to the buffer.
 use Rattle.std.specs.Prelude.{◌≡◌, Bool, true, false, ◌&&◌, if◌then◌else◌, List, Option, Some, None}
-use Rattle.swc_context.specs.{Contexts.view as deciding, declared.context.Context.Context, declared.span.BytePos.BytePos, declared.span.Span.Span, declared.word.Word.Word as word, Spans.from_to}
-use Rattle.swc_input.specs.{declared.buffer.Buffer.Buffer, declared.token.Token.Token, declared.token.TokenAndSpan.TokenAndSpan, Source.Model, Buffer.Bumped, Buffer.context, Kinds.at_token, Kinds.is_hash}
+use Rattle.swc_context.specs.{declared.context.Context.Context, declared.span.BytePos.BytePos, declared.span.Span.Span, declared.word.Word.Word as word, Spans.from_to}
+use Rattle.swc_input.specs.{declared.token.Token.Token, declared.token.TokenAndSpan.TokenAndSpan, Buffer.context, Kinds.at_token, Kinds.is_hash}
 use Rattle.swc_input.specs.declared.token.Token.TheVariants as token
 use Rattle.swc_ast.specs.Trees.{array_e, object_e, items_of, comma_of}
 use Rattle.swc_ast.specs.{Tree.Tree, Tree.span_of, declared.lit.Lit.Lit, declared.lit.Lit.Lit as lit}
@@ -9,7 +9,6 @@ use Rattle.swc_bodies.specs.Readings.{is_function, is_async, is_class, is_brace}
 use Rattle.swc_grammar.specs.Scope.{Scope}
 use Rattle.swc_grammar.specs.Tokens.{is_in, is_lparen, is_lbracket, is_backquote, is_this, begins_regex}
 use Rattle.swc_grammar.specs.Clean.{Out, first, is_lit, is_identifier}
-use Rattle.swc_steps.specs.Parsing.{Moves}
 use Rattle.swc_primary.specs.{declared.primary.PrimaryKind.PrimaryKind, declared.primary.PrimaryKind.PrimaryKind as kind, declared.primary.PlainKind.PlainKind, declared.primary.PlainKind.PlainKind as plain}
 
 -- which primary expression the token begins, of those that other expressions are in

@@ -1,6 +1,6 @@
 -- The body of an arrow function (15.3, 15.9), as the code goes it: in its own context, a block or an assignment
 -- expression.
-use Rattle.std.proofs.Common.{◌≡◌, ℕ, Bool, true, false, if◌then◌else◌, List, Result, refl, sym, ap, subst, ◌∙◌}
+use Rattle.std.proofs.Common.{◌≡◌, ℕ, Bool, true, false, if◌then◌else◌, List, Result, refl, ap}
 use Rattle.swc_context.specs.Contexts.{arrow_body}
 use Rattle.swc_context.specs.Contexts.{view as deciding}
 use Rattle.swc_context.specs.declared.context.Context.{Context}
@@ -11,17 +11,15 @@ use Rattle.swc_input.specs.declared.token.TokenAndSpan.{TokenAndSpan}
 use Rattle.swc_input.specs.Buffer.{context}
 use Rattle.swc_input.specs.Kinds.{at_token}
 use Rattle.swc_input.specs.Source.{Model}
-use Rattle.swc_ast.specs.Tree.{Tree}
 use Rattle.swc_ast.specs.declared.expr.BlockStmtOrExpr.{BlockStmtOrExpr}
 use Rattle.swc_ast.specs.declared.spanned.Spanned.{Ghosts}
 use Rattle.swc_bodies.specs.Readings.{Hook, LawfulHook, is_brace}
-use Rattle.swc_grammar.specs.Clean.{Out, first, sym as at, run}
+use Rattle.swc_grammar.specs.Clean.{first, sym as at, run}
 use Rattle.swc_grammar.specs.Scope.{Scope, in_context}
 use Rattle.swc_grammar.specs.Symbols.{Assign, ArrowBody}
 use Rattle.swc_nodes.specs.declared.node.ExprId.{ExprId}
 use Rattle.swc_steps.specs.Parsing.{Moves, Produces}
 use Rattle.swc_steps.specs.declared.productions.Productions.{Productions}
-use Rattle.swc_steps.proofs.Steps.{Reader}
 use Rattle.swc_operators.proofs.InContext.{within}
 use Rattle.swc_arrows.specs.Answers.{body_at, body_of}
 use Rattle.swc_arrows.specs.Readers.{block_inside, body_by}

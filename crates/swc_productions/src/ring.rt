@@ -21,6 +21,7 @@ ghost use Rattle.swc_nodes.specs.GrowingNodes.{count, tree_at, first_at, From, A
 ghost use Rattle.swc_operators.specs.Assignments.{assigns_from, yield_expr};
 ghost use Rattle.swc_operators.specs.Operands.{is_plain};
 ghost use Rattle.swc_operators.specs.Pending.{pending_reads};
+ghost use Rattle.swc_operators.specs.Updates.{await_tail};
 ghost use Rattle.swc_primary.specs.Methods.{method_function, method_inside, method_shell};
 ghost use Rattle.swc_steps.specs.Args.{args_inside};
 ghost use Rattle.swc_steps.specs.Readers.{operand};
@@ -351,7 +352,11 @@ pub fn parse_object_prop<I: Tokens, B: Bodies<I>>(
             let key = parse_prop_name(p, room)?;
             match tokens::eat(&mut p.input, Sign::Colon)? {
                 Some(_) => {
-                    let value = within!(p, include_in(p.get_ctx()), parse_assignment_expr(p, room))?;
+                    let value = within!(
+                        p,
+                        include_in(p.get_ctx()),
+                        parse_assignment_expr(p, room)
+                    )?;
                     Ok(key_prop(&p.nodes, key, value))
                 }
                 None => {
@@ -382,7 +387,11 @@ fn parse_method<I: Tokens, B: Bodies<I>>(
     ensures { Produces I.model B.is_faithful (method_shell kind) shell_at (method_function B.forms kind)
         (count p.old.nodes) p.old result p.new }
 {
-    within!(p, method_params(kind, p.get_ctx()), parse_method_inside(p, room, kind, key))
+    within!(
+        p,
+        method_params(kind, p.get_ctx()),
+        parse_method_inside(p, room, kind, key)
+    )
 }
 
 /// The function of a method, in the context of its parameters. Where they begin, another token is refused as
@@ -450,7 +459,11 @@ pub fn parse_tpl_elements<I: Tokens, B: Bodies<I>>(
     ensures { Produces I.model B.is_faithful tpl_parts_of tpl_parts_at (run B.forms (sym (Parts is_tagged)))
         (count p.old.nodes) p.old result p.new }
 {
-    within!(p, without_colon(p.get_ctx()), parse_tpl_parts(p, room, is_tagged))
+    within!(
+        p,
+        without_colon(p.get_ctx()),
+        parse_tpl_parts(p, room, is_tagged)
+    )
 }
 
 /// The texts of a template and the expressions between them, in their context.
@@ -493,7 +506,11 @@ pub fn parse_args<I: Tokens, B: Bodies<I>>(
     ensures { Produces I.model B.is_faithful args_of args_at (args_inside B.forms is_dynamic_import)
         (count p.old.nodes) p.old result p.new }
 {
-    within!(p, items_context(p.get_ctx()), parse_arg_items(p, room, is_dynamic_import))
+    within!(
+        p,
+        items_context(p.get_ctx()),
+        parse_arg_items(p, room, is_dynamic_import)
+    )
 }
 
 /// Arguments, after their parenthesis, in their context.
@@ -732,17 +749,30 @@ pub fn parse_unary_expr<I: Tokens, B: Bodies<I>>(
     if ops::is_await(&p.input) {
         let start = p.cur_span();
         tokens::skip(&mut p.input);
-        if is_await_name(&mut p.input)? {
-            return ops::parse_await_ident(p, start);
-        }
-        ops::check_await(&mut p.input, start)?;
-        let less = deeper(&p.input, &mut p.too_deep, room)?;
-        let arg = parse_unary_expr(p, less)?;
-        let node = p.nodes.await_expr(start.lo, arg);
-        return p.made(node);
+        return parse_await(p, room, start);
     }
     let expr = parse_lhs_expr(p, room)?;
     ops::parse_update_postfix(p, expr)
+}
+
+/// `await` (ECMA-262, 15.8), which is at `start`, and its operand; or the identifier `await` (13.1).
+#[cycle(productions)]
+fn parse_await<I: Tokens, B: Bodies<I>>(
+    p: &mut Productions<I, B>,
+    room: usize,
+    start: Span,
+) -> PResult<ExprId>
+    ensures { GoesOn I.model B.is_faithful itself tree_of (await_tail B.forms start)
+        (count p.old.nodes) p.old result p.new }
+{
+    if is_await_name(&mut p.input)? {
+        return ops::parse_await_ident(p, start);
+    }
+    ops::check_await(&mut p.input, start)?;
+    let less = deeper(&p.input, &mut p.too_deep, room)?;
+    let arg = parse_unary_expr(p, less)?;
+    let node = p.nodes.await_expr(start.lo, arg);
+    p.made(node)
 }
 
 /// A unary expression (ECMA-262, 13.5) that begins with a name, a literal or `this`: a left-hand side, and `++` or `--`
@@ -1049,9 +1079,11 @@ fn finish_assignment_expr<I: Tokens, B: Bodies<I>>(
     tokens::look(&mut p.input)?;
     if tokens::is_sign(&p.input, Sign::Question) {
         tokens::skip(&mut p.input);
-        let cons = within!(p, assign::cond_middle(p.get_ctx()), parse_assignment_expr(p, room))?;
+        let ctx = assign::cond_middle(p.get_ctx());
+        let cons = within!(p, ctx, parse_assignment_expr(p, room))?;
         tokens::expect(&mut p.input, Sign::Colon)?;
-        let alt = within!(p, assign::cond_last(p.get_ctx()), parse_assignment_expr(p, room))?;
+        let ctx = assign::cond_last(p.get_ctx());
+        let alt = within!(p, ctx, parse_assignment_expr(p, room))?;
         let node = p.nodes.cond_expr(left, cons, alt);
         return p.made(node);
     }

@@ -219,7 +219,7 @@ parse_primary_expr-array_lit-requires g t c =
     c.replace_ctx-before-in-Array.ensures.moves c.replace_ctx-before-in-Array.ensures.context
     c.parse_elements-read-in-Array.ensures c.in_ok-elems-in-Array.was c.replace_ctx-in-Array.ensures.moves
     c.replace_ctx-in-Array.ensures.context in
-    record { apart = apart-down (elem_parts c.in_ok-elems-in-Array.elems.items) inner.from; }
+    record { apart = apart-down (elem_parts c.in_ok-elems-in-Array.elems.items) inner.from }
 
 pub parse_primary_expr-returns-in_ok-elems-in-Array : goal.parse_primary_expr-returns-in_ok-elems-in-Array
 parse_primary_expr-returns-in_ok-elems-in-Array g t c =
@@ -260,7 +260,7 @@ parse_primary_expr-object_lit-requires g t c =
     c.replace_ctx-before-in-Object.ensures.before c.replace_ctx-before-in-Object.ensures.moves
     c.replace_ctx-before-in-Object.ensures.context c.parse_props-read-in-Object.ensures c.in_ok-props-in-Object.was
     c.replace_ctx-in-Object.ensures.moves c.replace_ctx-in-Object.ensures.context in
-    record { apart = apart-down (props_parts c.in_ok-props-in-Object.props.items) inner.from; }
+    record { apart = apart-down (props_parts c.in_ok-props-in-Object.props.items) inner.from }
 
 pub parse_primary_expr-returns-in_ok-props-in-Object : goal.parse_primary_expr-returns-in_ok-props-in-Object
 parse_primary_expr-returns-in_ok-props-in-Object g t c =
@@ -729,8 +729,10 @@ parse_method_inside-returns-in_err-params g t c =
 pub parse_method_inside-close_method-requires : goal.parse_method_inside-close_method-requires
 parse_method_inside-close_method-requires g t c =
     record {
-      params = (apart-down (flat param_parts c.in_ok-params.params.items) c.in_ok-params.ensures.from.0,
-      c.in_ok-params.ensures.from.1);
+      params = (
+        apart-down (flat param_parts c.in_ok-params.params.items) c.in_ok-params.ensures.from.0,
+        c.in_ok-params.ensures.from.1,
+      );
     }
 
 pub parse_method_inside-returns : goal.parse_method_inside-returns
@@ -1754,111 +1756,23 @@ parse_unary_expr-returns-in-Err g t c =
     (grows-then c.parse_unary_expr-in-Some-cur_prefix_op.ensures.grows h.grows)
     (if_from _ _ _ (λ x. x) r (grows-count c.parse_unary_expr-in-Some-cur_prefix_op.ensures.grows) h.from))
 
-pub parse_unary_expr-returns-in_err-is_await_name : goal.parse_unary_expr-returns-in_err-is_await_name
-parse_unary_expr-returns-in_err-is_await_name g t c =
-    let first = c.skip-then-is_await.ensures.took.1 in
-    let q = (plain first.was).span in
-    m.refused c.from_residual-in_err-is_await_name.ensures.1
-    (s.unheard_after (s.on_seen {g = await_expr _} c.in_ok-look.ensures.looks
-    (λ x ts same e. update.await_picked _ x ts (ap
-    (at_token is_await) e ∙ sym c.is_await.ensures.value ∙ c.if-is_await.true)))
-    (s.unheard_after (s.on_took {g = await_tail _ q} g.met.I.Tokens.laws first (update.await_opens _ (plain first.was)))
-    (s.unheard_call _ (prefix.await_splits _ q) (c.in_err-is_await_name.ensures.names g.B.Bodies.is_faithful))))
-    (grows-same _)
-
-pub parse_unary_expr-returns-then-branch : goal.parse_unary_expr-returns-then-branch
-parse_unary_expr-returns-then-branch g t c =
+pub parse_unary_expr-returns-then-is_await : goal.parse_unary_expr-returns-then-is_await
+parse_unary_expr-returns-then-is_await g t c =
     let first = c.skip-then-is_await.ensures.took.1 in
     let start = c.cur_span-start-then-is_await.result in
-    let place = s.place_was first c.cur_span-start-then-is_await.result c.cur_span-start-then-is_await.ensures in
-    let r = c.parse_await_ident.result in
-    let view = tree_of c.parse_await_ident.new.p.nodes in
+    let place = s.place_was first start c.cur_span-start-then-is_await.ensures in
+    let r = c.parse_await.result in
+    let h = c.parse_await.ensures in
     m.after {m = record c.args.p.now { input = c.look.new.input }} r
     (s.on_seen {g = await_expr _} c.in_ok-look.ensures.looks
     (λ x ts same e. update.await_picked _ x ts (ap
     (at_token is_await) e ∙ sym c.is_await.ensures.value ∙ c.if-is_await.true))) (grows-same _)
     (m.yes r
-    (update.parses_first g.I.Tokens.model g.B.Bodies.is_faithful view _
+    (update.parses_first g.I.Tokens.model g.B.Bodies.is_faithful (tree_of c.parse_await.new.p.nodes) _
     (await_tail g.B.BodyForms.forms start) _ r g.met.I.Tokens.laws first
     (λ x ts. update.await_opens _ (plain first.was) x ts ∙ ap (λ v. await_tail g.B.BodyForms.forms v x ts) (sym place))
-    (s.continues_after g.I.Tokens.model g.B.Bodies.is_faithful view (await_tail g.B.BodyForms.forms start) _ r
-    (s.on_to {h = await_ident start} (s.on_call _ (prefix.await_splits g.B.BodyForms.forms start)
-    (c.in_ok-is_await_name.ensures.names g.B.Bodies.is_faithful))
-    (λ x ts. ap (λ b. await_by_name g.B.BodyForms.forms start b x ts) c.if-branch.true))
-    c.parse_await_ident.ensures.reads))
-    c.parse_await_ident.ensures.grows c.parse_await_ident.ensures.from)
-
-pub parse_unary_expr-returns-in_err-check_await : goal.parse_unary_expr-returns-in_err-check_await
-parse_unary_expr-returns-in_err-check_await g t c =
-    m.refused c.from_residual-in_err-check_await.ensures.1
-    (s.unheard_memory (s.forgoes_later (s.leads_then (s.here_leads c.in_ok-look.ensures.looks)
-    (s.leads_then (s.took_leads g.met.I.Tokens.laws c.skip-then-is_await.ensures.took.1)
-    (c.in_ok-is_await_name.ensures.names g.B.Bodies.is_faithful).leads)) c.in_err-check_await.ensures.checks))
-    (grows-same _)
-
-pub parse_unary_expr-returns-in_err-less : goal.parse_unary_expr-returns-in_err-less
-parse_unary_expr-returns-in_err-less g t c =
-    m.refused c.from_residual-in_err-less.ensures.1
-    (s.unheard_memory (s.forgoes_later (s.leads_then (s.leads_then (s.here_leads c.in_ok-look.ensures.looks)
-    (s.leads_then (s.took_leads g.met.I.Tokens.laws c.skip-then-is_await.ensures.took.1)
-    (c.in_ok-is_await_name.ensures.names g.B.Bodies.is_faithful).leads)) c.in_ok-check_await.ensures.checks.leads)
-    (s.forgoes_here g.met.I.Tokens.laws _ _ _ c.in_err-less.ensures.refused))) (grows-same _)
-
-pub parse_unary_expr-returns-in_err-arg : goal.parse_unary_expr-returns-in_err-arg
-parse_unary_expr-returns-in_err-arg g t c =
-    let first = c.skip-then-is_await.ensures.took.1 in
-    let start = c.cur_span-start-then-is_await.result in
-    let place = s.place_was first c.cur_span-start-then-is_await.result c.cur_span-start-then-is_await.ensures in
-    let now = c.is_await_name.new.input in
-    m.refused c.from_residual-in_err-arg.ensures.1
-    (s.unheard_after (s.on_seen {g = await_expr _} c.in_ok-look.ensures.looks
-    (λ x ts same e. update.await_picked _ x ts (ap
-    (at_token is_await) e ∙ sym c.is_await.ensures.value ∙ c.if-is_await.true)))
-    (s.unheard_after (s.on_took {g = await_tail _ start} g.met.I.Tokens.laws first
-    (λ x ts. update.await_opens _ (plain first.was) x ts ∙ ap (λ v. await_tail g.B.BodyForms.forms v x ts)
-    (sym place)))
-    (s.unheard_after (s.on_to {h = await_operand _ start}
-    (s.on_call _ (prefix.await_splits g.B.BodyForms.forms start)
-    (c.in_ok-is_await_name.ensures.names g.B.Bodies.is_faithful))
-    (λ x ts. ap (λ b. await_by_name g.B.BodyForms.forms start b x ts) c.if-branch.false))
-    (s.unheard_after (s.on_checked_in {g = await_reads _ start}
-    (await_ok (context g.I.Tokens.model now)) c.in_ok-check_await.ensures.checks
-    (λ ts h. update.await_well _ start (scope g.I.Tokens.model now) ts h)
-    (λ ts h. update.await_ill _ start (scope g.I.Tokens.model now) ts h))
-    (s.unheard_call (λ x p. Some (await_e (to start (span_of p.0)) p.0, p.1)) (λ x ts. refl)
-    (s.unheard_inner c.in_err-arg.ensures.reads)))))) c.parse_unary_expr-then-is_await.ensures.grows
-
-pub parse_unary_expr-returns-then-is_await : goal.parse_unary_expr-returns-then-is_await
-parse_unary_expr-returns-then-is_await g t c =
-    let first = c.skip-then-is_await.ensures.took.1 in
-    let start = c.cur_span-start-then-is_await.result in
-    let place = s.place_was first c.cur_span-start-then-is_await.result c.cur_span-start-then-is_await.ensures in
-    let now = c.is_await_name.new.input in
-    m.after {m = record c.args.p.now { input = c.look.new.input }} c.made.result
-    (s.on_seen {g = await_expr _} c.in_ok-look.ensures.looks
-    (λ x ts same e. update.await_picked _ x ts (ap
-    (at_token is_await) e ∙ sym c.is_await.ensures.value ∙ c.if-is_await.true))) (grows-same _)
-    (m.after {m = record c.args.p.now { input = now }} c.made.result
-    (s.on_then (s.on_took {g = await_tail _ start} g.met.I.Tokens.laws first
-    (λ x ts. update.await_opens _ (plain first.was) x ts ∙ ap (λ v. await_tail g.B.BodyForms.forms v x ts)
-    (sym place)))
-    (s.on_to {h = await_operand _ start} (s.on_call _ (prefix.await_splits g.B.BodyForms.forms start)
-    (c.in_ok-is_await_name.ensures.names g.B.Bodies.is_faithful))
-    (λ x ts. ap (λ b. await_by_name g.B.BodyForms.forms start b x ts) c.if-branch.false))) (grows-same _)
-    (m.node _ c.await_expr-node.result c.made.result c.in_ok-arg.ensures.from.above c.await_expr-node.ensures.made
-    c.made.ensures.ok c.made.ensures.refused c.parse_unary_expr-then-is_await.ensures.grows
-    c.await_expr-node.ensures.grows
-    (s.heard_after (s.on_checked_in {g = await_reads _ start}
-    (await_ok (context g.I.Tokens.model now)) c.in_ok-check_await.ensures.checks
-    (λ ts h. update.await_well _ start (scope g.I.Tokens.model now) ts h)
-    (λ ts h. update.await_ill _ start (scope g.I.Tokens.model now) ts h))
-    (s.heard_call_read (λ x p. Some (await_e (to start (span_of p.0)) p.0, p.1)) (λ x ts. refl)
-    (λ x ts us h y ys. ap (λ v. Some (
-      await_e (from_to start.lo v) (tree_of c.parse_unary_expr-then-is_await.new.p.nodes c.in_ok-arg.arg),
-      ys,
-    ))
-    (sym (ending.ended _ g.met.B.Bodies.lawful c.in_ok-arg.arg Unary (inner x) ts us c.in_ok-arg.ensures.from h)))
-    (s.heard_inner c.in_ok-arg.ensures.reads)))))
+    h.reads)
+    h.grows h.from)
 
 pub parse_unary_expr-returns-in_err-expr : goal.parse_unary_expr-returns-in_err-expr
 parse_unary_expr-returns-in_err-expr g t c =
@@ -1886,6 +1800,73 @@ parse_unary_expr-returns g t c =
     (m.call c.parse_update_postfix.result (λ x p. run _ (updates p.0) x p.1) (λ x ts. refl)
     c.in_ok-expr.ensures.reads c.parse_lhs_expr.ensures.grows
     (λ x. from-down c.in_ok-expr.ensures.from.above) c.parse_update_postfix.ensures)
+
+pub parse_await-returns-in_err-is_await_name : goal.parse_await-returns-in_err-is_await_name
+parse_await-returns-in_err-is_await_name g t c =
+    m.refused_more c.from_residual.ensures.1
+    (s.unheard_call _ (prefix.await_splits _ c.args.start) (c.in_err-is_await_name.ensures.names g.B.Bodies.is_faithful))
+    (grows-same _)
+
+pub parse_await-returns-then-branch : goal.parse_await-returns-then-branch
+parse_await-returns-then-branch g t c =
+    let start = c.args.start in
+    m.on_after {m = record c.args.p.now { input = c.is_await_name.new.input }} c.parse_await_ident.result
+    (s.on_to {h = await_ident start} (s.on_call _ (prefix.await_splits g.B.BodyForms.forms start)
+    (c.in_ok-is_await_name.ensures.names g.B.Bodies.is_faithful))
+    (λ x ts. ap (λ b. await_by_name g.B.BodyForms.forms start b x ts) c.if-branch.true))
+    (grows-same _) c.parse_await_ident.ensures
+
+pub parse_await-returns-in_err-check_await : goal.parse_await-returns-in_err-check_await
+parse_await-returns-in_err-check_await g t c =
+    m.refused_more c.from_residual-in_err-check_await.ensures.1
+    (s.unheard_memory (s.forgoes_later (c.in_ok-is_await_name.ensures.names g.B.Bodies.is_faithful).leads
+    c.in_err-check_await.ensures.checks)) (grows-same _)
+
+pub parse_await-returns-in_err-less : goal.parse_await-returns-in_err-less
+parse_await-returns-in_err-less g t c =
+    m.refused_more c.from_residual-in_err-less.ensures.1
+    (s.unheard_memory (s.forgoes_later (s.leads_then (c.in_ok-is_await_name.ensures.names g.B.Bodies.is_faithful).leads
+    c.in_ok-check_await.ensures.checks.leads)
+    (s.forgoes_here g.met.I.Tokens.laws _ _ _ c.in_err-less.ensures.refused))) (grows-same _)
+
+pub parse_await-returns-in_err-arg : goal.parse_await-returns-in_err-arg
+parse_await-returns-in_err-arg g t c =
+    let start = c.args.start in
+    let now = c.is_await_name.new.input in
+    m.refused_more c.from_residual-in_err-arg.ensures.1
+    (s.unheard_after (s.on_to {h = await_operand _ start} (s.on_call _ (prefix.await_splits g.B.BodyForms.forms start)
+    (c.in_ok-is_await_name.ensures.names g.B.Bodies.is_faithful))
+    (λ x ts. ap (λ b. await_by_name g.B.BodyForms.forms start b x ts) c.if-branch.false))
+    (s.unheard_after (s.on_checked_in {g = await_reads _ start}
+    (await_ok (context g.I.Tokens.model now)) c.in_ok-check_await.ensures.checks
+    (λ ts h. update.await_well _ start (scope g.I.Tokens.model now) ts h)
+    (λ ts h. update.await_ill _ start (scope g.I.Tokens.model now) ts h))
+    (s.unheard_call (λ x p. Some (await_e (to start (span_of p.0)) p.0, p.1)) (λ x ts. refl)
+    (s.unheard_inner c.in_err-arg.ensures.reads)))) c.parse_unary_expr.ensures.grows
+
+pub parse_await-returns : goal.parse_await-returns
+parse_await-returns g t c =
+    let start = c.args.start in
+    let now = c.is_await_name.new.input in
+    m.on_after {m = record c.args.p.now { input = now }} c.made.result
+    (s.on_to {h = await_operand _ start} (s.on_call _ (prefix.await_splits g.B.BodyForms.forms start)
+    (c.in_ok-is_await_name.ensures.names g.B.Bodies.is_faithful))
+    (λ x ts. ap (λ b. await_by_name g.B.BodyForms.forms start b x ts) c.if-branch.false)) (grows-same _)
+    (m.weaker c.made.result
+    (m.node _ c.await_expr-node.result c.made.result c.in_ok-arg.ensures.from.above c.await_expr-node.ensures.made
+    c.made.ensures.ok c.made.ensures.refused c.parse_unary_expr.ensures.grows
+    c.await_expr-node.ensures.grows
+    (s.heard_after (s.on_checked_in {g = await_reads _ start}
+    (await_ok (context g.I.Tokens.model now)) c.in_ok-check_await.ensures.checks
+    (λ ts h. update.await_well _ start (scope g.I.Tokens.model now) ts h)
+    (λ ts h. update.await_ill _ start (scope g.I.Tokens.model now) ts h))
+    (s.heard_call_read (λ x p. Some (await_e (to start (span_of p.0)) p.0, p.1)) (λ x ts. refl)
+    (λ x ts us h y ys. ap (λ v. Some (
+      await_e (from_to start.lo v) (tree_of c.parse_unary_expr.new.p.nodes c.in_ok-arg.arg),
+      ys,
+    ))
+    (sym (ending.ended _ g.met.B.Bodies.lawful c.in_ok-arg.arg Unary (inner x) ts us c.in_ok-arg.ensures.from h)))
+    (s.heard_inner c.in_ok-arg.ensures.reads)))))
 
 pub parse_plain_operand-parse_plain_member-read-requires : goal.parse_plain_operand-parse_plain_member-read-requires
 parse_plain_operand-parse_plain_member-read-requires g t c =
@@ -3821,7 +3802,7 @@ parse_pat-returns-in_err-props-in-Object g t c =
     m.refused c.from_residual-in_err-props-in-Object.ensures.1
     (pat_begins.object_refused g.B.BodyForms.forms c.in_ok-look.ensures.looks
     (sym c.pat_kind.ensures ∙ c.in-Object.is) c.skip-in-Object.ensures.took.1
-    (leaving.unheard_aside c.replace_ctx-before.ensures.moves (as_set (λ x. x) c.get_ctx.ensures
+    (leaving.unheard_aside c.replace_ctx-before.ensures.moves (as_set _ _ _ (λ x. x) c.get_ctx.ensures
     c.without_colon-ctx.ensures.decides c.replace_ctx-before.ensures.context)
     (leaving.leaves_err (λ l. props_done (pat_props_at c.parse_pat_props-read.new.p.nodes l))
     c.parse_pat_props-read.result _ c.in_err-props-in-Object.was c.parse_pat_props-read.ensures.reads)
@@ -3850,7 +3831,7 @@ parse_pat-returns-in_ok-props-in-Object g t c =
     (pat_begins.object_reads g.B.BodyForms.forms (pat_at c.object_pat.new.p.nodes)
     (pat_props_at ns list) c.object_pat.result c.object_pat.new.p.input c.in_ok-look.ensures.looks
     (sym c.pat_kind.ensures ∙ c.in-Object.is) took place
-    (s.on_aside c.replace_ctx-before.ensures.moves (as_set (λ x. x) c.get_ctx.ensures
+    (s.on_aside c.replace_ctx-before.ensures.moves (as_set _ _ _ (λ x. x) c.get_ctx.ensures
     c.without_colon-ctx.ensures.decides c.replace_ctx-before.ensures.context)
     (leaving.leaves_ok (λ l. props_done (pat_props_at ns l)) c.parse_pat_props-read.result list
     c.in_ok-props-in-Object.was c.parse_pat_props-read.ensures.reads)
@@ -4419,4 +4400,3 @@ parse_formal_params-loop-params-preserved g t c =
           (c.in_ok-next_param.ensures.next g.B.Bodies.is_faithful).leads item.reads.on
           (c.in_ok-rest-in-Item.ensures.separates g.B.Bodies.is_faithful).leads c.loop-params.invariant.5 l n),
     )
-
