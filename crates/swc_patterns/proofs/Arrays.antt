@@ -66,6 +66,12 @@ head_here r x [] None h some = absurd cc
 head_here r x [] (Some t) h some = absurd cc
 head_here r x (t ∷ ts) o h some = head_token r x t ts
 
+-- none at the end
+pub head_end : (s : Stage) (x : Scope) (ts : List TokenAndSpan) → first ts ≡ None → element_head s x ts ≡ None
+head_end going x [] h = refl
+head_end s x [] h = refl
+head_end s x (t ∷ ts) h = absurd cc
+
 pub head_well : (r : SeenRest) (x : Scope) (ts : List TokenAndSpan) → not (has_rest r) ≡ true
     → head_of r x ts ≡ (eaten is_comma x ts >>= (λ p. head_by p.0 x p.1))
 head_well seen.No x ts h = refl

@@ -1,11 +1,19 @@
-use Rattle.std.proofs.Common.{Some, not, refl}
+use Rattle.std.proofs.Common.{Some, not, refl, ap, ◌∙◌}
 use Rattle.std.proofs.lemmas.Result.{err_from_is_err_and}
 use Rattle.swc_input.specs.Buffer.{current}
 use Rattle.swc_grammar.specs.Tokens.{is_comma, is_dots}
+use Rattle.swc_steps.specs.Parsing.{seen_of}
 use Rattle.swc_steps.proofs.Steps as s
-use Rattle.swc_patterns.specs.{Rests.has_rest, Arrays.head_by, declared.pat.NextElement.NextElement as next}
-use Rattle.swc_patterns.proofs.Arrays.{head_here, head_of, head_well, head_ill}
+use Rattle.swc_patterns.specs.{Rests.has_rest, Rests.stage_of, Arrays.head_by, declared.pat.NextElement.NextElement as next}
+use Rattle.swc_patterns.proofs.Arrays.{head_end, head_here, head_of, head_well, head_ill}
 use Rattle.swc_patterns.proofs.pat.element_head.Goals as goal
+
+pub returns-then-not-branch-clause-next : goal.returns-then-not-branch-clause-next
+returns-then-not-branch-clause-next g c =
+    let none = (c.in_ok-look.ensures.end c.if-not-branch.true).0 in
+    λ sure.
+    s.unheard_at c.in_ok-look.ensures.looks
+    (λ x ts same e. head_end (stage_of c.args.rest) x ts (e ∙ ap seen_of none)) (c.unexpected.ensures.refuses (λ e. cc))
 
 pub returns-in_err-check_last-clause-next : goal.returns-in_err-check_last-clause-next
 returns-in_err-check_last-clause-next g c =
