@@ -1,4 +1,4 @@
-use Rattle.std.proofs.{Common.not, lemmas.Result.err_from_is_err_and}
+use Rattle.std.proofs.{Common.not, Common.true, lemmas.Result.err_from_is_err_and}
 use Rattle.swc_context.specs.Reserved.{is_reserved_word}
 use Rattle.swc_input.specs.Buffer.{context}
 use Rattle.swc_steps.specs.Parsing.{scope, name_spelling}
@@ -27,3 +27,7 @@ returns-clause-parses g c = λ sure.
     c.in_ok-name.name.sym)) c.in_ok-check_open_name.ensures.checks
     (λ ts h. open_by_well (scope g.I.Tokens.model c.parse_ident_name.new.input) name ts h)
     (λ ts h. open_by_ill (scope g.I.Tokens.model c.parse_ident_name.new.input) name ts h))
+
+pub returns-clause-falls : goal.returns-clause-falls
+returns-clause-falls g c =
+    let h = returns-clause-parses g c true in s.lower (record { leads = h.on.leads; onward = h.onward })

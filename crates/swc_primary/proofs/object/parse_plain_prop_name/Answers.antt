@@ -1,4 +1,4 @@
-use Rattle.std.proofs.Common.{Some, refl, sym, ap, ◌∙◌}
+use Rattle.std.proofs.Common.{Some, true, refl, sym, ap, ◌∙◌}
 use Rattle.std.proofs.lemmas.Result.{err_from_is_err_and}
 use Rattle.swc_input.specs.{Plain.plain, Kinds.at_token}
 use Rattle.swc_grammar.specs.Tokens.{is_word}
@@ -28,6 +28,10 @@ returns-then-is_word-clause-parses g c = λ sure.
     (s.on_seen {g = name_key} c.in_ok-require_cur.ensures.fits (λ x ts same e. key.name_key_here x ts
     (ap (at_token is_word) e ∙ sym c.is_word.ensures.value ∙ c.if-is_word.true)))
     (s.heard_as named_key (λ x ts. refl) (name_read g.met.I.Tokens.laws c.in_ok-name.ensures.names))
+
+pub returns-then-is_word-clause-falls : goal.returns-then-is_word-clause-falls
+returns-then-is_word-clause-falls g c =
+    let h = returns-then-is_word-clause-parses g c true in s.lower (record { leads = h.on.leads; onward = h.onward })
 
 pub returns-then-not-is_key_lit-clause-parses : goal.returns-then-not-is_key_lit-clause-parses
 returns-then-not-is_key_lit-clause-parses g c = λ sure.

@@ -1,4 +1,4 @@
-use Rattle.std.proofs.Common.{sym, ap, ◌∙◌}
+use Rattle.std.proofs.Common.{rules, sym, ap, ◌∙◌}
 use Rattle.std.proofs.lemmas.Result.{err_from_is_err_and}
 use Rattle.swc_input.specs.Kinds.{at_token}
 use Rattle.swc_grammar.specs.Arrows.{is_arrow}
@@ -20,4 +20,4 @@ pub returns-clause-free : goal.returns-clause-free
 returns-clause-free g c = λ sure.
     s.unheard_at c.in_ok-breaks.ensures.looks (λ x ts same e. arrow_stops x ts
     (ap (at_token is_arrow) e ∙ sym c.is_sign.ensures.value ∙ c.if-not-is_sign.false))
-    (c.syntax_error.ensures.refuses (λ e. cc))
+    (c.syntax_error.ensures.refuses (search rules))

@@ -16,7 +16,7 @@ span-span-requires g c =
 pub returns-then-is_some-clause-refuses : goal.returns-then-is_some-clause-refuses
 returns-then-is_some-clause-refuses g c = (
   subst (λ b. Refuses g.I.Tokens.model b c.syntax_error.result c.syntax_error.new.self) c.loop-item.invariant.0
-      c.syntax_error.ensures.refuses (λ e. cc),
+      (c.syntax_error.ensures.refuses (λ e. cc)),
   one_spread (tree_of c.args.nodes.now) c.deref-item-items.result.now c.args.items.now.items c.loop-item.item-index _
       c.deref-item-items.ensures.value c.loop-item-test.true (sym c.is_some.ensures ∙ c.if-is_some.true),
 )
