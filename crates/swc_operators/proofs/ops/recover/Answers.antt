@@ -5,14 +5,14 @@ use Rattle.swc_steps.proofs.Steps.{if_err, on_ok, tries_node}
 use Rattle.swc_steps.proofs.{Building.made_from, Making.not_recovered}
 use Rattle.swc_operators.proofs.ops.recover.Goals as goal
 
-pub returns-in_err-emit_error : goal.returns-in_err-emit_error
-returns-in_err-emit_error g c =
+pub returns-in_err-record_refusal : goal.returns-in_err-record_refusal
+returns-in_err-record_refusal g c =
     let p = err_from_is_err_and c.from_residual.result c.from_residual.ensures.1 in
-    let h = c.in_err-emit_error.ensures.tries in rw (p.1, p.2) (not_recovered h (λ n. absurd (n h.kind)) (grows-same _))
+    let h = c.in_err-record_refusal.ensures.tries in rw (p.1, p.2) (not_recovered h (λ n. absurd (n h.kind)) (grows-same _))
 
 pub returns : goal.returns
 returns g c =
-    let done = c.in_ok-emit_error.ensures in record {
+    let done = c.in_ok-record_refusal.ensures in record {
       effect = tries_node g.I.Tokens.model _ _ _ c.made.result done.tries c.made.ensures.refused;
       notes = λ l. on_ok c.made.result (done.notes l);
       some = on_ok c.made.result done.memory;
