@@ -198,15 +198,15 @@ parse_primary_expr-returns-in_ok-list-in-Paren g t c =
 pub parse_primary_expr-returns-in_err-elems-in-Array : goal.parse_primary_expr-returns-in_err-elems-in-Array
 parse_primary_expr-returns-in_err-elems-in-Array g t c =
     let took = c.skip-in-Array.ensures.took.1 in
-    let start = c.cur_span-in-Array.result in
-    let place = ap (λ v. v.lo) (sym (s.place_was took start c.cur_span-in-Array.ensures)) in
+    let start = c.cur_span.result in
+    let place = ap (λ v. v.lo) (sym (s.place_was took start c.cur_span.ensures)) in
     let begun = opening.array_begins g.B.Bodies.is_faithful g.B.BodyForms.forms c.in_ok-look.ensures.looks
     (sym c.primary_kind.ensures ∙ c.in-Array.is) took place in
-    let inner = elements_within g.B.BodyForms.forms c.get_ctx-in-Array.ensures
-    c.items_context-ctx-in-Array.ensures.decides c.replace_ctx-before-in-Array.ensures.before
-    c.replace_ctx-before-in-Array.ensures.moves c.replace_ctx-before-in-Array.ensures.context
-    c.parse_elements-read-in-Array.ensures c.in_err-elems-in-Array.was c.replace_ctx-in-Array.ensures.moves
-    c.replace_ctx-in-Array.ensures.context in
+    let inner = elements_within g.B.BodyForms.forms c.get_ctx.ensures
+    c.items_context-ctx.ensures.decides c.replace_ctx-before.ensures.before
+    c.replace_ctx-before.ensures.moves c.replace_ctx-before.ensures.context
+    c.parse_elements-read.ensures c.in_err-elems-in-Array.was c.replace_ctx.ensures.moves
+    c.replace_ctx.ensures.context in
     m.refused c.from_residual-in_err-elems-in-Array.ensures.1
     (s.unheard_after begun
     (s.unheard_call (λ x p. Some (array_from start.lo p.0, p.1)) (λ x ts. refl) inner.reads))
@@ -214,25 +214,25 @@ parse_primary_expr-returns-in_err-elems-in-Array g t c =
 
 pub parse_primary_expr-array_lit-requires : goal.parse_primary_expr-array_lit-requires
 parse_primary_expr-array_lit-requires g t c =
-    let inner = elements_within g.B.BodyForms.forms c.get_ctx-in-Array.ensures
-    c.items_context-ctx-in-Array.ensures.decides c.replace_ctx-before-in-Array.ensures.before
-    c.replace_ctx-before-in-Array.ensures.moves c.replace_ctx-before-in-Array.ensures.context
-    c.parse_elements-read-in-Array.ensures c.in_ok-elems-in-Array.was c.replace_ctx-in-Array.ensures.moves
-    c.replace_ctx-in-Array.ensures.context in
+    let inner = elements_within g.B.BodyForms.forms c.get_ctx.ensures
+    c.items_context-ctx.ensures.decides c.replace_ctx-before.ensures.before
+    c.replace_ctx-before.ensures.moves c.replace_ctx-before.ensures.context
+    c.parse_elements-read.ensures c.in_ok-elems-in-Array.was c.replace_ctx.ensures.moves
+    c.replace_ctx.ensures.context in
     record { apart = apart-down (elem_parts c.in_ok-elems-in-Array.elems.items) inner.from }
 
 pub parse_primary_expr-returns-in_ok-elems-in-Array : goal.parse_primary_expr-returns-in_ok-elems-in-Array
 parse_primary_expr-returns-in_ok-elems-in-Array g t c =
     let took = c.skip-in-Array.ensures.took.1 in
-    let start = c.cur_span-in-Array.result in
-    let place = ap (λ v. v.lo) (sym (s.place_was took start c.cur_span-in-Array.ensures)) in
+    let start = c.cur_span.result in
+    let place = ap (λ v. v.lo) (sym (s.place_was took start c.cur_span.ensures)) in
     let begun = opening.array_begins g.B.Bodies.is_faithful g.B.BodyForms.forms c.in_ok-look.ensures.looks
     (sym c.primary_kind.ensures ∙ c.in-Array.is) took place in
-    let inner = elements_within g.B.BodyForms.forms c.get_ctx-in-Array.ensures
-    c.items_context-ctx-in-Array.ensures.decides c.replace_ctx-before-in-Array.ensures.before
-    c.replace_ctx-before-in-Array.ensures.moves c.replace_ctx-before-in-Array.ensures.context
-    c.parse_elements-read-in-Array.ensures c.in_ok-elems-in-Array.was c.replace_ctx-in-Array.ensures.moves
-    c.replace_ctx-in-Array.ensures.context in
+    let inner = elements_within g.B.BodyForms.forms c.get_ctx.ensures
+    c.items_context-ctx.ensures.decides c.replace_ctx-before.ensures.before
+    c.replace_ctx-before.ensures.moves c.replace_ctx-before.ensures.context
+    c.parse_elements-read.ensures c.in_ok-elems-in-Array.was c.replace_ctx.ensures.moves
+    c.replace_ctx.ensures.context in
     m.after {m = record c.args.p.now { input = c.skip-in-Array.new.input }} c.array_lit.result begun (grows-same _)
     (m.call c.array_lit.result (λ x p. Some (array_from start.lo p.0, p.1))
     (λ x ts. refl) inner.reads inner.grows (λ x h. h)
@@ -245,9 +245,9 @@ parse_primary_expr-returns-in_err-props-in-Object g t c =
     let place = ap (λ v. v.lo) (sym (s.place_was took start c.cur_span-in-Object.ensures)) in
     let begun = opening.object_begins g.B.Bodies.is_faithful g.B.BodyForms.forms c.in_ok-look.ensures.looks
     (sym c.primary_kind.ensures ∙ c.in-Object.is) took place in
-    let inner = aside c.get_ctx-in-Object.ensures c.without_colon-ctx-in-Object.ensures.decides
+    let inner = aside c.get_ctx-in-Object.ensures c.without_colon-ctx.ensures.decides
     c.replace_ctx-before-in-Object.ensures.before c.replace_ctx-before-in-Object.ensures.moves
-    c.replace_ctx-before-in-Object.ensures.context c.parse_props-read-in-Object.ensures c.in_err-props-in-Object.was
+    c.replace_ctx-before-in-Object.ensures.context c.parse_props-read.ensures c.in_err-props-in-Object.was
     c.replace_ctx-in-Object.ensures.moves c.replace_ctx-in-Object.ensures.context in
     m.refused c.from_residual-in_err-props-in-Object.ensures.1
     (s.unheard_after begun
@@ -256,9 +256,9 @@ parse_primary_expr-returns-in_err-props-in-Object g t c =
 
 pub parse_primary_expr-object_lit-requires : goal.parse_primary_expr-object_lit-requires
 parse_primary_expr-object_lit-requires g t c =
-    let inner = aside c.get_ctx-in-Object.ensures c.without_colon-ctx-in-Object.ensures.decides
+    let inner = aside c.get_ctx-in-Object.ensures c.without_colon-ctx.ensures.decides
     c.replace_ctx-before-in-Object.ensures.before c.replace_ctx-before-in-Object.ensures.moves
-    c.replace_ctx-before-in-Object.ensures.context c.parse_props-read-in-Object.ensures c.in_ok-props-in-Object.was
+    c.replace_ctx-before-in-Object.ensures.context c.parse_props-read.ensures c.in_ok-props-in-Object.was
     c.replace_ctx-in-Object.ensures.moves c.replace_ctx-in-Object.ensures.context in
     record { apart = apart-down (props_parts c.in_ok-props-in-Object.props.items) inner.from }
 
@@ -269,9 +269,9 @@ parse_primary_expr-returns-in_ok-props-in-Object g t c =
     let place = ap (λ v. v.lo) (sym (s.place_was took start c.cur_span-in-Object.ensures)) in
     let begun = opening.object_begins g.B.Bodies.is_faithful g.B.BodyForms.forms c.in_ok-look.ensures.looks
     (sym c.primary_kind.ensures ∙ c.in-Object.is) took place in
-    let inner = aside c.get_ctx-in-Object.ensures c.without_colon-ctx-in-Object.ensures.decides
+    let inner = aside c.get_ctx-in-Object.ensures c.without_colon-ctx.ensures.decides
     c.replace_ctx-before-in-Object.ensures.before c.replace_ctx-before-in-Object.ensures.moves
-    c.replace_ctx-before-in-Object.ensures.context c.parse_props-read-in-Object.ensures c.in_ok-props-in-Object.was
+    c.replace_ctx-before-in-Object.ensures.context c.parse_props-read.ensures c.in_ok-props-in-Object.was
     c.replace_ctx-in-Object.ensures.moves c.replace_ctx-in-Object.ensures.context in
     m.after {m = record c.args.p.now { input = c.skip-in-Object.new.input }} c.object_lit.result begun (grows-same _)
     (m.call c.object_lit.result (λ x p. Some (object_from start.lo p.0, p.1))
