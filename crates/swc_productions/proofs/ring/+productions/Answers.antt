@@ -1311,25 +1311,25 @@ parse_super-returns-in-Name-2 g t c =
     (s.on_none {g = nothing} (λ x ts. refl) (λ x ts. refl) c.in_ok-super_chain.ensures.acts))
     (grows-same _) c.refuse_super_name.ensures
 
-pub parse_super-returns-in_err-leave-in-Computed-2 : goal.parse_super-returns-in_err-leave-in-Computed-2
-parse_super-returns-in_err-leave-in-Computed-2 g t c =
+pub parse_super-returns-in_err-read-in-Computed-2 : goal.parse_super-returns-in_err-read-in-Computed-2
+parse_super-returns-in_err-read-in-Computed-2 g t c =
     let inner = expr_within g.B.BodyForms.forms c.get_ctx-in-Computed-2.ensures
     c.include_in-ctx-in-Computed-2.ensures.decides c.replace_ctx-before-in-Computed-2.ensures.before
     c.replace_ctx-before-in-Computed-2.ensures.moves c.replace_ctx-before-in-Computed-2.ensures.context
-    c.parse_expr-read-in-Computed-2.ensures c.in_err-leave-in-Computed-2.was c.replace_ctx-in-Computed-2.ensures.moves
+    c.parse_expr-read-in-Computed-2.ensures c.in_err-read-in-Computed-2.was c.replace_ctx-in-Computed-2.ensures.moves
     c.replace_ctx-in-Computed-2.ensures.context in
     let other = s.on_call _ (base.super_splits g.B.BodyForms.forms (not c.args.no_call) c.args.start)
     (s.on_answer c.in-Other.is (c.in_ok-super_head.ensures.continues g.B.Bodies.is_faithful)) in
-    m.refused c.from_residual-in_err-leave-in-Computed-2.ensures.1
+    m.refused c.from_residual-in_err-read-in-Computed-2.ensures.1
     (s.unheard_after other (s.unheard_none (λ x ts. refl)
     (s.refuses_later c.in_ok-super_chain.ensures.acts inner.reads.refuses))) inner.grows
 
-pub parse_super-returns-in_ok-leave-in-Computed-2 : goal.parse_super-returns-in_ok-leave-in-Computed-2
-parse_super-returns-in_ok-leave-in-Computed-2 g t c =
+pub parse_super-returns-in_ok-read-in-Computed-2 : goal.parse_super-returns-in_ok-read-in-Computed-2
+parse_super-returns-in_ok-read-in-Computed-2 g t c =
     let inner = expr_within g.B.BodyForms.forms c.get_ctx-in-Computed-2.ensures
     c.include_in-ctx-in-Computed-2.ensures.decides c.replace_ctx-before-in-Computed-2.ensures.before
     c.replace_ctx-before-in-Computed-2.ensures.moves c.replace_ctx-before-in-Computed-2.ensures.context
-    c.parse_expr-read-in-Computed-2.ensures c.in_ok-leave-in-Computed-2.was c.replace_ctx-in-Computed-2.ensures.moves
+    c.parse_expr-read-in-Computed-2.ensures c.in_ok-read-in-Computed-2.was c.replace_ctx-in-Computed-2.ensures.moves
     c.replace_ctx-in-Computed-2.ensures.context in
     let other = s.on_call _ (base.super_splits g.B.BodyForms.forms (not c.args.no_call) c.args.start)
     (s.on_answer c.in-Other.is (c.in_ok-super_head.ensures.continues g.B.Bodies.is_faithful)) in
@@ -3086,13 +3086,13 @@ pub parse_body-returns-in_err-begins_block : goal.parse_body-returns-in_err-begi
 parse_body-returns-in_err-begins_block g t c =
     m.refused c.from_residual.ensures.1 (s.unheard_memory c.in_err-begins_block.ensures.looks) (grows-same _)
 
-pub parse_body-returns-then-begins_block : goal.parse_body-returns-then-begins_block
-parse_body-returns-then-begins_block g t c =
+pub parse_body-returns-then-branch : goal.parse_body-returns-then-branch
+parse_body-returns-then-branch g t c =
     let forms = g.B.BodyForms.forms in
     m.after {m = record c.args.p.now { input = c.begins_block.new.input }} c.parse_block_body.result
     (s.on_seen {g = block_inside forms g.B.Block.Spanned.place} c.in_ok-begins_block.ensures.looks
     (λ x ts same e. bodies.block_read forms g.B.Block.Spanned.place x ts
-    (ap (at_token is_brace) e ∙ sym c.in_ok-begins_block.ensures.value ∙ c.if-begins_block.true)))
+    (ap (at_token is_brace) e ∙ sym c.in_ok-begins_block.ensures.value ∙ c.if-branch.true)))
     (grows-same _) c.parse_block_body.ensures
 
 pub parse_body-returns-in_err-expr : goal.parse_body-returns-in_err-expr
@@ -3101,7 +3101,7 @@ parse_body-returns-in_err-expr g t c =
     m.refused c.from_residual-in_err-expr.ensures.1
     (s.unheard_after (s.on_seen {g = run forms (at Assign)} c.in_ok-begins_block.ensures.looks
     (λ x ts same e. bodies.expr_read forms g.B.Block.Spanned.place x ts
-    (ap (at_token is_brace) e ∙ sym c.in_ok-begins_block.ensures.value ∙ c.if-begins_block.false)))
+    (ap (at_token is_brace) e ∙ sym c.in_ok-begins_block.ensures.value ∙ c.if-branch.false)))
     c.in_err-expr.ensures.reads) c.in_err-expr.ensures.grows
 
 pub parse_body-returns : goal.parse_body-returns
@@ -3109,7 +3109,7 @@ parse_body-returns g t c =
     let forms = g.B.BodyForms.forms in
     m.yes (Ok _) (s.heard_after (s.on_seen {g = run forms (at Assign)} c.in_ok-begins_block.ensures.looks
     (λ x ts same e. bodies.expr_read forms g.B.Block.Spanned.place x ts
-    (ap (at_token is_brace) e ∙ sym c.in_ok-begins_block.ensures.value ∙ c.if-begins_block.false)))
+    (ap (at_token is_brace) e ∙ sym c.in_ok-begins_block.ensures.value ∙ c.if-branch.false)))
     c.in_ok-expr.ensures.reads) c.in_ok-expr.ensures.grows
     (apart-from (expr_part c.in_ok-expr.expr) c.in_ok-expr.ensures.from)
 
@@ -3382,8 +3382,8 @@ parse_tpl_elements-returns g t c =
     c.replace_ctx-before.ensures.moves c.replace_ctx-before.ensures.context c.parse_tpl_parts-read.ensures refl
     c.replace_ctx.ensures.moves c.replace_ctx.ensures.context
 
-pub parse_tpl_parts-loop-quasis-init : goal.parse_tpl_parts-loop-quasis-init
-parse_tpl_parts-loop-quasis-init g t c = (
+pub parse_tpl_parts-loop-exprs-init : goal.parse_tpl_parts-loop-exprs-init
+parse_tpl_parts-loop-exprs-init g t c = (
   s.on_here g.met.I.Tokens.laws c.args.p.now.input
       (λ x ts. tpl.parts_first _ c.args.is_tagged x ts
       ∙ ap (λ v. parts_behind g.B.BodyForms.forms c.args.is_tagged (trees (map quasi_tree v)) nil x ts)
@@ -3399,36 +3399,36 @@ parse_tpl_parts-loop-quasis-init g t c = (
   },
 )
 
-pub parse_tpl_parts-loop-quasis-preserved : goal.parse_tpl_parts-loop-quasis-preserved
-parse_tpl_parts-loop-quasis-preserved g t c =
+pub parse_tpl_parts-loop-exprs-preserved : goal.parse_tpl_parts-loop-exprs-preserved
+parse_tpl_parts-loop-exprs-preserved g t c =
     let inner = expr_within g.B.BodyForms.forms c.get_ctx.ensures c.include_in-ctx.ensures.decides
     c.replace_ctx-before.ensures.before c.replace_ctx-before.ensures.moves c.replace_ctx-before.ensures.context
     c.parse_expr-read.ensures c.in_ok-expr.was c.replace_ctx.ensures.moves c.replace_ctx.ensures.context in
-    let texts = trees (map quasi_tree c.loop-quasis.quasis.items) in
-    let exprs = trees (map (tree_of c.loop-quasis.p.nodes) c.loop-quasis.exprs.items) in
+    let texts = trees (map quasi_tree c.loop-exprs.quasis.items) in
+    let exprs = trees (map (tree_of c.loop-exprs.p.nodes) c.loop-exprs.exprs.items) in
     let now = trees_append texts (cons (quasi_tree c.in_ok-quasi.quasi) nil) in
     let element = s.on_call _ (tpl.behind_splits g.B.BodyForms.forms c.args.is_tagged texts exprs)
     (c.in_ok-quasi.ensures.parses g.B.Bodies.is_faithful).on in
     let opened = s.on_call (λ x p. parts_by g.B.BodyForms.forms c.args.is_tagged now exprs p.0 x p.1) (λ x ts. refl)
     (s.on_answer c.in-None.is (c.in_ok-end.ensures.ends g.B.Bodies.is_faithful).on) in
     let added = ap (λ v. trees (map quasi_tree v)) c.in_ok-add.ensures.added
-    ∙ trees-more quasi_tree c.loop-quasis.quasis.items c.in_ok-quasi.quasi in
+    ∙ trees-more quasi_tree c.loop-exprs.quasis.items c.in_ok-quasi.quasi in
     let grows = inner.grows in
     let nodes = c.parse_expr-read.new.p.nodes in
     let more = ap (λ v. trees (map (tree_of nodes) v)) c.in_ok-add-2.ensures.added
-    ∙ exprs-more c.loop-quasis.exprs.items c.in_ok-expr.expr grows c.loop-quasis.invariant.3 in
-    let parts = exprs-apart-more c.loop-quasis.exprs.items c.in_ok-expr.expr grows c.loop-quasis.invariant.3 inner.from
+    ∙ exprs-more c.loop-exprs.exprs.items c.in_ok-expr.expr grows c.loop-exprs.invariant.3 in
+    let parts = exprs-apart-more c.loop-exprs.exprs.items c.in_ok-expr.expr grows c.loop-exprs.invariant.3 inner.from
     in (
-      s.on_then c.loop-quasis.invariant.0 (s.on_then element (s.on_then opened
+      s.on_then c.loop-exprs.invariant.0 (s.on_then element (s.on_then opened
           (s.on_to (s.on_call (λ x p. parts_behind g.B.BodyForms.forms c.args.is_tagged now
           (trees_append exprs (cons p.0 nil)) x p.1) (λ x ts. refl)
           (s.on_then (s.on_call (λ x p. tpl_expr_close g.B.BodyForms.forms p.0 x p.1) (λ x ts. refl) inner.reads.on)
           (s.on_call (λ x q. Some (tree_of nodes c.in_ok-expr.expr, q.1)) (λ x ts. refl)
           (c.in_ok-expect.ensures.expects g.B.Bodies.is_faithful).on)))
           (tpl.behind_same g.B.BodyForms.forms c.args.is_tagged (sym added) (sym more))))),
-      let a = c.loop-quasis.invariant.1 in let b = c.in_ok-quasi.ensures.falls in let d = c.in_ok-end.ensures.falls in
+      let a = c.loop-exprs.invariant.1 in let b = c.in_ok-quasi.ensures.falls in let d = c.in_ok-end.ensures.falls in
           let e = inner.falls in let f = c.in_ok-expect.ensures.falls in omega arith,
-      grows-then c.loop-quasis.invariant.2 grows,
+      grows-then c.loop-exprs.invariant.2 grows,
       record {
         chained = ap (λ v. chain (seat_at nodes) (count c.args.p.now.nodes) (flat one_expr v) (count nodes))
             c.in_ok-add-2.ensures.added ∙ parts.chained;
@@ -3437,79 +3437,79 @@ parse_tpl_parts-loop-quasis-preserved g t c =
 
 pub parse_tpl_parts-returns-in_err-quasi : goal.parse_tpl_parts-returns-in_err-quasi
 parse_tpl_parts-returns-in_err-quasi g t c =
-    let texts = trees (map quasi_tree c.loop-quasis.quasis.items) in
-    let exprs = trees (map (tree_of c.loop-quasis.p.nodes) c.loop-quasis.exprs.items) in
+    let texts = trees (map quasi_tree c.loop-exprs.quasis.items) in
+    let exprs = trees (map (tree_of c.loop-exprs.p.nodes) c.loop-exprs.exprs.items) in
     m.refused c.from_residual.ensures.1
-    (s.unheard_after c.loop-quasis.invariant.0
+    (s.unheard_after c.loop-exprs.invariant.0
     (s.unheard_call _ (tpl.behind_splits g.B.BodyForms.forms c.args.is_tagged texts exprs)
     (c.in_err-quasi.ensures.parses g.B.Bodies.is_faithful)))
-    c.loop-quasis.invariant.2
+    c.loop-exprs.invariant.2
 
 pub parse_tpl_parts-returns-in_err-add : goal.parse_tpl_parts-returns-in_err-add
 parse_tpl_parts-returns-in_err-add g t c =
     m.refused c.from_residual-in_err-add.ensures.1
-    (s.unheard_memory (s.forgoes_later (s.leads_then c.loop-quasis.invariant.0.leads
+    (s.unheard_memory (s.forgoes_later (s.leads_then c.loop-exprs.invariant.0.leads
     (c.in_ok-quasi.ensures.parses g.B.Bodies.is_faithful).on.leads)
     (s.forgoes_here g.met.I.Tokens.laws _ _ _ c.in_err-add.ensures.refused)))
-    c.loop-quasis.invariant.2
+    c.loop-exprs.invariant.2
 
 pub parse_tpl_parts-returns-in_err-end : goal.parse_tpl_parts-returns-in_err-end
 parse_tpl_parts-returns-in_err-end g t c =
-    let texts = trees (map quasi_tree c.loop-quasis.quasis.items) in
-    let exprs = trees (map (tree_of c.loop-quasis.p.nodes) c.loop-quasis.exprs.items) in
+    let texts = trees (map quasi_tree c.loop-exprs.quasis.items) in
+    let exprs = trees (map (tree_of c.loop-exprs.p.nodes) c.loop-exprs.exprs.items) in
     let now = trees_append texts (cons (quasi_tree c.in_ok-quasi.quasi) nil) in
     let element = s.on_call _ (tpl.behind_splits g.B.BodyForms.forms c.args.is_tagged texts exprs)
     (c.in_ok-quasi.ensures.parses g.B.Bodies.is_faithful).on in
     m.refused c.from_residual-in_err-end.ensures.1
-    (s.unheard_after c.loop-quasis.invariant.0
+    (s.unheard_after c.loop-exprs.invariant.0
     (s.unheard_after element (s.unheard_call (λ x p.
     parts_by g.B.BodyForms.forms c.args.is_tagged now exprs p.0 x p.1) (λ x ts. refl)
     (c.in_err-end.ensures.ends g.B.Bodies.is_faithful))))
-    c.loop-quasis.invariant.2
+    c.loop-exprs.invariant.2
 
 pub parse_tpl_parts-returns-in-Some : goal.parse_tpl_parts-returns-in-Some
 parse_tpl_parts-returns-in-Some g t c =
-    let texts = trees (map quasi_tree c.loop-quasis.quasis.items) in
-    let exprs = trees (map (tree_of c.loop-quasis.p.nodes) c.loop-quasis.exprs.items) in
+    let texts = trees (map quasi_tree c.loop-exprs.quasis.items) in
+    let exprs = trees (map (tree_of c.loop-exprs.p.nodes) c.loop-exprs.exprs.items) in
     let now = trees_append texts (cons (quasi_tree c.in_ok-quasi.quasi) nil) in
     let element = s.on_call _ (tpl.behind_splits g.B.BodyForms.forms c.args.is_tagged texts exprs)
     (c.in_ok-quasi.ensures.parses g.B.Bodies.is_faithful).on in
     let added = ap (λ v. trees (map quasi_tree v)) c.in_ok-add.ensures.added
-    ∙ trees-more quasi_tree c.loop-quasis.quasis.items c.in_ok-quasi.quasi in
+    ∙ trees-more quasi_tree c.loop-exprs.quasis.items c.in_ok-quasi.quasi in
     let some = s.heard_answer c.in-Some.is (c.in_ok-end.ensures.ends g.B.Bodies.is_faithful) in
     let whole = ap (λ v. parts_e c.in-Some.end v exprs) (sym added) in
     m.yes (Ok _)
-    (s.heard_answer whole (s.heard_after c.loop-quasis.invariant.0
+    (s.heard_answer whole (s.heard_after c.loop-exprs.invariant.0
     (s.heard_after element (s.heard_call (λ x p. parts_by g.B.BodyForms.forms c.args.is_tagged now exprs p.0 x p.1)
     (λ x ts. refl) (λ x ts. refl) some))))
-    c.loop-quasis.invariant.2 c.loop-quasis.invariant.3
+    c.loop-exprs.invariant.2 c.loop-exprs.invariant.3
 
 pub parse_tpl_parts-returns-in_err-expr : goal.parse_tpl_parts-returns-in_err-expr
 parse_tpl_parts-returns-in_err-expr g t c =
     let inner = expr_within g.B.BodyForms.forms c.get_ctx.ensures c.include_in-ctx.ensures.decides
     c.replace_ctx-before.ensures.before c.replace_ctx-before.ensures.moves c.replace_ctx-before.ensures.context
     c.parse_expr-read.ensures c.in_err-expr.was c.replace_ctx.ensures.moves c.replace_ctx.ensures.context in
-    let texts = trees (map quasi_tree c.loop-quasis.quasis.items) in
-    let exprs = trees (map (tree_of c.loop-quasis.p.nodes) c.loop-quasis.exprs.items) in
+    let texts = trees (map quasi_tree c.loop-exprs.quasis.items) in
+    let exprs = trees (map (tree_of c.loop-exprs.p.nodes) c.loop-exprs.exprs.items) in
     let now = trees_append texts (cons (quasi_tree c.in_ok-quasi.quasi) nil) in
     let element = s.on_call _ (tpl.behind_splits g.B.BodyForms.forms c.args.is_tagged texts exprs)
     (c.in_ok-quasi.ensures.parses g.B.Bodies.is_faithful).on in
     let opened = s.on_call (λ x p. parts_by g.B.BodyForms.forms c.args.is_tagged now exprs p.0 x p.1) (λ x ts. refl)
     (s.on_answer c.in-None.is (c.in_ok-end.ensures.ends g.B.Bodies.is_faithful).on) in
     m.refused c.from_residual-in_err-expr.ensures.1
-    (s.unheard_after c.loop-quasis.invariant.0 (s.unheard_after element (s.unheard_after opened
+    (s.unheard_after c.loop-exprs.invariant.0 (s.unheard_after element (s.unheard_after opened
     (s.unheard_call (λ x p. parts_behind g.B.BodyForms.forms c.args.is_tagged now
     (trees_append exprs (cons p.0 nil)) x p.1) (λ x ts. refl)
     (s.unheard_call (λ x p. tpl_expr_close g.B.BodyForms.forms p.0 x p.1) (λ x ts. refl) inner.reads)))))
-    (grows-then c.loop-quasis.invariant.2 inner.grows)
+    (grows-then c.loop-exprs.invariant.2 inner.grows)
 
 pub parse_tpl_parts-returns-in_err-expect : goal.parse_tpl_parts-returns-in_err-expect
 parse_tpl_parts-returns-in_err-expect g t c =
     let inner = expr_within g.B.BodyForms.forms c.get_ctx.ensures c.include_in-ctx.ensures.decides
     c.replace_ctx-before.ensures.before c.replace_ctx-before.ensures.moves c.replace_ctx-before.ensures.context
     c.parse_expr-read.ensures c.in_ok-expr.was c.replace_ctx.ensures.moves c.replace_ctx.ensures.context in
-    let texts = trees (map quasi_tree c.loop-quasis.quasis.items) in
-    let exprs = trees (map (tree_of c.loop-quasis.p.nodes) c.loop-quasis.exprs.items) in
+    let texts = trees (map quasi_tree c.loop-exprs.quasis.items) in
+    let exprs = trees (map (tree_of c.loop-exprs.p.nodes) c.loop-exprs.exprs.items) in
     let now = trees_append texts (cons (quasi_tree c.in_ok-quasi.quasi) nil) in
     let element = s.on_call _ (tpl.behind_splits g.B.BodyForms.forms c.args.is_tagged texts exprs)
     (c.in_ok-quasi.ensures.parses g.B.Bodies.is_faithful).on in
@@ -3517,12 +3517,12 @@ parse_tpl_parts-returns-in_err-expect g t c =
     (s.on_answer c.in-None.is (c.in_ok-end.ensures.ends g.B.Bodies.is_faithful).on) in
     let e = tree_of c.parse_expr-read.new.p.nodes c.in_ok-expr.expr in
     m.refused c.from_residual-in_err-expect.ensures.1
-    (s.unheard_after c.loop-quasis.invariant.0 (s.unheard_after element (s.unheard_after opened
+    (s.unheard_after c.loop-exprs.invariant.0 (s.unheard_after element (s.unheard_after opened
     (s.unheard_call (λ x p. parts_behind g.B.BodyForms.forms c.args.is_tagged now
     (trees_append exprs (cons p.0 nil)) x p.1) (λ x ts. refl)
     (s.unheard_after (s.on_call (λ x p. tpl_expr_close g.B.BodyForms.forms p.0 x p.1) (λ x ts. refl) inner.reads.on)
     (s.unheard_call (λ x q. Some (e, q.1)) (λ x ts. refl) (c.in_err-expect.ensures.expects g.B.Bodies.is_faithful)))))))
-    (grows-then c.loop-quasis.invariant.2 inner.grows)
+    (grows-then c.loop-exprs.invariant.2 inner.grows)
 
 pub parse_tpl_parts-returns-in_err-add-2 : goal.parse_tpl_parts-returns-in_err-add-2
 parse_tpl_parts-returns-in_err-add-2 g t c =
@@ -3530,12 +3530,12 @@ parse_tpl_parts-returns-in_err-add-2 g t c =
     c.replace_ctx-before.ensures.before c.replace_ctx-before.ensures.moves c.replace_ctx-before.ensures.context
     c.parse_expr-read.ensures c.in_ok-expr.was c.replace_ctx.ensures.moves c.replace_ctx.ensures.context in
     m.refused c.from_residual-in_err-add-2.ensures.1
-    (s.unheard_memory (s.forgoes_later (s.leads_then c.loop-quasis.invariant.0.leads
+    (s.unheard_memory (s.forgoes_later (s.leads_then c.loop-exprs.invariant.0.leads
     (s.leads_then (c.in_ok-quasi.ensures.parses g.B.Bodies.is_faithful).on.leads
     (s.leads_then (c.in_ok-end.ensures.ends g.B.Bodies.is_faithful).on.leads
     (s.leads_then inner.reads.on.leads (c.in_ok-expect.ensures.expects g.B.Bodies.is_faithful).on.leads))))
     (s.forgoes_here g.met.I.Tokens.laws _ _ _ c.in_err-add-2.ensures.refused)))
-    (grows-then c.loop-quasis.invariant.2 inner.grows)
+    (grows-then c.loop-exprs.invariant.2 inner.grows)
 
 pub parse_object_pat_prop-returns-in_err-dots : goal.parse_object_pat_prop-returns-in_err-dots
 parse_object_pat_prop-returns-in_err-dots g t c =
@@ -3802,7 +3802,7 @@ parse_pat-returns-in_err-props-in-Object g t c =
     m.refused c.from_residual-in_err-props-in-Object.ensures.1
     (pat_begins.object_refused g.B.BodyForms.forms c.in_ok-look.ensures.looks
     (sym c.pat_kind.ensures ∙ c.in-Object.is) c.skip-in-Object.ensures.took.1
-    (leaving.unheard_aside c.replace_ctx-before.ensures.moves (as_set _ _ _ (λ x. x) c.get_ctx.ensures
+    (leaving.unheard_aside c.replace_ctx-before.ensures.moves (as_set g.I.Tokens.model c.skip-in-Object.new.input c.replace_ctx-before.new.input (λ x. x) c.get_ctx.ensures
     c.without_colon-ctx.ensures.decides c.replace_ctx-before.ensures.context)
     (leaving.leaves_err (λ l. props_done (pat_props_at c.parse_pat_props-read.new.p.nodes l))
     c.parse_pat_props-read.result _ c.in_err-props-in-Object.was c.parse_pat_props-read.ensures.reads)
@@ -3822,8 +3822,8 @@ parse_pat-returns-in_ok-props-in-Object g t c =
     let ns = c.parse_pat_props-read.new.p.nodes in
     let list = c.in_ok-props-in-Object.props in
     let took = c.skip-in-Object.ensures.took.1 in
-    let start = c.cur_span-in-Object.result in
-    let place = ap (λ v. v.lo) (sym (s.place_was took start c.cur_span-in-Object.ensures)) in
+    let start = c.cur_span.result in
+    let place = ap (λ v. v.lo) (sym (s.place_was took start c.cur_span.ensures)) in
     let apart = m.held_is _ c.parse_pat_props-read.result list c.in_ok-props-in-Object.was
     c.parse_pat_props-read.ensures.from in
     let made = c.object_pat.ensures (count c.args.p.now.nodes) apart in
@@ -3831,7 +3831,7 @@ parse_pat-returns-in_ok-props-in-Object g t c =
     (pat_begins.object_reads g.B.BodyForms.forms (pat_at c.object_pat.new.p.nodes)
     (pat_props_at ns list) c.object_pat.result c.object_pat.new.p.input c.in_ok-look.ensures.looks
     (sym c.pat_kind.ensures ∙ c.in-Object.is) took place
-    (s.on_aside c.replace_ctx-before.ensures.moves (as_set _ _ _ (λ x. x) c.get_ctx.ensures
+    (s.on_aside c.replace_ctx-before.ensures.moves (as_set g.I.Tokens.model c.skip-in-Object.new.input c.replace_ctx-before.new.input (λ x. x) c.get_ctx.ensures
     c.without_colon-ctx.ensures.decides c.replace_ctx-before.ensures.context)
     (leaving.leaves_ok (λ l. props_done (pat_props_at ns l)) c.parse_pat_props-read.result list
     c.in_ok-props-in-Object.was c.parse_pat_props-read.ensures.reads)

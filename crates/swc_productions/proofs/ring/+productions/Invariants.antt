@@ -206,8 +206,8 @@ decreases-parse_tpl_elements g l = l.room * 20 + 3
 abbrev pub decreases-parse_tpl_parts : goal.decreases-parse_tpl_parts
 decreases-parse_tpl_parts g l = l.room * 20 + 2
 
-abbrev pub invariant-parse_tpl_parts-loop-quasis : goal.invariant-parse_tpl_parts-loop-quasis
-invariant-parse_tpl_parts-loop-quasis g l =
+abbrev pub invariant-parse_tpl_parts-loop-exprs : goal.invariant-parse_tpl_parts-loop-exprs
+invariant-parse_tpl_parts-loop-exprs g l =
     On g.I.Tokens.model g.B.Bodies.is_faithful
     (run g.B.BodyForms.forms (sym (Parts l.fn.is_tagged)))
     (parts_behind g.B.BodyForms.forms l.fn.is_tagged (trees (map quasi_tree l.quasis.items))
@@ -217,8 +217,8 @@ invariant-parse_tpl_parts-loop-quasis g l =
     × Grows l.fn.p.nodes l.p.nodes
     × Apart (count l.fn.p.nodes) l.p.nodes (exprs_parts l.exprs)
 
-abbrev pub decreases-parse_tpl_parts-loop-quasis : goal.decreases-parse_tpl_parts-loop-quasis
-decreases-parse_tpl_parts-loop-quasis g l = to_come g.I.Tokens.model l.p.input
+abbrev pub decreases-parse_tpl_parts-loop-exprs : goal.decreases-parse_tpl_parts-loop-exprs
+decreases-parse_tpl_parts-loop-exprs g l = to_come g.I.Tokens.model l.p.input
 
 abbrev pub decreases-parse_object_pat_prop : goal.decreases-parse_object_pat_prop
 decreases-parse_object_pat_prop g l = l.room * 20 + 3
