@@ -17,21 +17,25 @@ is_choice (n.Assign s op l r) = true
 is_choice (n.Cond s t c a) = true
 is_choice x = is_call x
 
--- a literal of parts, a link or an operation with one operand, or one of those
+-- an operation with one operand, or one of those
 abbrev pub is_operation : {F C K : Type 0} → Node F C K → Bool
-is_operation (n.Array s elems comma) = true
-is_operation (n.Object s props comma) = true
-is_operation (n.Seq s es) = true
-is_operation (n.Paren p) = true
-is_operation (n.Member m) = true
-is_operation (n.SuperProp p) = true
-is_operation (n.OptChain c) = true
-is_operation (n.Tpl t) = true
 is_operation (n.Unary s op a) = true
 is_operation (n.Update s op prefix a) = true
 is_operation (n.Await s a) = true
 is_operation (n.Yield s a d) = true
 is_operation x = is_choice x
+
+-- a literal of parts, a sequence, a link or what is in parentheses, or one of those
+abbrev pub is_compound : {F C K : Type 0} → Node F C K → Bool
+is_compound (n.Array s elems comma) = true
+is_compound (n.Object s props comma) = true
+is_compound (n.Seq s es) = true
+is_compound (n.Paren p) = true
+is_compound (n.Member m) = true
+is_compound (n.SuperProp p) = true
+is_compound (n.OptChain c) = true
+is_compound (n.Tpl t) = true
+is_compound x = is_operation x
 
 -- a property, which is no spread
 abbrev pub is_named : {K : Type 0} → PropNode K → Bool

@@ -1,13 +1,14 @@
 // Makes an expression, a pattern or a target of a node and the trees of its parts, which are taken from the end of a
 // list: the last part first.
 // Where memory runs out, it is asked for before a tree is in hand, as far as that goes.
-ghost use Rattle.std.specs.Prelude.{◌≡◌, true, IfOk};
+ghost use Rattle.std.specs.Prelude.{◌≡◌, ◌++◌, true, IfOk};
 ghost use Rattle.swc_ast.specs.Parts.{simple_tree};
-ghost use Rattle.swc_ast.specs.TreeOf.{boxed_tree, pat_tree, target_tree};
+ghost use Rattle.swc_ast.specs.Tree.{node, cons, nil, cond};
+ghost use Rattle.swc_ast.specs.TreeOf.{expr_tree, boxed_tree, pat_tree, target_tree};
 ghost use Rattle.swc_nodes.specs.NodeTree.{node_tree};
-ghost use Rattle.swc_nodes.specs.NodeParts.{expr, pat, simple, pattern, form, view_ok, slots};
-ghost use Rattle.swc_trees.specs.Building.{AssemblesExpr, Offers, Assembled};
-ghost use Rattle.swc_trees.specs.Kinds.{is_operation, is_choice, is_call};
+ghost use Rattle.swc_nodes.specs.NodeParts.{expr, pat, simple, pattern, form, view_ok, slots, one_expr};
+ghost use Rattle.swc_trees.specs.Building.{AssemblesExpr, Assembles, Offers, Assembled};
+ghost use Rattle.swc_trees.specs.Kinds.{is_compound, is_operation, is_choice, is_call};
 
 use crate::built::{Built, pop_expr, pop_if_some, pop_target};
 use crate::items::{all, boxed_part, boxed_pat};
@@ -20,7 +21,8 @@ use swc_ast::ident::BindingIdent;
 use swc_ast::lit::Lit;
 use swc_ast::pat::{Pat, RestPat};
 use swc_ast::spanned::Spanned;
-use swc_nodes::node::Node;
+use swc_context::span::Span;
+use swc_nodes::node::{ExprId, Node};
 
 /// An expression, from its node.
 pub(crate) fn assemble_expr<F: Spanned + Drop, C: Spanned + Drop, K: Spanned + Drop>(
@@ -46,18 +48,18 @@ pub(crate) fn assemble_expr<F: Spanned + Drop, C: Spanned + Drop, K: Spanned + D
         Node::BigInt(l) => Ok(Expr::Lit(Lit::BigInt(l))),
         Node::Regex(r) => Ok(Expr::Lit(Lit::Regex(r))),
         Node::Invalid(i) => Ok(Expr::Invalid(Invalid { span: i.span })),
-        node => assemble_operation(alloc, built, node),
+        node => assemble_compound(alloc, built, node),
     }
 }
 
-/// A literal of parts, a link or an operation with one operand, or one of the nodes after it.
-fn assemble_operation<F: Spanned + Drop, C: Spanned + Drop, K: Spanned + Drop>(
+/// A literal of parts, a sequence, a link or what is in parentheses, or one of the nodes after it.
+fn assemble_compound<F: Spanned + Drop, C: Spanned + Drop, K: Spanned + Drop>(
     alloc: Global,
     built: &mut Vec<Built<F, C, K>>,
     node: Node<F, C, K>,
 ) -> Result<Expr<F, C, K>, AllocError>
     requires offers { Offers (slots node) built.old.items }
-    requires operation { is_operation node ≡ true }
+    requires compound { is_compound node ≡ true }
     ensures { AssemblesExpr F.place C.place K.place node built.old.items result built.new.items }
 {
     match node {
@@ -78,6 +80,21 @@ fn assemble_operation<F: Spanned + Drop, C: Spanned + Drop, K: Spanned + Drop>(
         Node::SuperProp(p) => Ok(Expr::SuperProp(super_prop(built, p))),
         Node::OptChain(c) => Ok(Expr::OptChain(chain(alloc, built, c)?)),
         Node::Tpl(t) => Ok(Expr::Tpl(template(alloc, built, t)?)),
+        node => assemble_operation(alloc, built, node),
+    }
+}
+
+/// An operation with one operand, or one of the nodes after it.
+fn assemble_operation<F: Spanned + Drop, C: Spanned + Drop, K: Spanned + Drop>(
+    alloc: Global,
+    built: &mut Vec<Built<F, C, K>>,
+    node: Node<F, C, K>,
+) -> Result<Expr<F, C, K>, AllocError>
+    requires offers { Offers (slots node) built.old.items }
+    requires operation { is_operation node ≡ true }
+    ensures { AssemblesExpr F.place C.place K.place node built.old.items result built.new.items }
+{
+    match node {
         Node::Unary { span, op, arg } => {
             let arg = pop_expr(built, arg);
             Ok(Expr::Unary { span, op, arg })
@@ -162,18 +179,32 @@ fn assemble_choice<F: Spanned + Drop, C: Spanned + Drop, K: Spanned + Drop>(
             test,
             cons,
             alt,
-        } => {
-            let alt = pop_expr(built, alt);
-            let cons = pop_expr(built, cons);
-            let test = pop_expr(built, test);
-            Ok(Expr::Cond {
-                span,
-                test,
-                cons,
-                alt,
-            })
-        }
+        } => Ok(conditional(built, span, test, cons, alt)),
         node => assemble_call(alloc, built, node),
+    }
+}
+
+/// A conditional.
+fn conditional<F: Spanned + Drop, C: Spanned + Drop, K: Spanned + Drop>(
+    built: &mut Vec<Built<F, C, K>>,
+    span: Span,
+    test: ExprId,
+    consequent: ExprId,
+    alt: ExprId,
+) -> Expr<F, C, K>
+    requires { Offers (one_expr test ++ one_expr consequent ++ one_expr alt) built.old.items }
+    ensures { Assembles F.place C.place K.place (one_expr test ++ one_expr consequent ++ one_expr alt)
+        (λ boxed number. expr_tree _ _ _ F.place C.place K.place result ≡ node cond span (cons (number test)
+        (cons (number consequent) (cons (number alt) nil)))) built.old.items built.new.items }
+{
+    let alt = pop_expr(built, alt);
+    let cons = pop_expr(built, consequent);
+    let test = pop_expr(built, test);
+    Expr::Cond {
+        span,
+        test,
+        cons,
+        alt,
     }
 }
 

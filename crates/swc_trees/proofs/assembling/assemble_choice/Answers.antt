@@ -1,8 +1,8 @@
-use Rattle.std.proofs.Common.{[], ◌∷◌, ◌++◌, ap, ◌∙◌}
-use Rattle.swc_trees.proofs.Leaves.{bin_tree, assign_tree, cond_tree}
-use Rattle.swc_trees.proofs.Assembled.{offers-is, offers-first, offers-second, offers-middle, offers-last, made-two, made-three, made-is}
-use Rattle.swc_trees.proofs.Agreed.{two, three}
-use Rattle.swc_ast.specs.Tree.{bin, assign, cond, node}
+use Rattle.std.proofs.Common.{[], ◌∷◌, ap, ◌∙◌}
+use Rattle.swc_trees.proofs.Leaves.{bin_tree, assign_tree}
+use Rattle.swc_trees.proofs.Assembled.{offers-is, offers-first, offers-second, made-one, made-two, made-is}
+use Rattle.swc_trees.proofs.Agreed.{two}
+use Rattle.swc_ast.specs.Tree.{bin, assign, node}
 use Rattle.swc_nodes.specs.NodeParts.{one_expr, target_part}
 use Rattle.swc_trees.proofs.assembling.assemble_choice.Goals as goal
 
@@ -40,25 +40,8 @@ returns-in-Assign g c =
     c.in-Assign.op c.pop_target-left.result c.pop_expr-right-in-Assign.result ∙ ap
     (node (assign c.in-Assign.op) c.in-Assign.span) (two e f)))
 
-pub pop_expr-alt-requires : goal.pop_expr-alt-requires
-pop_expr-alt-requires g c =
-    offers-second (one_expr c.in-Cond.test ++ one_expr c.in-Cond.cons) (one_expr c.in-Cond.alt)
-    (offers-is c.in-Cond.is c.requires.offers)
-
-pub pop_expr-cons-requires : goal.pop_expr-cons-requires
-pop_expr-cons-requires g c =
-    offers-middle (one_expr c.in-Cond.test) (one_expr c.in-Cond.cons) (one_expr c.in-Cond.alt)
-    (offers-is c.in-Cond.is c.requires.offers) c.pop_expr-alt.ensures
-
-pub pop_expr-test-requires : goal.pop_expr-test-requires
-pop_expr-test-requires g c =
-    offers-last (one_expr c.in-Cond.test) (one_expr c.in-Cond.cons) (one_expr c.in-Cond.alt)
-    (offers-is c.in-Cond.is c.requires.offers) c.pop_expr-alt.ensures c.pop_expr-cons.ensures
+pub conditional-requires : goal.conditional-requires
+conditional-requires g c = offers-is c.in-Cond.is c.requires.offers
 
 pub returns-in-Cond : goal.returns-in-Cond
-returns-in-Cond g c =
-    made-is _ c.in-Cond.is (made-three (one_expr c.in-Cond.test) (one_expr c.in-Cond.cons)
-    (one_expr c.in-Cond.alt) c.pop_expr-alt.ensures c.pop_expr-cons.ensures c.pop_expr-test.ensures
-    (λ at d e f. cond_tree _ _ _ g.F.Spanned.place g.C.Spanned.place g.K.Spanned.place c.in-Cond.span
-    c.pop_expr-test.result c.pop_expr-cons.result c.pop_expr-alt.result ∙ ap (node cond c.in-Cond.span)
-    (three d e f)))
+returns-in-Cond g c = made-is _ c.in-Cond.is (made-one c.conditional.ensures (λ at e. e))
