@@ -1,13 +1,13 @@
 -- Trees take the place of the numbers from the last part on: what is left of the list is enough for the parts before
 -- it.
-use Rattle.std.proofs.Common.{◌≡◌, ℕ, ◌+◌, ◌<◌, List, [], ◌∷◌, ◌++◌, map, reverse, length, Option, Some, None, Result, Ok, Err, IfOk, refl, sym, ap, subst, ◌∙◌, arith, append_assoc}
+use Rattle.std.proofs.Common.{◌≡◌, ℕ, ◌+◌, ◌<◌, List, [], ◌∷◌, ◌++◌, map, reverse, length, Option, Some, None, Result, Ok, Err, IfOk, IsOkAnd, IsSome, MatchOption, refl, sym, ap, subst, ◌∙◌, arith, append_assoc}
 use Rattle.std.proofs.lemmas.List.{append-nil, append_cancel_right, length-append, length-map, map-append, reverse-append}
 use Rattle.std.specs.{Option.option_to_list, declared.alloc.AllocError.AllocError, declared.alloc.Global.Global, declared.boxed.Box.Box}
 use Rattle.swc_context.specs.declared.span.Span.{Span}
 use Rattle.swc_ast.specs.Tree.{Tree}
-use Rattle.swc_nodes.specs.NodeParts.{Part, slots, flat}
-use Rattle.swc_nodes.specs.{NodeTree.node_tree, declared.node.Node.Node}
-use Rattle.swc_trees.specs.Building.{Kind, part_kind, built_kind, built_tree, Offers, Assembled}
+use Rattle.swc_nodes.specs.NodeParts.{Part, slots, flat, target_part}
+use Rattle.swc_nodes.specs.{NodeTree.node_tree, declared.node.Node.Node, declared.node.TargetNode.TargetNode, declared.node.TargetNode.TargetNode as target}
+use Rattle.swc_trees.specs.Building.{Kind, a_target, part_kind, built_kind, built_tree, Offers, Assembled}
 use Rattle.swc_trees.specs.declared.built.Built.{Built}
 use Rattle.swc_trees.proofs.Agreed.{flat-append}
 
@@ -41,12 +41,20 @@ ok-of P r y e a = subst (λ w. IfOk w P) e a
 pub ok-is : {Y : Type 0} (x y : Y) (r : Result Y AllocError) → r ≡ Ok x → r ≡ Ok y → x ≡ y
 ok-is x y r d e = cc
 
+pub was-some : {T : Type 0} (P : Type 0) (Q : T → Type 0) (r : Option T) → MatchOption r (P → ⊥) Q → P → IsSome r
+was-some P Q None m p = absurd (m p)
+was-some P Q (Some x) m p = refl
+
 -- ---- what is offered
 
 -- the kind of a tree that was taken, if one was
 abbrev pub KindIs : {F C K : Type 0} → Option (Built F C K) → Kind → Type 0
 KindIs None k = Unit {0}
 KindIs (Some b) k = built_kind b ≡ k
+
+pub target-kind : (t : TargetNode) → part_kind (target_part t) ≡ a_target
+target-kind (target.Simple e) = refl
+target-kind (target.Pat p) = refl
 
 module _ {F C K : Type 0} where
   pub offers-along : {Y : Type 0} {bs : List (Built F C K)} (parts : Y → List Part) {x y : Y} → y ≡ x
@@ -93,6 +101,11 @@ module _ {F C K : Type 0} where
       (part_kind p ∷ []) in
       let r = (split-even (map built_kind new) (built_kind b ∷ []) o.front (part_kind p ∷ []) (omega arith) w).1 in
       cc
+
+  pub popped-is : {old : List (Built F C K)} (p : Part) (new : List (Built F C K)) {b : Built F C K}
+      (r : Option (Built F C K)) → Offers (p ∷ []) old → old ≡ new ++ option_to_list r → r ≡ Some b
+      → built_kind b ≡ part_kind p
+  popped-is p new r o e s = subst (λ v. KindIs v (part_kind p)) s (popped-kind p new r o e)
 
 -- ---- what is made of the trees
 
@@ -205,3 +218,14 @@ module _ {F C K : Type 0} {fun_at : F → Span} {class_at : C → Span} {block_a
           (λ at e f. ap (λ w. map tree (reverse w)) p ∙ ap (map tree) (reverse-append made (x ∷ [])) ∙ ap
           (λ w. w ∷ map tree (reverse made)) e ∙ ap (λ w. of at i ∷ w) f);
     }
+
+-- what a result holds, in something that stands for the same tree
+module _ {F C K : Type 0} (fun_at : F → Span) (class_at : C → Span) (block_at : K → Span) where
+  pub made-wrapped : {X Y : Type 0} (old new : List (Built F C K)) (ps : List Part) (tree : X → Tree F C K)
+      (whole : Y → Tree F C K) (of : (ℕ → Tree F C K) → Tree F C K) (r : Result X AllocError) (q : Result Y AllocError)
+      → IfOk q (λ y. IsOkAnd r (λ x. whole y ≡ tree x))
+      → IfOk r (λ x. Assembled fun_at class_at block_at ps (λ at. tree x ≡ of at) old new)
+      → IfOk q (λ y. Assembled fun_at class_at block_at ps (λ at. whole y ≡ of at) old new)
+  made-wrapped old new ps tree whole of (Ok x) (Ok y) e a = made-one a (λ at h. e ∙ h)
+  made-wrapped old new ps tree whole of (Err f) (Ok y) e a = absurd e
+  made-wrapped old new ps tree whole of r (Err f) e a = tt

@@ -1,14 +1,14 @@
 -- What was moved out of an expression whole: a function, a class, and the parts of an arrow function.
-use Rattle.std.proofs.Common.{◌≡◌, Bool, Option, Some, None, sym, ap, ◌∙◌}
+use Rattle.std.proofs.Common.{◌≡◌, Bool, Option, Some, IsSome, is_some, sym, ap, ◌∙◌}
 use Rattle.std.specs.{declared.alloc.Global.Global, declared.boxed.Box.Box, declared.vec.Vec.Vec}
 use Rattle.swc_context.specs.declared.span.Span.{Span}
 use Rattle.swc_ast.specs.{declared.expr.BlockStmtOrExpr.BlockStmtOrExpr, declared.expr.Expr.Expr, declared.pat.Pat.Pat}
 use Rattle.swc_ast.specs.declared.expr.Expr.TheVariants as e
 
-pub none-out : {T : Type 0} (r : Option T) (t : T) → r ≡ Some t → r ≡ None → ⊥
-none-out r t s n = cc
+pub some-out : {T : Type 0} {r : Option T} {t : T} → r ≡ Some t → IsSome r
+some-out s = ap is_some s
 
-same-some : {T : Type 0} {t u : T} → Some t ≡ Some u → t ≡ u
+pub same-some : {T : Type 0} {t u : T} → Some t ≡ Some u → t ≡ u
 same-some e = cc
 
 module _ {F C K : Type 0} where

@@ -2,10 +2,10 @@
 use Rattle.std.specs.Prelude.{◌≡◌, ℕ, List, ◌++◌, Result, IfOk, map}
 use Rattle.std.specs.{declared.alloc.AllocError.AllocError, declared.alloc.Global.Global, declared.boxed.Box.Box}
 use Rattle.swc_context.specs.declared.span.Span.{Span}
-use Rattle.swc_ast.specs.TreeOf.{expr_tree, boxed_tree, pat_tree, target_tree}
-use Rattle.swc_ast.specs.{Tree.Tree, declared.expr.Expr.Expr}
-use Rattle.swc_nodes.specs.NodeParts.{View, Part, expr, pat, simple, pattern, slots}
-use Rattle.swc_nodes.specs.{NodeTree.node_tree, NodeTree.expr_of, declared.node.ExprId.ExprId, declared.node.Node.Node}
+use Rattle.swc_ast.specs.TreeOf.{expr_tree, boxed_tree, pat_tree, prop_tree, target_tree}
+use Rattle.swc_ast.specs.{Tree.Tree, declared.expr.Expr.Expr, declared.prop.Prop.Prop}
+use Rattle.swc_nodes.specs.NodeParts.{View, Part, expr, pat, simple, pattern, prop_parts, slots}
+use Rattle.swc_nodes.specs.{NodeTree.node_tree, NodeTree.expr_of, NodeTree.prop_of, declared.node.ExprId.ExprId, declared.node.Node.Node, declared.node.PropNode.PropNode}
 use Rattle.swc_trees.specs.declared.built.Built.{Built, Built as built}
 
 -- what a tree is
@@ -74,3 +74,8 @@ module _ {F C K : Type 0} (fun_at : F → Span) (class_at : C → Span) (block_a
       → Type 0
   AssemblesExpr node old r new = IfOk r (λ y. Assembled (slots node)
       (λ at. expr_tree F C K fun_at class_at block_at y ≡ node_tree fun_at class_at block_at at node) old new)
+
+  -- the same of a property
+  abbrev pub AssemblesProp : PropNode K → List (Built F C K) → Prop F C K → List (Built F C K) → Type 0
+  AssemblesProp prop old y new = Assembled (prop_parts prop)
+      (λ at. prop_tree F C K fun_at class_at block_at y ≡ prop_of fun_at class_at block_at at prop) old new

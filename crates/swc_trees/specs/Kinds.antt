@@ -1,6 +1,6 @@
 -- Which nodes are taken out by which function.
 use Rattle.std.specs.Prelude.{Bool, true, false}
-use Rattle.swc_nodes.specs.{declared.node.Node.Node, declared.node.Node.Node as n, declared.node.PropNode.PropNode, declared.node.PropNode.PropNode as prop}
+use Rattle.swc_nodes.specs.{declared.node.Node.Node, declared.node.Node.Node as n}
 
 -- a call or an arrow function
 abbrev pub is_call : {F C K : Type 0} → Node F C K → Bool
@@ -36,8 +36,3 @@ is_compound (n.SuperProp p) = true
 is_compound (n.OptChain c) = true
 is_compound (n.Tpl t) = true
 is_compound x = is_operation x
-
--- a property, which is no spread
-abbrev pub is_named : {K : Type 0} → PropNode K → Bool
-is_named (prop.Spread s) = false
-is_named p = true

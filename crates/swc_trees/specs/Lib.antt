@@ -1,4 +1,3 @@
-pub mod Boxed
 pub mod Building
 pub mod Kinds
 pub mod Lifting

@@ -1,10 +1,11 @@
 // The items of lists, and the lists: trees take the place of the numbers in them, the last first.
-ghost use Rattle.std.specs.Prelude.{◌≡◌, ◌++◌, true, map, IfOk};
+ghost use Rattle.std.specs.Prelude.{◌≡◌, ◌++◌, map, IfOk, IsOkAnd};
 ghost use Rattle.swc_ast.specs.Parts.{or_hole, item_tree, param_tree, function_tree};
 ghost use Rattle.swc_ast.specs.TreeOf.{boxed_tree, pat_tree, pat_prop_tree, prop_tree, prop_or_spread_tree};
 ghost use Rattle.swc_nodes.specs.NodeTree.{expr_of, pat_of, prop_of, pat_prop_of, part_tree, pat_elem_of};
-ghost use Rattle.swc_nodes.specs.NodeParts.{flat, if_some, one_expr, one_pat, item_parts, param_parts, prop_parts, pat_prop_parts, part_parts, pat_elem_part};
-ghost use Rattle.swc_trees.specs.{Building.Offers, Building.Assembled, Kinds.is_named};
+ghost use Rattle.swc_nodes.specs.NodeParts.{flat, if_some, one_expr, one_pat, key_parts, item_parts, param_parts, prop_parts, pat_prop_parts, part_parts, pat_elem_part};
+ghost use Rattle.swc_nodes.specs.declared.node.PropNode.{PropNode as n};
+ghost use Rattle.swc_trees.specs.Building.{Offers, Assembled, AssemblesProp};
 
 use crate::built::{Built, pop_expr, pop_if_some, pop_pat};
 use crate::pieces::key;
@@ -13,8 +14,9 @@ use std::alloc::{AllocError, Global};
 use swc_ast::expr::{Expr, ExprOrSpread};
 use swc_ast::function::{Function, Param};
 use swc_ast::pat::{ObjectPatProp, Pat, RestPat};
-use swc_ast::prop::{AssignProp, Prop, PropOrSpread, SpreadElement};
+use swc_ast::prop::{AssignProp, Prop, PropName, PropOrSpread, SpreadElement};
 use swc_ast::spanned::Spanned;
+use swc_context::span::Span;
 use swc_nodes::node::{ExprId, PatElem, PatId, PatPart, PatPropNode, PropNode};
 
 /// An item of a list, in which trees take the place of numbers.
@@ -188,7 +190,25 @@ impl<F: Spanned + Drop, C: Spanned + Drop, K: Spanned + Drop> Item<F, C, K> for 
                     expr,
                 }))
             }
-            prop => Ok(PropOrSpread::Prop(boxed(alloc, named(alloc, built, prop))?)),
+            PropNode::Shorthand(i) => named(alloc, Ok(Prop::Shorthand(i))),
+            PropNode::KeyValue { span, key, value } => {
+                named(alloc, Ok(key_value(built, span, key, value)))
+            }
+            PropNode::Assign(p) => {
+                let AssignProp { span, key, value } = p;
+                let value = pop_expr(built, value);
+                named(alloc, Ok(Prop::Assign(AssignProp { span, key, value })))
+            }
+            PropNode::Method { key, function } => named(alloc, method(alloc, built, key, function)),
+            PropNode::Getter { span, key, body } => {
+                named(alloc, Ok(getter(built, span, key, body)))
+            }
+            PropNode::Setter {
+                span,
+                key,
+                param,
+                body,
+            } => named(alloc, setter(alloc, built, span, key, param, body)),
         }
     }
 }
@@ -312,66 +332,84 @@ pub(crate) fn boxed_pat<F: Spanned + Drop, C: Spanned + Drop, K: Spanned + Drop>
     boxed(alloc, Ok(pop_pat(built, id)))
 }
 
-/// A property, which is no spread.
+/// A property, which is no spread, as an item.
 fn named<F: Spanned + Drop, C: Spanned + Drop, K: Spanned + Drop>(
     alloc: Global,
-    built: &mut Vec<Built<F, C, K>>,
-    prop: PropNode<K>,
-) -> Result<Prop<F, C, K>, AllocError>
-    requires offers { Offers (prop_parts prop) built.old.items }
-    requires named { is_named prop ≡ true }
-    ensures { IfOk result (λ y. Assembled F.place C.place K.place (prop_parts prop) (λ at. prop_tree _ _ _ F.place
-        C.place K.place y ≡ prop_of F.place C.place K.place at prop) built.old.items built.new.items) }
+    prop: Result<Prop<F, C, K>, AllocError>,
+) -> Result<PropOrSpread<F, C, K>, AllocError>
+    ensures { IfOk result (λ y. IsOkAnd prop (λ p. prop_or_spread_tree _ _ _ F.place C.place K.place y ≡ prop_tree _ _ _
+        F.place C.place K.place p)) }
 {
-    match prop {
-        PropNode::Spread(_) => unreachable!(),
-        PropNode::Shorthand(i) => Ok(Prop::Shorthand(i)),
-        PropNode::KeyValue {
-            span,
-            key: name,
-            value,
-        } => {
-            let value = pop_expr(built, value);
-            let key = key(built, name);
-            Ok(Prop::KeyValue { span, key, value })
-        }
-        PropNode::Assign(p) => {
-            let AssignProp { span, key, value } = p;
-            let value = pop_expr(built, value);
-            Ok(Prop::Assign(AssignProp { span, key, value }))
-        }
-        PropNode::Method {
-            key: name,
-            function,
-        } => {
-            let function = boxed(alloc, method_function(alloc, built, function))?;
-            let key = key(built, name);
-            Ok(Prop::Method { key, function })
-        }
-        PropNode::Getter {
-            span,
-            key: name,
-            body,
-        } => {
-            let key = key(built, name);
-            Ok(Prop::Getter { span, key, body })
-        }
-        PropNode::Setter {
-            span,
-            key: name,
-            param,
-            body,
-        } => {
-            let param = boxed_pat(alloc, built, param)?;
-            let key = key(built, name);
-            Ok(Prop::Setter {
-                span,
-                key,
-                param,
-                body,
-            })
-        }
-    }
+    Ok(PropOrSpread::Prop(boxed(alloc, prop)?))
+}
+
+/// A property with its value.
+fn key_value<F: Spanned + Drop, C: Spanned + Drop, K: Spanned + Drop>(
+    built: &mut Vec<Built<F, C, K>>,
+    span: Span,
+    name: PropName<ExprId>,
+    value: ExprId,
+) -> Prop<F, C, K>
+    requires { Offers (key_parts name ++ one_expr value) built.old.items }
+    ensures { AssemblesProp F.place C.place K.place (n.KeyValue span name value) built.old.items result
+        built.new.items }
+{
+    let value = pop_expr(built, value);
+    let key = key(built, name);
+    Prop::KeyValue { span, key, value }
+}
+
+/// A method.
+fn method<F: Spanned + Drop, C: Spanned + Drop, K: Spanned + Drop>(
+    alloc: Global,
+    built: &mut Vec<Built<F, C, K>>,
+    name: PropName<ExprId>,
+    function: Function<PatId, K>,
+) -> Result<Prop<F, C, K>, AllocError>
+    requires { Offers (key_parts name ++ flat param_parts function.params.items) built.old.items }
+    ensures { IfOk result (λ y. AssemblesProp F.place C.place K.place (n.Method name function) built.old.items y
+        built.new.items) }
+{
+    let function = boxed(alloc, method_function(alloc, built, function))?;
+    let key = key(built, name);
+    Ok(Prop::Method { key, function })
+}
+
+/// A getter.
+fn getter<F: Spanned + Drop, C: Spanned + Drop, K: Spanned + Drop>(
+    built: &mut Vec<Built<F, C, K>>,
+    span: Span,
+    name: PropName<ExprId>,
+    body: K,
+) -> Prop<F, C, K>
+    requires { Offers (key_parts name) built.old.items }
+    ensures { AssemblesProp F.place C.place K.place (n.Getter span name body) built.old.items result built.new.items }
+{
+    let key = key(built, name);
+    Prop::Getter { span, key, body }
+}
+
+/// A setter.
+fn setter<F: Spanned + Drop, C: Spanned + Drop, K: Spanned + Drop>(
+    alloc: Global,
+    built: &mut Vec<Built<F, C, K>>,
+    span: Span,
+    name: PropName<ExprId>,
+    param: PatId,
+    body: K,
+) -> Result<Prop<F, C, K>, AllocError>
+    requires { Offers (key_parts name ++ one_pat param) built.old.items }
+    ensures { IfOk result (λ y. AssemblesProp F.place C.place K.place (n.Setter span name param body) built.old.items y
+        built.new.items) }
+{
+    let param = boxed_pat(alloc, built, param)?;
+    let key = key(built, name);
+    Ok(Prop::Setter {
+        span,
+        key,
+        param,
+        body,
+    })
 }
 
 /// The function of a method.

@@ -6,7 +6,6 @@ ghost use Rattle.swc_ast.specs.Tree.{node, cons, nil, block, key_value, method, 
 ghost use Rattle.swc_ast.specs.TreeOf.{prop_or_spread_tree, pat_prop_tree};
 ghost use Rattle.swc_nodes.specs.NodeTree.{prop_of, pat_prop_of};
 ghost use Rattle.swc_nodes.specs.NodeParts.{flat, if_some, one_expr, args_parts, key_parts, member_parts, super_parts, callee_parts, base_parts, body_parts, param_parts, prop_parts, pat_prop_parts};
-ghost use Rattle.swc_trees.specs.Boxed.{HookedProp};
 ghost use Rattle.swc_trees.specs.Splitting.{Splits, SplitsProp, SplitsPatProp};
 
 use crate::built::Built;
@@ -297,7 +296,7 @@ fn split_spread<F: Spanned + Drop, C: Spanned + Drop, K: Spanned + Drop>(
     }))
 }
 
-/// Splits a property. What holds a value of the hook is moved out whole.
+/// Splits a property. It is moved out whole, since it may hold a value of the hook.
 fn split_named<F: Spanned + Drop, C: Spanned + Drop, K: Spanned + Drop>(
     alloc: Global,
     built: &mut Vec<Built<F, C, K>>,
@@ -305,26 +304,17 @@ fn split_named<F: Spanned + Drop, C: Spanned + Drop, K: Spanned + Drop>(
 ) -> Result<PropNode<K>, AllocError>
     ensures { SplitsProp F.place C.place K.place (λ t. t.prop prop.old) built.old.items result built.new.items }
 {
-    match prop {
-        Prop::Shorthand(i) => Ok(PropNode::Shorthand(taken_ident(alloc, i)?)),
-        Prop::KeyValue { span, key, value } => split_key_value(alloc, built, *span, key, value),
-        Prop::Assign(p) => split_cover(alloc, built, p),
-        Prop::Method { .. } | Prop::Getter { .. } | Prop::Setter { .. } => {
-            split_hooked_prop(alloc, built, mem::replace(prop, no_prop(alloc)?))
+    match mem::replace(prop, no_prop(alloc)?) {
+        Prop::Shorthand(i) => Ok(PropNode::Shorthand(i)),
+        Prop::KeyValue { span, key, value } => {
+            let mut key = Aside(key);
+            let mut value = Aside(value);
+            split_key_value(alloc, built, span, &mut key.0, &mut value.0)
         }
-    }
-}
-
-/// Splits a property that holds a value of the hook.
-fn split_hooked_prop<F: Spanned + Drop, C: Spanned + Drop, K: Spanned + Drop>(
-    alloc: Global,
-    built: &mut Vec<Built<F, C, K>>,
-    prop: Prop<F, C, K>,
-) -> Result<PropNode<K>, AllocError>
-    requires { HookedProp prop }
-    ensures { SplitsProp F.place C.place K.place (λ t. t.prop prop) built.old.items result built.new.items }
-{
-    match prop {
+        Prop::Assign(p) => {
+            let mut p = Aside(p);
+            split_cover(alloc, built, &mut p.0)
+        }
         Prop::Method { key, function } => {
             let mut key = Aside(key);
             split_method(alloc, built, &mut key.0, function)
@@ -342,7 +332,6 @@ fn split_hooked_prop<F: Spanned + Drop, C: Spanned + Drop, K: Spanned + Drop>(
             let mut key = Aside(key);
             split_setter(alloc, built, span, &mut key.0, &mut param, body)
         }
-        _ => unreachable!(),
     }
 }
 

@@ -1,7 +1,7 @@
 // Moves the parts out of an expression, a pattern or a target, onto the end of a list, and answers its node, in which
 // their places in the list stand for them. The first part is moved first, as in the source. What is moved leaves an
 // empty tree after; no text and no value of the hook is copied.
-ghost use Rattle.std.specs.Prelude.{◌≡◌, Bool, map};
+ghost use Rattle.std.specs.Prelude.{◌≡◌, Bool, Some, map};
 ghost use Rattle.std.specs.{declared.alloc.Global.Global, declared.boxed.Box.Box, declared.vec.Vec.Vec};
 ghost use Rattle.swc_ast.specs.Parts.{or_hole, item_tree, item_trees, callee_tree, args_tree, tpl_tree, body_tree, rest_tree, simple_tree};
 ghost use Rattle.swc_ast.specs.Tree.{node, cons, nil, unary, update, bin, cond, assign, call, new, tagged, arrow, await, yield, seq, default, array, object, trees};
@@ -9,7 +9,6 @@ ghost use Rattle.swc_ast.specs.{declared.expr.BlockStmtOrExpr.BlockStmtOrExpr, d
 ghost use Rattle.swc_ast.specs.declared.expr.Expr.TheVariants as e;
 ghost use Rattle.swc_context.specs.declared.span.Span.{Span};
 ghost use Rattle.swc_nodes.specs.NodeParts.{expr as as_expr, pat as as_pat, simple as as_simple, pattern as as_pattern};
-ghost use Rattle.swc_trees.specs.Boxed.{Hooked, IsArrow, Short};
 ghost use Rattle.swc_trees.specs.Splitting.{SplitsNode, built_view, target_view};
 ghost use Rattle.swc_trees.specs.Building.{built_tree};
 
@@ -79,13 +78,39 @@ fn split_expr<F: Spanned + Drop, C: Spanned + Drop, K: Spanned + Drop>(
     ensures { SplitsNode F.place C.place K.place as_expr (λ t. t.expr expr.old) built.old.items result built.new.items }
 {
     match expr {
-        Expr::Fn(_) | Expr::Class(_) | Expr::Arrow { .. } => split_hooked(alloc, built, expr),
+        Expr::Fn(_) => Ok(Node::Fn(mem::replace(expr, nothing()).fn_expr().unwrap())),
+        Expr::Class(_) => Ok(Node::Class(mem::replace(expr, nothing()).class().unwrap())),
+        Expr::Arrow { .. } => {
+            let (span, is_async) = arrow_head(expr).unwrap();
+            let (mut params, body) = mem::replace(expr, nothing()).arrow().unwrap();
+            split_arrow(alloc, built, span, &mut params, body, is_async)
+        }
+        Expr::This(e) => Ok(Node::This(ThisExpr { span: e.span })),
+        Expr::MetaProp(m) => Ok(Node::MetaProp(taken_meta(m))),
+        Expr::PrivateName(p) => Ok(Node::PrivateName(taken_private(alloc, p)?)),
+        Expr::Ident(i) => Ok(Node::Ident(taken_ident(alloc, i)?)),
+        Expr::Lit(l) => Ok(lit_node(taken_lit(l))),
+        Expr::Invalid(i) => Ok(Node::Invalid(InvalidNode {
+            span: i.span,
+            first: i.span.lo,
+            last: i.span.hi,
+        })),
+        Expr::Array { span, elems } => split_array(alloc, built, *span, elems),
+        Expr::Object { span, props } => split_object(alloc, built, *span, props),
+        Expr::Seq { span, exprs } => split_seq(alloc, built, *span, exprs),
+        Expr::Paren(p) => Ok(Node::Paren(split_paren(alloc, built, p)?)),
+        Expr::Member(m) => Ok(Node::Member(split_member(alloc, built, m)?)),
+        Expr::SuperProp(p) => Ok(Node::SuperProp(split_super_prop(alloc, built, p)?)),
+        Expr::OptChain(c) => Ok(Node::OptChain(split_chain(alloc, built, c)?)),
+        Expr::Tpl(t) => Ok(Node::Tpl(split_tpl(alloc, built, t)?)),
+        Expr::Unary { span, op, arg } => split_unary(alloc, built, *span, *op, arg),
         Expr::Update {
             span,
             op,
             prefix,
             arg,
         } => split_update(alloc, built, *span, *op, *prefix, arg),
+        Expr::Await { span, arg } => split_await(alloc, built, *span, arg),
         Expr::Yield {
             span,
             arg,
@@ -109,94 +134,20 @@ fn split_expr<F: Spanned + Drop, C: Spanned + Drop, K: Spanned + Drop>(
             left,
             right,
         } => split_assign(alloc, built, *span, *op, left, right),
-        _ => split_short(alloc, built, expr),
-    }
-}
-
-/// The node of an expression that may hold a value of the hook.
-fn split_hooked<F: Spanned + Drop, C: Spanned + Drop, K: Spanned + Drop>(
-    alloc: Global,
-    built: &mut Vec<Built<F, C, K>>,
-    expr: &mut Expr<F, C, K>,
-) -> Result<Node<F, C, K>, AllocError>
-    requires { Hooked expr.old }
-    ensures { SplitsNode F.place C.place K.place as_expr (λ t. t.expr expr.old) built.old.items result built.new.items }
-{
-    match expr {
-        Expr::Fn(_) => match mem::replace(expr, nothing()).fn_expr() {
-            Some(function) => Ok(Node::Fn(function)),
-            None => unreachable!(),
-        },
-        Expr::Class(_) => match mem::replace(expr, nothing()).class() {
-            Some(class) => Ok(Node::Class(class)),
-            None => unreachable!(),
-        },
-        Expr::Arrow { .. } => {
-            let (span, is_async) = arrow_head(expr);
-            match mem::replace(expr, nothing()).arrow() {
-                Some((mut params, body)) => {
-                    split_arrow(alloc, built, span, &mut params, body, is_async)
-                }
-                None => unreachable!(),
-            }
-        }
-        _ => unreachable!(),
-    }
-}
-
-/// The place of an arrow function, and whether it is async.
-fn arrow_head<F, C, K>(expr: &Expr<F, C, K>) -> (Span, bool)
-    requires { IsArrow expr.now }
-    ensures { (s : Span) (ps : Vec (Pat F C K) Global) (b : Box (BlockStmtOrExpr (Box (Expr F C K) Global) K) Global)
-        (a : Bool) → expr.now ≡ e.Arrow s ps b a → result ≡ (s, a) }
-{
-    match expr {
-        Expr::Arrow { span, is_async, .. } => (*span, *is_async),
-        _ => unreachable!(),
-    }
-}
-
-/// The node of one of the other expressions.
-fn split_short<F: Spanned + Drop, C: Spanned + Drop, K: Spanned + Drop>(
-    alloc: Global,
-    built: &mut Vec<Built<F, C, K>>,
-    expr: &mut Expr<F, C, K>,
-) -> Result<Node<F, C, K>, AllocError>
-    requires { Short expr.old }
-    ensures { SplitsNode F.place C.place K.place as_expr (λ t. t.expr expr.old) built.old.items result built.new.items }
-{
-    match expr {
-        Expr::This(e) => Ok(Node::This(ThisExpr { span: e.span })),
-        Expr::MetaProp(m) => Ok(Node::MetaProp(taken_meta(m))),
-        Expr::PrivateName(p) => Ok(Node::PrivateName(taken_private(alloc, p)?)),
-        Expr::Ident(i) => Ok(Node::Ident(taken_ident(alloc, i)?)),
-        Expr::Lit(l) => Ok(lit_node(taken_lit(l))),
-        Expr::Invalid(i) => Ok(Node::Invalid(InvalidNode {
-            span: i.span,
-            first: i.span.lo,
-            last: i.span.hi,
-        })),
-        Expr::Array { span, elems } => split_array(alloc, built, *span, elems),
-        Expr::Object { span, props } => split_object(alloc, built, *span, props),
-        Expr::Seq { span, exprs } => split_seq(alloc, built, *span, exprs),
-        Expr::Paren(p) => Ok(Node::Paren(split_paren(alloc, built, p)?)),
-        Expr::Member(m) => Ok(Node::Member(split_member(alloc, built, m)?)),
-        Expr::SuperProp(p) => Ok(Node::SuperProp(split_super_prop(alloc, built, p)?)),
-        Expr::OptChain(c) => Ok(Node::OptChain(split_chain(alloc, built, c)?)),
-        Expr::Tpl(t) => Ok(Node::Tpl(split_tpl(alloc, built, t)?)),
-        Expr::Unary { span, op, arg } => split_unary(alloc, built, *span, *op, arg),
-        Expr::Await { span, arg } => split_await(alloc, built, *span, arg),
         Expr::Call { span, callee, args } => split_call(alloc, built, *span, callee, args),
         Expr::New { span, callee, args } => split_new(alloc, built, *span, callee, args),
         Expr::TaggedTpl { span, tag, tpl } => split_tagged(alloc, built, *span, tag, tpl),
-        Expr::Fn(_)
-        | Expr::Class(_)
-        | Expr::Arrow { .. }
-        | Expr::Update { .. }
-        | Expr::Yield { .. }
-        | Expr::Bin { .. }
-        | Expr::Cond { .. }
-        | Expr::Assign { .. } => unreachable!(),
+    }
+}
+
+/// The place of an arrow function and whether it is async, if it is one.
+fn arrow_head<F, C, K>(expr: &Expr<F, C, K>) -> Option<(Span, bool)>
+    ensures { (s : Span) (ps : Vec (Pat F C K) Global) (b : Box (BlockStmtOrExpr (Box (Expr F C K) Global) K) Global)
+        (a : Bool) → expr.now ≡ e.Arrow s ps b a → result ≡ Some (s, a) }
+{
+    match expr {
+        Expr::Arrow { span, is_async, .. } => Some((*span, *is_async)),
+        _ => None,
     }
 }
 

@@ -1,10 +1,14 @@
 use Rattle.std.proofs.Common.{rules}
 use Rattle.swc_nodes.specs.NodeParts.{expr_part}
-use Rattle.swc_trees.proofs.Assembled.{popped-kind, some-left}
+use Rattle.swc_trees.proofs.Assembled.{some-left, popped-is, was-some}
 use Rattle.swc_trees.proofs.built.pop_expr.Goals as goal
 
-pub unreachable-requires : goal.unreachable-requires
-unreachable-requires g c =
-    let k = popped-kind (expr_part c.args.id) c.pop.new.self.items c.pop.result c.requires c.pop.ensures.items in
+pub unwrap-requires : goal.unwrap-requires
+unwrap-requires g c =
     let l = some-left (expr_part c.args.id) c.requires in
     search rules
+
+pub unwrap-requires-2 : goal.unwrap-requires-2
+unwrap-requires-2 g c =
+    was-some _ _ c.into_expr.result c.into_expr.ensures
+    (popped-is (expr_part c.args.id) c.pop.new.self.items c.pop.result c.requires c.pop.ensures.items c.unwrap.ensures)
