@@ -10,6 +10,6 @@ unwrap-requires g c =
 
 pub unwrap-requires-2 : goal.unwrap-requires-2
 unwrap-requires-2 g c =
-    was-some _ _ c.into_target.result c.into_target.ensures
-    (popped-is (target_part c.args.target) c.pop.new.self.items c.pop.result c.requires c.pop.ensures.items c.unwrap.ensures
-    ∙ target-kind c.args.target)
+    let kind = popped-is (target_part c.args.target) c.pop.new.self.items c.pop.result c.requires c.pop.ensures.items
+    c.unwrap.ensures in
+    was-some _ _ c.into_target.result c.into_target.ensures (kind ∙ target-kind c.args.target)

@@ -15,7 +15,8 @@ returns-in-Spread g c =
 
 pub returns-in-Shorthand : goal.returns-in-Shorthand
 returns-in-Shorthand g c =
-    rw c.in-Shorthand.is (made-wrapped _ _ _ _ _ _ (prop_tree _ _ _ g.F.Spanned.place g.C.Spanned.place g.K.Spanned.place)
+    rw c.in-Shorthand.is (made-wrapped _ _ _ _ _ _
+    (prop_tree _ _ _ g.F.Spanned.place g.C.Spanned.place g.K.Spanned.place)
     (prop_or_spread_tree _ _ _ g.F.Spanned.place g.C.Spanned.place g.K.Spanned.place) _
     (Ok _) _ c.named.ensures
     (made-none (λ at. shorthand_tree _ _ _ g.F.Spanned.place g.C.Spanned.place g.K.Spanned.place c.in-Shorthand.i)))
@@ -25,14 +26,16 @@ key_value-requires g c = rw c.in-KeyValue.is at c.requires
 
 pub returns-in-KeyValue : goal.returns-in-KeyValue
 returns-in-KeyValue g c =
-    rw c.in-KeyValue.is (made-wrapped _ _ _ _ _ _ (prop_tree _ _ _ g.F.Spanned.place g.C.Spanned.place g.K.Spanned.place)
+    rw c.in-KeyValue.is (made-wrapped _ _ _ _ _ _
+    (prop_tree _ _ _ g.F.Spanned.place g.C.Spanned.place g.K.Spanned.place)
     (prop_or_spread_tree _ _ _ g.F.Spanned.place g.C.Spanned.place g.K.Spanned.place) _
     (Ok c.key_value.result) _ c.named-in-KeyValue.ensures
     c.key_value.ensures)
 
 pub returns-in-Assign : goal.returns-in-Assign
 returns-in-Assign g c =
-    rw c.in-Assign.is (made-wrapped _ _ _ _ _ _ (prop_tree _ _ _ g.F.Spanned.place g.C.Spanned.place g.K.Spanned.place)
+    rw c.in-Assign.is (made-wrapped _ _ _ _ _ _
+    (prop_tree _ _ _ g.F.Spanned.place g.C.Spanned.place g.K.Spanned.place)
     (prop_or_spread_tree _ _ _ g.F.Spanned.place g.C.Spanned.place g.K.Spanned.place) _
     (Ok _) _ c.named-in-Assign.ensures
     (made-one c.pop_expr-value.ensures (λ at e. cover_prop_tree _ _ _ g.F.Spanned.place g.C.Spanned.place g.K.Spanned.place
@@ -44,7 +47,8 @@ method-requires g c = rw c.in-Method.is at c.requires
 
 pub returns-in-Method : goal.returns-in-Method
 returns-in-Method g c =
-    rw c.in-Method.is (made-wrapped _ _ _ _ _ _ (prop_tree _ _ _ g.F.Spanned.place g.C.Spanned.place g.K.Spanned.place)
+    rw c.in-Method.is (made-wrapped _ _ _ _ _ _
+    (prop_tree _ _ _ g.F.Spanned.place g.C.Spanned.place g.K.Spanned.place)
     (prop_or_spread_tree _ _ _ g.F.Spanned.place g.C.Spanned.place g.K.Spanned.place) _
     c.method.result _ c.named-in-Method.ensures
     c.method.ensures)
@@ -54,7 +58,8 @@ getter-requires g c = rw c.in-Getter.is at c.requires
 
 pub returns-in-Getter : goal.returns-in-Getter
 returns-in-Getter g c =
-    rw c.in-Getter.is (made-wrapped _ _ _ _ _ _ (prop_tree _ _ _ g.F.Spanned.place g.C.Spanned.place g.K.Spanned.place)
+    rw c.in-Getter.is (made-wrapped _ _ _ _ _ _
+    (prop_tree _ _ _ g.F.Spanned.place g.C.Spanned.place g.K.Spanned.place)
     (prop_or_spread_tree _ _ _ g.F.Spanned.place g.C.Spanned.place g.K.Spanned.place) _
     (Ok c.getter.result) _ c.named-in-Getter.ensures
     c.getter.ensures)
@@ -64,7 +69,8 @@ setter-requires g c = rw c.in-Setter.is at c.requires
 
 pub returns-in-Setter : goal.returns-in-Setter
 returns-in-Setter g c =
-    rw c.in-Setter.is (made-wrapped _ _ _ _ _ _ (prop_tree _ _ _ g.F.Spanned.place g.C.Spanned.place g.K.Spanned.place)
+    rw c.in-Setter.is (made-wrapped _ _ _ _ _ _
+    (prop_tree _ _ _ g.F.Spanned.place g.C.Spanned.place g.K.Spanned.place)
     (prop_or_spread_tree _ _ _ g.F.Spanned.place g.C.Spanned.place g.K.Spanned.place) _
     c.setter.result _ c.named-in-Setter.ensures
     c.setter.ensures)
