@@ -1,5 +1,5 @@
-//! What rows of tests answer that are about what the parser is built on: buffers, lexers, contexts, words and faults. And
-//! what rows of the parser are read with and shown by: settings, sources and hooks, and trees as texts.
+//! What rows of tests answer that are about what the parser is built on: buffers, lexers, contexts, words and faults.
+//! And what rows of the parser are read with and shown by: settings, sources and hooks, and trees as texts.
 //!
 //! A crate below the parser, so that it is proved beside the productions.
 #![tactic(auto)]

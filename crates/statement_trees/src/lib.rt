@@ -20,8 +20,8 @@
 //! label, a loop or a `switch` is there for `break` and `continue`, whether a label is there twice, or `default`; which
 //! functions are the body of an `if`, a loop or a label; the parameters of getters and setters; that the name of a
 //! class is strict code; the name and the parameters of a function whose body begins with `"use strict"`; which members
-//! are named `constructor` or `prototype`; private names that no class declares; `with` and `delete` of a name in strict
-//! code; names that a module exports twice or doesn't declare, and words among them; `import.meta` in scripts;
+//! are named `constructor` or `prototype`; private names that no class declares; `with` and `delete` of a name in
+//! strict code; names that a module exports twice or doesn't declare, and words among them; `import.meta` in scripts;
 //! attributes of one key. `return` is taken in static blocks.
 #![tactic(auto)]
 

@@ -82,7 +82,8 @@ module _ {F C K : Type 0} {fg : Ghosts F} {cg : Ghosts C} {kg : Ghosts K} where
 -- ---- an expression by its number
 
 module _ {S H F C K : Type 0} {fg : Ghosts F} {cg : Ghosts C} {kg : Ghosts K} (model : Model S)
-    (p q : Parser S H F C K fg cg kg) (pat_type : PatType) (id : ExprId) (from : From 0 (nodes_of p) (expr_part id)) where
+    (p q : Parser S H F C K fg cg kg) (pat_type : PatType) (id : ExprId)
+    (from : From 0 (nodes_of p) (expr_part id)) where
   abbrev in_strict : Bool
   in_strict = (context model (buffer_of p)).strict
 
