@@ -47,7 +47,7 @@ FUNCTION = re.compile(r'^ *(?:pub(?:\([\w ]+\))? )?(?:const )?fn (\w+)', re.M)
 IMPL = re.compile(r'^impl\b(?:<[^{]*?>(?= ))? *(?:([\w:]+)(?:<[^{]*?>)? for )?([\w:]+)', re.M)
 MACRO = re.compile(r'^macro_rules! (\w+) .*\n(?:(?!\}).*\n)*\}', re.M)
 # A line of a proof file that names what the edit took away, or that cites such a proof.
-NAMES = re.compile(r'(\./)?proofs/.*(has no field|is not in scope|has no `|was not admitted|: module `[^`]*`$)')
+NAMES = re.compile(r'(\./)?proofs/.*(has no field|is not in scope|has no `|was not admitted|: record `[^`]*` \(nearest: |: module `[^`]*`$)')
 # A line that says that the text of a clause or of the edited file can't be read.
 UNREAD = re.compile(r'is not in scope|has no field|is no name|operand is missing|expected the end|cannot continue')
 
