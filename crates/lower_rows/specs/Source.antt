@@ -4,7 +4,7 @@ use Rattle.std.proofs.Common.{refl, ap, ◌∙◌}
 use Rattle.swc_context.specs.declared.context.TokenContexts.{TokenContexts}
 use Rattle.swc_input.specs.{Laws.keeps_same, declared.listed.TokensInput.TokensInput, declared.token.TokenAndSpan.TokenAndSpan}
 use Rattle.swc_input.specs.Listed.{listed_state, listed_lawful, ListedGives}
-use Rattle.swc_input.specs.Source.{Source, Model, Laws, IsLawful, Keeping, Gave, Asked, Unmoved, given_one}
+use Rattle.swc_input.specs.Source.{Source, Model, Laws, IsLawful, Keeping, Gave, Asked, Unmoved}
 use Rattle.lower_rows.specs.declared.source.TestInput.{TestInput}
 
 abbrev pub hinted_tokens : Option TokenAndSpan → ℕ

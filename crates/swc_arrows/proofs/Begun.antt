@@ -13,7 +13,7 @@ use Rattle.swc_nodes.proofs.{Held.from-down, Standing.grows-then}
 use Rattle.swc_steps.specs.{Args.args_inside, Parsing.On, Parsing.Unheard, declared.productions.Productions.Productions}
 use Rattle.swc_steps.proofs.Steps.{Reader, less, heard_after, unheard_after}
 use Rattle.swc_arrows.specs.Answers.{Based, body_at, MayBeArrow, EndsArrow, Opens, ReadsArrow}
-use Rattle.swc_arrows.specs.Readers.{others, base_behind, arrow_behind, arrow_end, list_behind, list_rest}
+use Rattle.swc_arrows.specs.Readers.{others, arrow_behind, arrow_end, list_behind, list_rest}
 use Rattle.swc_arrows.specs.declared.bodies.ArrowOrBase.{ArrowOrBase, ArrowOrBase as arrow_or}
 use Rattle.swc_arrows.proofs.BodyEnds.{body_ended}
 use Rattle.swc_arrows.proofs.Dooms.{fails_after, opens_fails, opens_heard, opens_later}

@@ -1,5 +1,5 @@
 -- What is kept of tokens in the order of the text: all but the slashes at which regular expressions were found.
-use Rattle.std.proofs.Common.{◌≡◌, ◌≤◌, Bool, true, false, ◌&&◌, ◌||◌, List, [], ◌∷◌, ◌++◌, refl, sym, ap, ◌∙◌, arith}
+use Rattle.std.proofs.Common.{◌≡◌, ◌≤◌, Bool, true, false, ◌||◌, List, [], ◌∷◌, ◌++◌, refl, sym, ap, ◌∙◌, arith}
 use Rattle.std.proofs.{lemmas.Bool.leb-true, lemmas.Bool.ltb-true, lemmas.List.append_assoc}
 use Rattle.std.specs.Prelude.{nat_le, nat_lt}
 use Rattle.swc_context.specs.declared.span.BytePos.{BytePos}

@@ -1,5 +1,5 @@
 -- What a look for the end tells.
-use Rattle.std.proofs.Common.{◌≡◌, Bool, true, false, None, Result, Ok, Err, IfOk, IfErr, IsSome}
+use Rattle.std.proofs.Common.{◌≡◌, Bool, true, false, None, Result, IfOk, IfErr, IsSome}
 use Rattle.swc_context.specs.declared.error.Error.{Error}
 use Rattle.swc_input.specs.Buffer.{Looked, current, last_position, state_of}
 use Rattle.swc_input.specs.{declared.buffer.Buffer.Buffer, Source.Model, Recording.no_memory}

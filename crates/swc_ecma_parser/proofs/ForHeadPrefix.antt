@@ -4,7 +4,7 @@
 use Rattle.std.proofs.Common.{◌≡◌, Bool, true, false, List, Some, Result, Err, ap, ◌∙◌}
 use Rattle.std.specs.{declared.alloc.Global.Global, declared.boxed.Box.Box}
 use Rattle.swc_context.specs.{declared.error.Error.Error, declared.span.Span.Span}
-use Rattle.swc_input.specs.{declared.buffer.Buffer.Buffer, declared.token.TokenAndSpan.TokenAndSpan, Buffer.previous, Source.Model}
+use Rattle.swc_input.specs.{declared.buffer.Buffer.Buffer, Buffer.previous, Source.Model}
 use Rattle.swc_ast.specs.{Tree.Tree, Trees.unmarked, declared.expr.Expr.Expr as ExprOf, declared.spanned.Spanned.Ghosts}
 use Rattle.swc_bodies.specs.Readings.{Hook, LawfulHook}
 use Rattle.swc_grammar.specs.{ForHead.in_own_for, ForHead.HeadStops, Reads.Reads, Reads.ReadsUnmarked, Symbols.Expr, Words.◌>>=◌}

@@ -1,19 +1,18 @@
 -- From what the two readings promise to the law of replay.
-use Rattle.std.proofs.Common.{◌≡◌, ◌≢◌, Bool, true, false, not, ◌||◌, List, [], ◌∷◌, ◌++◌, Option, Some, None, Result, Ok, Err, IfOk, MatchResult, length, map, refl, sym, ap, subst, ◌∙◌, arith, length-append}
+use Rattle.std.proofs.Common.{◌≡◌, Bool, true, false, not, ◌||◌, List, [], ◌∷◌, ◌++◌, Option, Some, None, Result, Ok, Err, MatchResult, length, refl, sym, ap, subst, ◌∙◌, arith, length-append}
 use Rattle.std.proofs.lemmas.List.{append-nil}
 use Rattle.std.specs.{declared.alloc.Global.Global, declared.boxed.Box.Box}
 use Rattle.swc_context.specs.{Contexts.view, declared.context.Context.Context, declared.context.Syntax.Syntax, declared.error.Error.Error, declared.error.SyntaxError.TheVariants.OutOfMemory, declared.span.Span.Span}
 use Rattle.swc_input.specs.Buffer.{Took, current, held, source, state_of}
-use Rattle.swc_input.specs.Capturing.{capturing_laws, capturing_model, capturing_state, either_failed, has_lost, tokens_kept, within}
+use Rattle.swc_input.specs.Capturing.{capturing_laws, capturing_model, either_failed, has_lost, tokens_kept, within}
 use Rattle.swc_input.specs.Source.{Keeps, Laws, Model, Source, given_one}
 use Rattle.swc_input.specs.{Kept.kept_of, Laws.Read-still, Listed.listed_model, Recording.is_silent, declared.buffer.Buffer.Buffer, declared.capturing.Capturing.Capturing, declared.listed.TokensInput.TokensInput, declared.token.TokenAndSpan.TokenAndSpan}
 use Rattle.swc_input.proofs.Captured.{captured, kept-one-by-one}
 use Rattle.swc_ast.specs.{Tree.Tree, Trees.unmarked, declared.expr.Expr.Expr as ExprOf, declared.spanned.Spanned.Ghosts}
-use Rattle.swc_bodies.specs.{Readings.Hook, Readings.LawfulHook, Slashes.ReplayHook, Slashes.in_order}
+use Rattle.swc_bodies.specs.{Readings.Hook, Readings.LawfulHook, Slashes.ReplayHook}
 use Rattle.swc_grammar.specs.Reads.{Reads, ReadsUnmarked, at-end}
-use Rattle.swc_grammar.specs.{Scope.Scope, Symbols.Expr}
+use Rattle.swc_grammar.specs.Symbols.Expr
 use Rattle.swc_grammar.proofs.One.{one-reading}
-use Rattle.swc_laws.specs.Replay.{Joined}
 use Rattle.swc_laws.proofs.{Replay.replay, Wanted.replay-wanted}
 use Rattle.swc_input.specs.Calls.{Here, Loud}
 use Rattle.swc_steps.specs.Parsing.{scope, scope_of}

@@ -1,8 +1,8 @@
 -- Which faults the rests among the properties of an object pattern are, as these are looked at one after another.
-use Rattle.std.proofs.Common.{◌≡◌, ◌≢◌, ℕ, ◌+◌, ◌<◌, ◌≤◌, List, [], ◌∷◌, ◌++◌, Option, None, Result, Ok, Err, OnOk, length, take, map, get_or, refl, sym, ap, subst, ◌∙◌}
+use Rattle.std.proofs.Common.{◌≡◌, ℕ, ◌+◌, ◌<◌, ◌≤◌, List, [], ◌∷◌, ◌++◌, Option, None, Result, Ok, Err, length, take, map, get_or, refl, sym, ap, subst, ◌∙◌}
 use Rattle.std.proofs.lemmas.List.{append_assoc, map-append, take_all, take_more}
 use Rattle.swc_context.specs.{declared.error.Error.Error, declared.span.Span.Span}
-use Rattle.swc_input.specs.{Recordings.Judges, Recordings.NotesAll, Source.Model, Source.Laws, declared.buffer.Buffer.Buffer}
+use Rattle.swc_input.specs.{Recordings.Judges, Recordings.NotesAll, Source.Model, declared.buffer.Buffer.Buffer}
 use Rattle.swc_ast.specs.Tree.{Tree, Trees, nil, cons, trees}
 use Rattle.swc_steps.proofs.Emitted.{notes-none, notes-then}
 use Rattle.swc_input.specs.Calls.{Leads}

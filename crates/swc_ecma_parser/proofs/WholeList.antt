@@ -4,7 +4,7 @@ use Rattle.std.proofs.lemmas.List.{append-nil}
 use Rattle.swc_context.specs.{Contexts.view, declared.context.Context.Context, declared.context.EsVersion.EsVersion, declared.context.Syntax.Syntax, declared.error.Error.Error, declared.span.BytePos.BytePos, declared.error.SyntaxError.TheVariants.OutOfMemory}
 use Rattle.swc_input.specs.Source.{Model, Laws, Source, given_one}
 use Rattle.swc_input.specs.Buffer.{Known, Looked, current, fresh, held, source}
-use Rattle.swc_input.specs.Listed.{listed_state, listed_model, listed_laws, new_state}
+use Rattle.swc_input.specs.Listed.{listed_state, listed_model, new_state}
 use Rattle.swc_input.specs.Laws.{Known-after, Known-Future, Future-end}
 use Rattle.swc_input.specs.{declared.buffer.Buffer.Buffer, declared.listed.TokensInput.TokensInput, declared.token.TokenAndSpan.TokenAndSpan, Recording.is_silent}
 use Rattle.swc_ast.specs.{Tree.Tree, declared.spanned.Spanned.Ghosts}

@@ -9,7 +9,7 @@ use Rattle.swc_input.specs.{declared.buffer.Buffer.Buffer, declared.token.Token.
 use Rattle.swc_ident.specs.Naming.{Judges, fault_at, place_here, Notes, Spoken, Named, Unnamed, no_memory, not_fit, no_word, refused_word, Unbindable, no_memory_to_bind, refused_binding, Names, Unbound, Bound}
 use Rattle.swc_ident.specs.Steps.{Forgone, word_faults}
 use Rattle.swc_ident.specs.Verdicts.{Fault, now, in_modules, is_word, name_of_any, ident_verdict, binding_verdict, binding_faults, and_then, is_bindable}
-use Rattle.swc_ident.proofs.Reading.{place_is, reads_then, looked_then, looked_reads, refused_reads, met, noted_then, notes_read, passed_reads, passed_later}
+use Rattle.swc_ident.proofs.Reading.{place_is, reads_then, looked_reads, refused_reads, met, noted_then, notes_read, passed_reads, passed_later}
 
 -- what is included decides over refusals alone
 pub same_faults : (y a : Bool) (c : Context) (w : Word) → word_faults c w ≡ (ident_verdict y a c w).faults

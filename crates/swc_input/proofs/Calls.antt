@@ -1,13 +1,13 @@
 -- What the calls that record and refuse do to the buffer, from what they answer.
-use Rattle.std.proofs.Common.{◌≡◌, ◌≢◌, ◌<◌, ◌≤◌, Bool, true, false, ◌||◌, not, List, [], ◌∷◌, ◌++◌, Option, Some, None, Result, Ok, Err, IsOk, IfErr, OnOk, IsSome, MatchResult, length, refl, sym, ap, subst, ◌∙◌, arith, length-append}
+use Rattle.std.proofs.Common.{◌≡◌, ◌≢◌, ◌<◌, Bool, true, false, ◌||◌, not, List, [], ◌∷◌, ◌++◌, Option, Some, None, Result, Ok, Err, IsOk, IfErr, OnOk, IsSome, MatchResult, length, refl, sym, ap, ◌∙◌, arith, length-append}
 use Rattle.std.proofs.lemmas.List.{append-nil}
 use Rattle.swc_context.specs.declared.error.SyntaxError.TheVariants.{Eof, OutOfMemory, ParserFailed}
 use Rattle.swc_context.specs.{declared.error.Error.Error, declared.span.BytePos.BytePos}
-use Rattle.swc_input.specs.Buffer.{Lives, Looked, Read, ReadSome, Served, context, current, last_position, source, state_of}
-use Rattle.swc_input.specs.Calls.{Checks, Forgoes, Here, Leads, Loud, Refuses, Tries, Unfit, recorded}
-use Rattle.swc_input.specs.Laws.{Looked-served, Looked-some, Read-late, Read-same, held_some}
-use Rattle.swc_input.specs.Recording.{Recorded, Refused, error_here, error_list, is_fit, is_silent, no_memory, refusal, unfit}
-use Rattle.swc_input.specs.Source.{Keeps, Laws, Model, recorded_in, with_module_error}
+use Rattle.swc_input.specs.Buffer.{Lives, Looked, Read, Served, context, current, last_position, source}
+use Rattle.swc_input.specs.Calls.{Checks, Forgoes, Refuses, Unfit, recorded}
+use Rattle.swc_input.specs.Laws.{Looked-served, Read-late, Read-same}
+use Rattle.swc_input.specs.Recording.{Refused, is_fit, no_memory, refusal, unfit}
+use Rattle.swc_input.specs.Source.{Laws, Model, recorded_in, with_module_error}
 use Rattle.swc_input.specs.{declared.buffer.Buffer.Buffer, declared.token.TokenAndSpan.TokenAndSpan}
 use Rattle.swc_input.proofs.Refusals.{Refused-kind, unfit-kind}
 
@@ -51,7 +51,7 @@ module _ {S : Type 0} {model : Model S} (laws : Laws model) where
     served = λ n. seen_served e r h.looked h.lives h.answer n;
   }
 
-  looked_again : {b c : Buffer S} → Looked model b c → Looked model c c
+  pub looked_again : {b c : Buffer S} → Looked model b c → Looked model c c
   looked_again {c = c} l = record {
     look = record { read = Read-same laws c; previous = refl; quiet = λ m h. (refl, refl) };
     same = λ t h. refl;

@@ -1,5 +1,5 @@
 -- White space, line terminators and comments (ECMA-262, 12.2 to 12.5).
-use Rattle.std.specs.Prelude.{ℕ, ◌+◌, Bool, ◌||◌, ◌&&◌, if◌then◌else◌, nat_eq, nat_lt, length, List, Option, Some, None, drop, take, slice_get}
+use Rattle.std.specs.Prelude.{ℕ, ◌+◌, Bool, ◌||◌, ◌&&◌, if◌then◌else◌, nat_eq, nat_lt, List, Option, Some, None, drop, take, slice_get}
 use Rattle.swc_lexical.specs.{Runs.is_at, Runs.run, PlainNames.fitting, Comments.block_len}
 use Rattle.swc_lexical.specs.Chars.{is_white_space, terminator_len, plain_len}
 

@@ -1,5 +1,5 @@
 -- Strings (ECMA-262, 12.9.4).
-use Rattle.std.specs.Prelude.{ℕ, ◌+◌, Bool, false, ◌||◌, if◌then◌else◌, nat_eq, nat_lt, length, List, Option, Some, None, drop}
+use Rattle.std.specs.Prelude.{ℕ, Bool, false, ◌||◌, if◌then◌else◌, nat_lt, length, List, Option, Some, None}
 use Rattle.swc_lexical.specs.{Runs.is_at, Runs.run, Escapes.escape_len, Escapes.string_escape_len}
 
 -- an escape: in strict code none by digits but `\0`

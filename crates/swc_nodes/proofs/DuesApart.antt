@@ -1,7 +1,6 @@
 -- What is due of a node lies apart where the node's parts do.
-use Rattle.std.proofs.Common.{◌≡◌, ℕ, suc, ◌≤◌, Bool, true, false, List, [], ◌∷◌, ◌++◌, map, Option, Some, None, refl, sym, ap}
+use Rattle.std.proofs.Common.{◌≡◌, ℕ, suc, Bool, true, false, List, [], ◌∷◌, ◌++◌, map, Option, Some, None, refl, sym, ap}
 use Rattle.std.proofs.Common.{◌∙◌, arith, append_assoc}
-use Rattle.swc_context.specs.declared.operator.AssignOp.{AssignOp}
 use Rattle.swc_context.specs.declared.operator.AssignOp.TheVariants as op
 use Rattle.swc_context.specs.declared.span.Span.{Span}
 use Rattle.swc_ast.specs.declared.expr.ExprOrSpread.{ExprOrSpread}
@@ -9,7 +8,7 @@ use Rattle.swc_nodes.specs.NodeParts.{Part, View, Form, target_expr, other_expr,
 use Rattle.swc_nodes.specs.NodeParts.{simple, pattern, flat, if_some, item_parts, one_expr, expr_part, pat_part}
 use Rattle.swc_nodes.specs.NodeParts.{target_part, key_parts, prop_parts, part_parts, pat_elem_part, pat_prop_parts, slots}
 use Rattle.swc_nodes.specs.NumberedTrees.{Seat, chain}
-use Rattle.swc_nodes.specs.Roles.{Due, part_of_due, keep, expr_due, left_due, rest_role, item_dues, elem_dues, prop_dues, part_dues}
+use Rattle.swc_nodes.specs.Roles.{Due, part_of_due, keep, expr_due, left_due, item_dues, elem_dues, prop_dues, part_dues}
 use Rattle.swc_nodes.specs.Roles.{pat_elem_dues, pat_prop_dues, again_dues, array_dues, object_dues, default_dues, dues_by, dues_of}
 use Rattle.swc_nodes.specs.Roles.{becomes_as, is_empty, ready, suits}
 use Rattle.swc_nodes.specs.declared.node.ExprId.{ExprId}

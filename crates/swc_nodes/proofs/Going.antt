@@ -1,21 +1,21 @@
 -- The loop in which one part becomes what it is to.
 use Rattle.std.proofs.Common.{◌≡◌, ℕ, suc, ◌+◌, ◌-◌, ◌<◌, ◌≤◌, true, List, [], ◌∷◌, ◌++◌, map, length, take, drop, get_or, refl, sym, ap, subst, ◌∙◌, arith, append_assoc, length-append}
 use Rattle.std.proofs.lemmas.Bool.{leb-true}
-use Rattle.std.proofs.lemmas.List.{append-nil, get_or_at, get_or-take, length-drop, length-take-le, map-append, take-append-drop, take-take, take_at, drop_at}
+use Rattle.std.proofs.lemmas.List.{get_or_at, get_or-take, length-take-le, map-append, take-append-drop, take-take, take_at, drop_at}
 use Rattle.swc_context.specs.declared.span.Span.{Span}
-use Rattle.swc_nodes.specs.NodeParts.{Part, form, slots, view_ok}
+use Rattle.swc_nodes.specs.NodeParts.{form, slots, view_ok}
 use Rattle.swc_nodes.specs.NumberedTrees.{Seat, chain, ordered}
-use Rattle.swc_nodes.specs.Onward.{cleared, no_nodes, up_to, Promise, RootCut, RootDone, RootReady, Stays, TurnedOne}
+use Rattle.swc_nodes.specs.Onward.{cleared, no_nodes, Promise, RootCut, RootDone, RootReady, Stays, TurnedOne}
 use Rattle.swc_nodes.specs.Roles.{Due, becomes_as, dues_of, keep, part_of_due, ready, suit, suits}
 use Rattle.swc_nodes.specs.Settled.{seat_in, DroppedFrom, IsSettled, Ranges}
 use Rattle.swc_nodes.specs.Turning.{node_at, PartsIn, RecastIn}
-use Rattle.swc_nodes.specs.{declared.node.Node.Node, declared.role.Role.Role, declared.role.Role.Role as role, declared.turning.Settled.Settled}
+use Rattle.swc_nodes.specs.{declared.node.Node.Node, declared.role.Role.Role as role, declared.turning.Settled.Settled}
 use Rattle.swc_nodes.proofs.Becoming.{dues-suit, suit-both, suit-first, suit-second}
 use Rattle.swc_nodes.proofs.Chains.{both_true, fitting, chain-bound, chain-first, chain-second}
 use Rattle.swc_nodes.proofs.DuesApart.{suit-ready}
 use Rattle.swc_nodes.proofs.Onward.{promise-leaves, promise-none, promise-settled, promise-then, ranges-bound}
 use Rattle.swc_nodes.proofs.OneNode.{form-at, node-below, parts-in, parts-whole, promise-node, recast-below}
-use Rattle.swc_nodes.proofs.Stays.{pending-next, promise-kept, range_nodes}
+use Rattle.swc_nodes.proofs.Stays.{pending-next, promise-kept}
 
 -- ---- ranges that are dropped
 

@@ -5,14 +5,14 @@ use Rattle.std.proofs.lemmas.List.{append-nil, drop_more, length-take-le, map-ap
 use Rattle.std.specs.Prelude.{slice_index_or}
 use Rattle.swc_context.specs.declared.span.Span.{Span}
 use Rattle.swc_ast.specs.Tree.{Tree}
-use Rattle.swc_nodes.specs.NodeParts.{Part, slots, view_ok, form}
+use Rattle.swc_nodes.specs.NodeParts.{Part, slots}
 use Rattle.swc_nodes.specs.NumberedTrees.{Seat, chain, floor, found, ordered, seat, seats_after}
 use Rattle.swc_nodes.specs.Onward.{cleared, no_nodes, turned_parts, Met, Promise}
 use Rattle.swc_nodes.specs.Roles.{Due}
 use Rattle.swc_nodes.specs.Settled.{seat_in, tree_in, IsSettled, Ranges}
 use Rattle.swc_nodes.specs.Turning.{no_node, node_at, Became, Law}
 use Rattle.swc_nodes.specs.{Recasting.turned, declared.node.Node.Node, declared.role.Role.Role, declared.turning.Settled.Settled}
-use Rattle.swc_nodes.proofs.Chains.{both_true, true_both, fitting, chain-bound, chain-both, chain-first, chain-second, chain-one, chain-same, chain-up, floor-both, floor-under, floor-above}
+use Rattle.swc_nodes.proofs.Chains.{both_true, true_both, fitting, chain-bound, chain-both, chain-same, chain-up, floor-both}
 use Rattle.swc_nodes.proofs.Standing.{after_append, after_keeps, after_length, ordered_both, seat_between}
 
 -- ---- nodes that are cleared

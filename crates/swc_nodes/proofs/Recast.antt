@@ -5,12 +5,12 @@ use Rattle.std.specs.Prelude.{if◌then◌else◌}
 use Rattle.std.proofs.lemmas.List.{append-nil, map-append}
 use Rattle.swc_context.specs.declared.span.Span.{Span}
 use Rattle.swc_ast.specs.declared.expr.ExprOrSpread.{ExprOrSpread}
-use Rattle.swc_nodes.specs.NodeParts.{Part, View, pat, flat, if_some, expr_part, pat_part, one_expr, key_parts}
+use Rattle.swc_nodes.specs.NodeParts.{Part, View, pat, flat, if_some, expr_part, one_expr, key_parts}
 use Rattle.swc_nodes.specs.NodeParts.{part_parts}
 use Rattle.swc_nodes.specs.NodeParts.{pat_elem_part, pat_prop_parts}
 use Rattle.swc_nodes.specs.Recasting.{part_as, part_for, left_for, item_for, elems_for, prop_for, props_for, one_or_none}
-use Rattle.swc_nodes.specs.Recasting.{all_none, bare_part, bare_elem, bare_some, bare_prop, turned}
-use Rattle.swc_nodes.specs.Roles.{Due, keep, expr_due, left_due, left_role, rest_role, item_dues, elem_dues, prop_dues}
+use Rattle.swc_nodes.specs.Recasting.{all_none, bare_part, bare_some, bare_prop, turned}
+use Rattle.swc_nodes.specs.Roles.{Due, keep, expr_due, left_due, rest_role, item_dues, elem_dues, prop_dues}
 use Rattle.swc_nodes.specs.Roles.{becomes_as, rebound_as, again_as, held_view, new_view, turns, is_empty}
 use Rattle.swc_nodes.specs.Roles.{part_dues, pat_elem_dues, pat_prop_dues}
 use Rattle.swc_nodes.specs.declared.node.ExprId.{ExprId}

@@ -1,22 +1,21 @@
 -- The loop in which all parts become what they are to, the last first.
-use Rattle.std.proofs.Common.{◌≡◌, ℕ, suc, ◌+◌, ◌-◌, ◌<◌, ◌≤◌, true, List, [], ◌∷◌, ◌++◌, map, length, take, drop, reverse, refl, sym, ap, subst, ◌∙◌, arith, append_assoc, length-append}
+use Rattle.std.proofs.Common.{◌≡◌, ℕ, suc, ◌+◌, ◌-◌, ◌<◌, ◌≤◌, true, List, [], ◌∷◌, ◌++◌, map, length, take, drop, reverse, refl, sym, ap, subst, ◌∙◌, arith, length-append}
 use Rattle.std.proofs.Math.Seq.{take-length}
 use Rattle.std.proofs.lemmas.Bool.{le-leb, leb-true}
 use Rattle.std.proofs.lemmas.List.{append-nil, drop_at, length-take-le, map-append, reverse-append, take-append-drop, take-take, take_at}
 use Rattle.swc_context.specs.declared.span.Span.{Span}
-use Rattle.swc_ast.specs.Tree.{Tree}
 use Rattle.swc_nodes.specs.NodeParts.{Part}
 use Rattle.swc_nodes.specs.NumberedTrees.{Seat, chain, floor, ordered}
 use Rattle.swc_nodes.specs.Onward.{cleared, no_nodes, up_to, AllDone, AllKept, AllReady, Met, Promise, RootCut, RootDone, RootReady}
 use Rattle.swc_nodes.specs.Recasting.{turned}
 use Rattle.swc_nodes.specs.Roles.{Due, becomes_as, part_of_due, suit}
 use Rattle.swc_nodes.specs.Settled.{seat_in, tree_in, DroppedFrom, Ranges}
-use Rattle.swc_nodes.specs.Turning.{node_at, became, Became, Law}
-use Rattle.swc_nodes.specs.{declared.node.Node.Node, declared.role.Role.Role, declared.turning.Settled.Settled}
+use Rattle.swc_nodes.specs.Turning.{node_at, became, Law}
+use Rattle.swc_nodes.specs.{declared.node.Node.Node, declared.turning.Settled.Settled}
 use Rattle.swc_nodes.proofs.Becoming.{suit-first, suit-second}
 use Rattle.swc_nodes.proofs.Chains.{both_true, fitting, chain-bound, chain-both, chain-first, chain-one, chain-same, chain-second, chain-up}
 use Rattle.swc_nodes.proofs.Going.{ranges-dropped, ranges-up}
-use Rattle.swc_nodes.proofs.Onward.{promise-beside, promise-leaves, promise-none, promise-then, ranges-both, ranges-bound, ranges-same, seat-front}
+use Rattle.swc_nodes.proofs.Onward.{promise-beside, promise-leaves, promise-none, promise-then, ranges-same, seat-front}
 use Rattle.swc_nodes.proofs.OneNode.{node-below, seat-taken}
 use Rattle.swc_nodes.proofs.Settling.{chain-raise}
 use Rattle.swc_nodes.proofs.Standing.{ordered_front}

@@ -5,7 +5,7 @@ use Rattle.std.proofs.lemmas.List.{length-take-le, take-append-drop, take_all, t
 use Rattle.std.specs.{Prelude.if◌then◌else◌, Prelude.slice_index_or, List.remove, Result.is_ok}
 use Rattle.swc_context.specs.declared.span.Span.{Span}
 use Rattle.swc_nodes.specs.NumberedTrees.{Seat}
-use Rattle.swc_nodes.specs.Settled.{seat_in, DroppedFrom, IsSettled, Ranges, SettledIn}
+use Rattle.swc_nodes.specs.Settled.{seat_in, DroppedFrom, Ranges, SettledIn}
 use Rattle.swc_nodes.specs.{declared.node.Node.Node, declared.turning.Settled.Settled}
 use Rattle.swc_nodes.proofs.Going.{ranges-dropped, ranges-front, ranges-up}
 use Rattle.swc_nodes.proofs.Onward.{ranges-same, seat-front}

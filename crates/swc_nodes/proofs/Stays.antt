@@ -1,17 +1,16 @@
 -- A settled pattern goes on from any nodes; and what is due of a node, as it was.
 use Rattle.std.proofs.Common.{◌≡◌, ℕ, suc, ◌+◌, ◌<◌, ◌≤◌, true, List, [], ◌∷◌, ◌++◌, map, length, take, drop, refl, sym, ap, subst, ◌∙◌, arith, append_assoc, length-append}
-use Rattle.std.proofs.lemmas.Bool.{le-leb}
-use Rattle.std.proofs.lemmas.List.{get_or_past, length-drop, length-take-le, map-append, take-append-drop}
+use Rattle.std.proofs.lemmas.List.{get_or_past, length-take-le, map-append, take-append-drop}
 use Rattle.swc_context.specs.declared.span.Span.{Span}
 use Rattle.swc_ast.specs.Tree.{Tree}
 use Rattle.swc_nodes.specs.NodeParts.{Part, form, slots, view_ok}
 use Rattle.swc_nodes.specs.NumberedTrees.{Seat, chain, floor, found, no_seat, ordered, seat, seats_after}
 use Rattle.swc_nodes.specs.Onward.{turned_parts, Met, Promise}
-use Rattle.swc_nodes.specs.Roles.{Due, becomes_as, dues_of, keep, part_of_due}
+use Rattle.swc_nodes.specs.Roles.{Due, dues_of, keep, part_of_due}
 use Rattle.swc_nodes.specs.Settled.{seat_in, tree_in, IsSettled}
-use Rattle.swc_nodes.specs.Turning.{node_at, Became, Law}
-use Rattle.swc_nodes.specs.{Recasting.turned, declared.node.Node.Node, declared.role.Role.Role, declared.role.Role.Role as role, declared.turning.Settled.Settled}
-use Rattle.swc_nodes.proofs.Chains.{both_true, Fitting, fitting, chain-bound, chain-both, chain-first, chain-second, chain-one, chain-same, floor-both, floor-under}
+use Rattle.swc_nodes.specs.Turning.{node_at, Law}
+use Rattle.swc_nodes.specs.{Recasting.turned, declared.node.Node.Node, declared.role.Role.Role as role, declared.turning.Settled.Settled}
+use Rattle.swc_nodes.proofs.Chains.{both_true, Fitting, chain-bound, chain-both, chain-first, chain-second, chain-one, chain-same, floor-both}
 use Rattle.swc_nodes.proofs.DuesApart.{dues-apart}
 use Rattle.swc_nodes.proofs.Onward.{became-both, became-same, floor-same, seat-front, seat-here}
 use Rattle.swc_nodes.proofs.OneNode.{parts-split, parts-whole, seat-split, seat-taken}

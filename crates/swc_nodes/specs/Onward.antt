@@ -4,7 +4,7 @@ use Rattle.std.specs.declared.alloc.AllocError.{AllocError}
 use Rattle.swc_context.specs.declared.span.Span.{Span}
 use Rattle.swc_ast.specs.Tree.{Tree}
 use Rattle.swc_nodes.specs.NodeParts.{Part}
-use Rattle.swc_nodes.specs.NumberedTrees.{Seat, chain, floor, ordered}
+use Rattle.swc_nodes.specs.NumberedTrees.{chain, floor, ordered}
 use Rattle.swc_nodes.specs.Roles.{Due, becomes_as, dues_of, part_of_due, suit}
 use Rattle.swc_nodes.specs.Settled.{seat_in, tree_in, Ranges}
 use Rattle.swc_nodes.specs.Turning.{node_at, no_node, Became, Law, RecastIn}

@@ -8,7 +8,7 @@ use Rattle.swc_ast.specs.Trees.{exp_ok, nullish_ok, left_ok, min_right}
 use Rattle.swc_ast.specs.{Tree.Tree, declared.spanned.Spanned.Ghosts}
 use Rattle.swc_bodies.specs.Readings.{Hook}
 use Rattle.swc_grammar.specs.Clean.{Out, first, sym as at, climb, run, operator_at}
-use Rattle.swc_grammar.specs.{Scope.Scope, Scope.inner, Symbols.Unary, Symbols.Level, Words.◌>>=◌, Words.rest}
+use Rattle.swc_grammar.specs.{Scope.Scope, Scope.inner, Symbols.Level, Words.◌>>=◌, Words.rest}
 use Rattle.swc_nodes.specs.GrowingNodes.{Apart, From, Grows}
 use Rattle.swc_nodes.specs.{Pending.operand_parts, Pending.first_operand, Rising.waiting, Rising.least_above, NodeParts.expr_part, declared.node.ExprId.ExprId, declared.nodes.Nodes.Nodes, declared.pending.PendingOperator.PendingOperator}
 use Rattle.swc_nodes.proofs.Held.{from-apart, tree-later}

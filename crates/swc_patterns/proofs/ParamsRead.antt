@@ -1,5 +1,5 @@
 -- The loop over formal parameters (15.1): each is read by itself.
-use Rattle.std.proofs.Common.{◌≡◌, ℕ, ◌≤◌, Bool, false, List, ◌∷◌, ◌++◌, Option, Some, None, Result, Ok, Err, IsErrAnd, IfOk, refl, sym, ap, subst, ◌∙◌, arith}
+use Rattle.std.proofs.Common.{◌≡◌, ℕ, Bool, false, List, ◌∷◌, ◌++◌, Option, Some, None, Result, Ok, Err, IsErrAnd, refl, sym, ap, subst, ◌∙◌, arith}
 use Rattle.std.specs.{declared.alloc.Global.Global, declared.vec.Vec.Vec}
 use Rattle.swc_context.specs.{declared.error.Error.Error, declared.span.Span.Span}
 use Rattle.swc_input.specs.{Laws.Future-some, Source.Model, declared.buffer.Buffer.Buffer, declared.token.Token.Token as token, declared.token.TokenAndSpan.TokenAndSpan}

@@ -1,6 +1,6 @@
 -- Assignment expressions that may be arrow functions (15.3, 15.9), as the code goes them.
 use Rattle.std.proofs.Common.{◌≡◌, ◌<◌, ◌++◌, ℕ, ◌≤◌, Bool, true, false, if◌then◌else◌, List, Option, None, Some, Result, Ok, Err}
-use Rattle.std.proofs.Common.{IsErrAnd, refl, sym, ap, subst, ◌∙◌, arith}
+use Rattle.std.proofs.Common.{IsErrAnd, refl, subst, ◌∙◌, arith}
 use Rattle.swc_context.specs.declared.error.Error.{Error}
 use Rattle.swc_context.specs.declared.span.Span.{Span}
 use Rattle.swc_input.specs.declared.buffer.Buffer.{Buffer}

@@ -1,5 +1,5 @@
 -- Faults that are recorded in the buffer: which, and in which order.
-use Rattle.std.proofs.Common.{◌≡◌, true, not, List, [], ◌∷◌, ◌++◌, Option, Some, None, Result, Ok, Err, IsOk, IsSome, OnOk, refl, sym, ap, subst, ◌∙◌}
+use Rattle.std.proofs.Common.{◌≡◌, true, not, List, [], ◌∷◌, ◌++◌, Option, Some, None, Result, Ok, Err, IsOk, IsSome, OnOk, refl, ap, subst, ◌∙◌}
 use Rattle.swc_context.specs.{declared.error.Error.Error}
 use Rattle.swc_input.specs.Buffer.{state_of}
 use Rattle.swc_input.specs.Recording.{error_here, error_in, is_fit, is_silent, is_some, Recorded}

@@ -15,8 +15,8 @@ use Rattle.swc_ident.specs.Naming.{Judges, fault_at, place_here, Notes, none-not
 use Rattle.swc_ident.specs.Verdicts.{Fault, Verdict, now, in_modules, is_word, taken, taken_with, unless, name_of_any, ident_verdict, reference_verdict, binding_verdict, binding_faults, and_then}
 use Rattle.swc_input.specs.Calls.{recorded, Leads, Here}
 use Rattle.swc_steps.specs.Parsing.{seen, seen_of, scope, On, Heard, Unheard, Parses}
-use Rattle.swc_input.proofs.Calls.{refused, unfits}
-use Rattle.swc_steps.proofs.Steps.{Reader, here, read_scope, parses_after, on_took, leads_then, refuses_later, on_seen, on_then, heard_after, heard_first, unheard_after, unheard_at, unheard_memory, unheard_unfit, lower, on_looked, looked_again}
+use Rattle.swc_input.proofs.Calls.{looked_again, refused, unfits}
+use Rattle.swc_steps.proofs.Steps.{Reader, here, read_scope, parses_after, on_took, leads_then, refuses_later, on_seen, on_then, heard_after, heard_first, unheard_after, unheard_at, unheard_memory, unheard_unfit, lower, on_looked}
 use Rattle.swc_steps.proofs.Words.{none_counts, is_taken, is_clean, reference-table}
 
 -- a call never refuses a word as the parser's own failure, and looks at no flag that decides nothing

@@ -1,13 +1,13 @@
 -- What parsing calls do to the buffer, and which clean reading each answers.
 use Rattle.std.specs.Prelude.{◌≡◌, ◌≢◌, ℕ, ◌≤◌, ◌<◌, Bool, true, false, List, [], ◌∷◌, ◌++◌, Option, Some, None, Result, MatchResult, MatchOption, OnOk, IfOk, IfErr, length, ◌&&◌}
-use Rattle.swc_context.specs.{declared.context.Context.Context, declared.context.Syntax.Syntax, declared.error.Error.Error, declared.error.SyntaxError.SyntaxError, declared.error.SyntaxError.TheVariants.OutOfMemory, declared.error.SyntaxError.TheVariants.ParserFailed, declared.operator.BinaryOp.BinaryOp, declared.span.BytePos.BytePos, declared.span.Span.Span, declared.word.Keyword.Keyword as keyword, declared.word.Word.Word, declared.word.Word.Word as word, Contexts.view as deciding}
+use Rattle.swc_context.specs.{declared.context.Context.Context, declared.context.Syntax.Syntax, declared.error.Error.Error, declared.error.SyntaxError.SyntaxError, declared.error.SyntaxError.TheVariants.OutOfMemory, declared.operator.BinaryOp.BinaryOp, declared.span.BytePos.BytePos, declared.span.Span.Span, declared.word.Keyword.Keyword as keyword, declared.word.Word.Word, declared.word.Word.Word as word, Contexts.view as deciding}
 use Rattle.swc_input.specs.Buffer.{Took, Read, Lives, Still, Future, Known, context, to_come}
-use Rattle.swc_input.specs.Calls.{Forgoes, Leads, Loud, Refuses, Tries, recorded}
+use Rattle.swc_input.specs.Calls.{Forgoes, Leads, Loud, Refuses, recorded}
 use Rattle.swc_input.specs.{declared.buffer.Buffer.Buffer, declared.token.Token.Token, declared.token.TokenAndSpan.TokenAndSpan, Plain.plain, Source.Model, Source.Laws, Kinds.at_token}
 use Rattle.swc_input.specs.declared.token.Token.TheVariants as token
 use Rattle.swc_ast.specs.Parts.{lit_tree, item_tree, item_trees, prop_name_tree, member_prop_tree, function_tree}
 use Rattle.swc_ast.specs.{declared.ident.BindingIdent.BindingIdent, declared.ident.Ident.Ident, declared.ident.IdentName.IdentName, declared.ident.PrivateName.PrivateName, declared.lit.Lit.Lit, Tree.Tree, Trees.listed, declared.expr.ExprOrSpread.ExprOrSpread, declared.expr.MemberProp.MemberProp, declared.function.Function.Function, declared.prop.PropName.PropName, declared.spanned.Spanned.Ghosts}
-use Rattle.swc_grammar.specs.Clean.{Out, no_error, first}
+use Rattle.swc_grammar.specs.Clean.{Out, first}
 use Rattle.swc_grammar.specs.{Scope.Scope, Parts.lit_of, Words.rest, Names.Spelling, Names.spelling, Tokens.is_strict_word}
 use Rattle.swc_bodies.specs.Readings.{Reading, is_async, is_function_here}
 use Rattle.swc_nodes.specs.Lists.{elem_parts, elem_trees, props_parts, props_trees}

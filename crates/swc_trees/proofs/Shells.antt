@@ -1,12 +1,12 @@
 -- Trees become nodes, each before those of its parts; and these are put in, the last made first.
-use Rattle.std.proofs.Common.{◌≡◌, ℕ, suc, ◌+◌, ◌<◌, ◌≤◌, true, List, [], ◌∷◌, ◌++◌, map, take, drop, length, reverse, Result, Ok, refl, sym, ap, subst, ◌∙◌, arith}
+use Rattle.std.proofs.Common.{◌≡◌, ℕ, suc, ◌+◌, true, List, [], ◌∷◌, ◌++◌, map, take, drop, length, reverse, Ok, refl, sym, ap, subst, ◌∙◌, arith}
 use Rattle.std.proofs.lemmas.Bool.{le-leb}
 use Rattle.std.proofs.lemmas.List.{map-append, length-append, length-map, length-take-le, length-drop, reverse-append, take-append-drop, take-map, drop-map, take_at, drop_at}
 use Rattle.std.specs.{declared.alloc.Global.Global, declared.vec.Vec.Vec}
 use Rattle.swc_context.specs.declared.span.Span.{Span}
 use Rattle.swc_ast.specs.{Tree.Tree, declared.spanned.Spanned.Ghosts}
 use Rattle.swc_nodes.specs.Renumbering.{given, with_given, Renumbered}
-use Rattle.swc_nodes.specs.NodeParts.{Part, View, slots, form, view_ok}
+use Rattle.swc_nodes.specs.NodeParts.{View, slots, form, view_ok}
 use Rattle.swc_nodes.specs.GrowingNodes.{count, seat_at, tree_at, Apart, Grows, Added}
 use Rattle.swc_nodes.specs.{NodeTree.marked_tree, NumberedTrees.floor, NumberedTrees.chain, declared.node.Node.Node, declared.nodes.Nodes.Nodes, declared.renumbering.Numbers.Numbers}
 use Rattle.swc_nodes.proofs.Chains.{chain-first, chain-second, chain-both, chain-same, chain-up, floor-under}

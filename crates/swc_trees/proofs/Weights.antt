@@ -1,5 +1,5 @@
 -- How many nodes a tree has: each call is made with fewer, or on the way to a part of the same tree.
-use Rattle.std.proofs.Common.{ℕ, suc, ◌+◌, ◌<◌, ◌≤◌, List, [], ◌∷◌, ◌++◌, map, Option, Some, None, arith}
+use Rattle.std.proofs.Common.{ℕ, suc, ◌+◌, ◌≤◌, List, [], ◌∷◌, ◌++◌, map, Option, Some, None, arith}
 use Rattle.swc_context.specs.declared.span.Span.{Span}
 use Rattle.swc_ast.specs.Parts.{item_of}
 use Rattle.swc_ast.specs.Tree.{Tree, Trees, node, nil, cons, trees}

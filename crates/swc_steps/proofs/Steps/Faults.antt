@@ -1,15 +1,14 @@
 -- Checks, and faults that are recorded unless all is well.
-use Rattle.std.proofs.Common.{◌≡◌, ◌<◌, Bool, true, false, ◌||◌, ◌&&◌, not, List, [], ◌∷◌, ◌++◌, Some, None, Result, Ok, Err, OnOk, IfErr, IsOk, MatchResult, IsSome, length, refl, sym, ap, ◌∙◌, arith, length-append}
-use Rattle.std.proofs.lemmas.List.{append-nil}
+use Rattle.std.proofs.Common.{◌≡◌, ◌<◌, Bool, true, false, ◌||◌, ◌&&◌, not, List, [], ◌∷◌, ◌++◌, Some, None, Result, Ok, Err, OnOk, MatchResult, IsSome, refl, sym, ap, ◌∙◌, arith}
 use Rattle.swc_context.specs.declared.error.Error.{Error}
-use Rattle.swc_input.specs.Source.{Model, Laws, with_module_error, recorded_in}
-use Rattle.swc_input.specs.Buffer.{Read, Lives, Known, current, last_position, context}
-use Rattle.swc_input.specs.{declared.buffer.Buffer.Buffer, declared.token.TokenAndSpan.TokenAndSpan, Laws.Future-before, Recording.no_memory}
+use Rattle.swc_input.specs.Source.{Model, Laws}
+use Rattle.swc_input.specs.Buffer.{Known, current}
+use Rattle.swc_input.specs.{declared.buffer.Buffer.Buffer, declared.token.TokenAndSpan.TokenAndSpan, Laws.Future-before}
 use Rattle.swc_grammar.specs.{Scope.Scope, Clean.Out, Clean.first, Words.◌>>=◌}
 use Rattle.swc_input.specs.Calls.{recorded, Loud, Leads, Forgoes, Tries, Checks}
 use Rattle.swc_steps.specs.Parsing.{seen, scope, Onward, On, Heard, Continues}
 use Rattle.swc_steps.specs.Readers.{nothing}
-use Rattle.swc_steps.proofs.Steps.Consumed.{Reader, give, more_than, read_scope, here, leads_then, onward_then, forgoes_later, more_recorded, loud_after}
+use Rattle.swc_steps.proofs.Steps.Consumed.{Reader, give, read_scope, here, leads_then, onward_then, forgoes_later, more_recorded, loud_after}
 use Rattle.swc_steps.proofs.{Steps.Looks.known_first, Steps.Tokens.heard_then, Steps.Calls.on_call}
 
 module _ {S : Type 0} {model : Model S} {sure : Bool} where

@@ -1,17 +1,16 @@
 -- A look at the current token, or after it, and what follows of the tokens to come.
-use Rattle.std.proofs.Common.{◌≡◌, ◌≢◌, Bool, true, false, not, List, [], ◌∷◌, Option, Some, None, Result, Ok, Err, OnOk, IfOk, IfErr, MatchResult, IsSome, refl, sym, ap, subst, ◌∙◌}
+use Rattle.std.proofs.Common.{◌≡◌, ◌≢◌, Bool, true, false, not, List, [], ◌∷◌, Option, Some, None, Result, Ok, Err, IfOk, IfErr, IsSome, refl, sym, ap, subst, ◌∙◌}
 use Rattle.std.proofs.lemmas.Bool.{false_from_ne_true}
-use Rattle.swc_context.specs.declared.error.SyntaxError.TheVariants.{Eof, OutOfMemory, ParserFailed}
-use Rattle.swc_context.specs.{declared.error.Error.Error, declared.span.BytePos.BytePos, declared.span.Span.Span}
-use Rattle.swc_input.specs.Buffer.{Lives, Served, Looked, Bumped, Future, Known, source, current, last_position}
-use Rattle.swc_input.specs.Laws.{held_some, Looked-served, Looked-some, Read-same, Read-late, Known-Future, Future-current, Future-end}
-use Rattle.swc_input.specs.Recording.{Refused, Seen, refusal, error_here, error_in, is_some, is_fit, unfit, no_memory}
+use Rattle.swc_context.specs.declared.error.SyntaxError.TheVariants.OutOfMemory
+use Rattle.swc_context.specs.{declared.error.Error.Error, declared.span.Span.Span}
+use Rattle.swc_input.specs.Buffer.{Served, Looked, Bumped, Future, Known, source, current, last_position}
+use Rattle.swc_input.specs.Laws.{held_some, Looked-served, Looked-some, Read-late, Known-Future, Future-current, Future-end}
+use Rattle.swc_input.specs.Recording.{Seen, refusal, error_in, is_some, is_fit, no_memory}
 use Rattle.swc_input.specs.{declared.buffer.Buffer.Buffer, declared.token.Token.Token, declared.token.TokenAndSpan.TokenAndSpan, Plain.plain, Plain.plain_token, Source.Model, Source.Laws, Kinds.at_token}
 use Rattle.swc_input.specs.declared.token.Token.TheVariants as token
-use Rattle.swc_input.proofs.Refusals.{Refused-kind, unfit-kind}
 use Rattle.swc_grammar.specs.{Parts.lit_of, Clean.first, Clean.no_error}
 use Rattle.swc_ast.specs.Tree.{Tree}
-use Rattle.swc_input.specs.Calls.{Leads, Refuses, Here, Looks, Unfit}
+use Rattle.swc_input.specs.Calls.{Leads, Refuses, Here, Looks}
 use Rattle.swc_steps.specs.Parsing.{seen, seen_of, TookLiteral, Told}
 use Rattle.swc_steps.proofs.Steps.Consumed.{here, leads_then, served_lives}
 
@@ -36,14 +35,6 @@ unfit_seen (Some t) h = unfit_token t.token h
 
 module _ {S : Type 0} {model : Model S} where
   -- after a look, what is served
-  pub looked_again : {b c : Buffer S} → Laws model → Looked model b c → Looked model c c
-  looked_again {c = c} laws l = record {
-    look = record { read = Read-same laws c; previous = refl; quiet = λ m h. (refl, refl) };
-    same = λ t h. refl;
-    lives = λ s f. f;
-    end = l.end;
-  }
-
   pub looked_later : {b c d : Buffer S} → Laws model → Looked model b c → Served model c d → Served model b d
   looked_later laws l s = record {
     before = λ f. let h = s.before f in

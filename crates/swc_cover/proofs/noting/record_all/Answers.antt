@@ -1,7 +1,6 @@
-use Rattle.std.proofs.Common.{true, refl, sym, subst, arith}
+use Rattle.std.proofs.Common.{true, refl, sym, arith}
 use Rattle.std.proofs.lemmas.Result.{err_from_is_err_and}
 use Rattle.swc_cover.proofs.{Checked.faults-more, Checked.faults-all, Clear.stays-then, FaultsNoted.errors-all, FaultsNoted.errors-more}
-use Rattle.swc_input.specs.Recordings.{NotesAll}
 use Rattle.swc_steps.proofs.Emitted.{fit_seen, notes-none, notes-one, notes-then}
 use Rattle.swc_steps.proofs.Steps.{check_passes, forgoes_later}
 use Rattle.swc_cover.proofs.noting.record_all.Goals as goal

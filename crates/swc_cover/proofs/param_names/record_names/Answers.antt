@@ -1,4 +1,4 @@
-use Rattle.std.proofs.Common.{sym, subst, arith}
+use Rattle.std.proofs.Common.{sym, arith}
 use Rattle.std.proofs.lemmas.Result.{err_from_is_err_and}
 use Rattle.swc_cover.proofs.Checked.{names-none, names-more, names-all}
 use Rattle.swc_cover.proofs.FaultsNoted.{none-strict}

@@ -3,7 +3,6 @@ use Rattle.std.proofs.lemmas.Result.{err_from_is_err_and}
 use Rattle.swc_input.specs.Kinds.{at_token}
 use Rattle.swc_bodies.specs.Readings.{is_function}
 use Rattle.swc_steps.specs.Parsing.{by_hook, seen_of}
-use Rattle.swc_steps.proofs.Naming.{parses_lower}
 use Rattle.swc_steps.proofs.Keys as key
 use Rattle.swc_steps.proofs.Rules as rule
 use Rattle.swc_steps.proofs.Steps as s

@@ -29,20 +29,18 @@ use Rattle.swc_nodes.proofs.Lists.{trees-both, trees-more, apart-later, apart-mo
 use Rattle.swc_nodes.proofs.Waiting.{operands-first, operands-joined, operands-last, operands-more, operands-top}
 use Rattle.swc_nodes.specs.Pending.{all_pending, first_operand}
 use Rattle.swc_nodes.specs.Rising.{waiting}
-use Rattle.swc_grammar.specs.Symbols.{Assign, Level, Unary, Lhs, Primary, Props, Template}
-use Rattle.swc_ast.specs.Targets.{is_target}
+use Rattle.swc_grammar.specs.Symbols.{Assign, Level, Unary, Lhs, Primary, Template}
 use Rattle.swc_ast.specs.Trees.{trees_append, begins_in_invalid, cover_e, ident_e, to, await_e, cond_e, assign_e}
 use Rattle.swc_ast.specs.Trees.{yield_e, hole_e, seq_of}
 use Rattle.swc_ast.specs.Trees.{import_e, parts_e, tpl_e}
 use Rattle.swc_input.specs.Recording.{is_some}
-use Rattle.swc_grammar.specs.Clean.{sym as at, run, first, links, updates, climb, assigns, prefix_at, no_error}
+use Rattle.swc_grammar.specs.Clean.{sym as at, run, first, links, updates, climb, assigns, prefix_at}
 use Rattle.swc_grammar.specs.Clean.{goes_on_yield_at}
 use Rattle.swc_grammar.specs.Words.{◌>>=◌}
-use Rattle.swc_steps.specs.Parsing.{scope, seen, seen_of, behind, tree_of, elems_at, ident_spelling, key_at}
-use Rattle.swc_steps.specs.Parsing.{props_at}
+use Rattle.swc_steps.specs.Parsing.{scope, seen, seen_of, behind, tree_of, ident_spelling, key_at}
 use Rattle.swc_steps.specs.Args.{paren_expr_tail}
 use Rattle.swc_operators.specs.Assignments.{seqs_more, cond_tail, cond_close}
-use Rattle.swc_operators.specs.Assignments.{assign_at, assign_tail, yield_tail, yield_operand, assign_expr, yield_expr}
+use Rattle.swc_operators.specs.Assignments.{assign_at, assign_tail, yield_tail, yield_operand, yield_expr}
 use Rattle.swc_steps.specs.Readers.{begun_if, unary_op_node, unary_op_tail, nothing, inside, unary_op}
 use Rattle.swc_operators.specs.Updates.{update_at, update_node, update_tail, await_reads, await_tail, await_ident}
 use Rattle.swc_operators.specs.Updates.{await_operand, update_prefix, await_expr}
@@ -50,7 +48,7 @@ use Rattle.swc_left.specs.Bases.{import_node, plain_base, import_by}
 use Rattle.swc_left.specs.Links.{computed_close, call_node, construct_by, construct_node, new_by}
 use Rattle.swc_left.specs.Links.{new_lhs, new_node, new_tail, link_tail}
 use Rattle.swc_left.specs.Templates.{tagged_node, tpl_expr_close, parts_behind, parts_by}
-use Rattle.swc_steps.specs.Lists.{elements_inside, element_item}
+use Rattle.swc_steps.specs.Lists.element_item
 use Rattle.swc_primary.specs.declared.object.PropHead.TheVariants as head
 use Rattle.swc_nodes.proofs.Standing.{grows-count, grows-same, grows-then}
 use Rattle.swc_nodes.proofs.Held.{apart-from, from-down, from-later, from_self, first_kept, if_from, tree-later}
@@ -89,7 +87,7 @@ use Rattle.swc_arrows.proofs.BaseLaws as base_law
 use Rattle.swc_arrows.specs.Readers.{async_arrow, list_behind, list_head}
 use Rattle.swc_arrows.specs.Answers.{callee_at, callee_parts}
 use Rattle.swc_arrows.proofs.HeadLaws as head_law
-use Rattle.swc_arrows.specs.Answers.{body_at, body_of}
+use Rattle.swc_arrows.specs.Answers.body_at
 use Rattle.swc_bodies.specs.Readings.{is_brace}
 use Rattle.swc_context.specs.Contexts.{view as deciding}
 use Rattle.swc_nodes.specs.GrowingNodes.{body_end}

@@ -1,5 +1,5 @@
 use Rattle.std.proofs.Common.{◌≡◌}
-use Rattle.statement_trees.specs.Contexts.{context_of, work, SameModule}
+use Rattle.statement_trees.specs.Contexts.{work, SameModule}
 use Rattle.statement_trees.proofs.reader.Reader.rest_of_list.Given as goal
 
 abbrev pub decreases-loop-frame : goal.decreases-loop-frame
