@@ -11,7 +11,7 @@ use Rattle.swc_input.proofs.Captured.{captured, kept-one-by-one}
 use Rattle.swc_ast.specs.{Tree.Tree, Trees.unmarked, declared.expr.Expr.Expr as ExprOf, declared.spanned.Spanned.Ghosts}
 use Rattle.swc_bodies.specs.{Readings.Hook, Readings.LawfulHook, Slashes.ReplayHook}
 use Rattle.swc_grammar.specs.Reads.{Reads, ReadsUnmarked, at-end}
-use Rattle.swc_grammar.specs.Symbols.Expr
+use Rattle.swc_grammar.specs.Symbols.{Expr}
 use Rattle.swc_grammar.proofs.One.{one-reading}
 use Rattle.swc_laws.proofs.{Replay.replay, Wanted.replay-wanted}
 use Rattle.swc_input.specs.Calls.{Here, Loud}

@@ -2,7 +2,7 @@
 use Rattle.std.specs.Prelude.{ℕ, Bool, true, false, ◌&&◌, ◌||◌, if◌then◌else◌, nat_eq, nat_lt, nat_le, List, Option, Some, None, length}
 use Rattle.std.specs.Char.{is_ascii_alphabetic, is_ascii_digit}
 use Rattle.ucd_derived.specs.Binary.{is_id_start, is_id_continue}
-use Rattle.bstr.specs.Utf8.decoded
+use Rattle.bstr.specs.Utf8.{decoded}
 use Rattle.swc_lexical.specs.Runs.{is_at}
 
 -- the character that a text begins with, and how many bytes it takes

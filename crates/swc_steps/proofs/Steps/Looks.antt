@@ -1,7 +1,7 @@
 -- A look at the current token, or after it, and what follows of the tokens to come.
 use Rattle.std.proofs.Common.{◌≡◌, ◌≢◌, Bool, true, false, not, List, [], ◌∷◌, Option, Some, None, Result, Ok, Err, IfOk, IfErr, IsSome, refl, sym, ap, subst, ◌∙◌}
 use Rattle.std.proofs.lemmas.Bool.{false_from_ne_true}
-use Rattle.swc_context.specs.declared.error.SyntaxError.TheVariants.OutOfMemory
+use Rattle.swc_context.specs.declared.error.SyntaxError.TheVariants.{OutOfMemory}
 use Rattle.swc_context.specs.{declared.error.Error.Error, declared.span.Span.Span}
 use Rattle.swc_input.specs.Buffer.{Served, Looked, Bumped, Future, Known, source, current, last_position}
 use Rattle.swc_input.specs.Laws.{held_some, Looked-served, Looked-some, Read-late, Known-Future, Future-current, Future-end}

@@ -1,5 +1,5 @@
 use Rattle.std.proofs.lemmas.Result.{err_from_is_err_and}
-use Rattle.swc_cover.proofs.Refines.refined-is
+use Rattle.swc_cover.proofs.Refines.{refined-is}
 use Rattle.swc_cover.proofs.refining.reparse_expr_as_pat.Goals as goal
 
 pub returns-in-Ok-clause-refined : goal.returns-in-Ok-clause-refined

@@ -48,7 +48,7 @@ use Rattle.swc_left.specs.Bases.{import_node, plain_base, import_by}
 use Rattle.swc_left.specs.Links.{computed_close, call_node, construct_by, construct_node, new_by}
 use Rattle.swc_left.specs.Links.{new_lhs, new_node, new_tail, link_tail}
 use Rattle.swc_left.specs.Templates.{tagged_node, tpl_expr_close, parts_behind, parts_by}
-use Rattle.swc_steps.specs.Lists.element_item
+use Rattle.swc_steps.specs.Lists.{element_item}
 use Rattle.swc_primary.specs.declared.object.PropHead.TheVariants as head
 use Rattle.swc_nodes.proofs.Standing.{grows-count, grows-same, grows-then}
 use Rattle.swc_nodes.proofs.Held.{apart-from, from-down, from-later, from_self, first_kept, if_from, tree-later}
@@ -87,7 +87,7 @@ use Rattle.swc_arrows.proofs.BaseLaws as base_law
 use Rattle.swc_arrows.specs.Readers.{async_arrow, list_behind, list_head}
 use Rattle.swc_arrows.specs.Answers.{callee_at, callee_parts}
 use Rattle.swc_arrows.proofs.HeadLaws as head_law
-use Rattle.swc_arrows.specs.Answers.body_at
+use Rattle.swc_arrows.specs.Answers.{body_at}
 use Rattle.swc_bodies.specs.Readings.{is_brace}
 use Rattle.swc_context.specs.Contexts.{view as deciding}
 use Rattle.swc_nodes.specs.GrowingNodes.{body_end}
