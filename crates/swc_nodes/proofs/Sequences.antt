@@ -50,15 +50,6 @@ module _ {F C K : Type 0} {fg : Ghosts F} {cg : Ghosts C} {kg : Ghosts K} where
       let u = f.above in let v = f.first in
       from-down (omega arith) (from-nth (suc y.0) ys j x (omega arith) e (record { chained = b.1 }))
 
-  pub one-made : {ns : Nodes F C K fg cg kg} (xs : List ExprId) (x : ExprId) → length xs ≡ 1
-      → x ≡ slice_index_or xs 0 x →
-      (k : ℕ) → Apart k ns (flat one_expr xs) →
-      Made k ns (expr_part x) (seq_between (first_start ns xs) (last_end ns xs) (trees (map (λ e. tree_at ns e.0) xs)))
-  one-made [] x l e k a = absurd (omega arith)
-  one-made {ns} (y ∷ []) x l e k a =
-      record { from = from-nth k (y ∷ []) 0 x (omega arith) e a; stands = ap (λ v. tree_at ns v.0) e }
-  one-made (y ∷ z ∷ zs) x l e k a = absurd (omega arith)
-
   -- where the first one begins, and where the last one ends
   pub first-is : (ns : Nodes F C K fg cg kg) (xs : List ExprId) (x : ExprId) → 1 ≤ length xs
       → x ≡ slice_index_or xs 0 x →

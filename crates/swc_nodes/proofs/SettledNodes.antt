@@ -34,9 +34,6 @@ module _ {F C K : Type 0} (fun_at : F → Span) (class_at : C → Span) (block_a
   abbrev settled : List (Node F C K) → List Settled → Type 0
   settled = SettledIn fun_at class_at block_at
 
-  pub settled-none : settled [] []
-  settled-none = record { ranges = omega arith }
-
   settled-more : (xs ms : List (Node F C K)) (bs : List Settled) → settled xs bs → settled (xs ++ ms) bs
   settled-more xs ms bs h =
       let l = length-append xs ms in

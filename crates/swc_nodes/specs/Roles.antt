@@ -6,7 +6,7 @@ use Rattle.swc_context.specs.declared.operator.AssignOp.{AssignOp}
 use Rattle.swc_context.specs.declared.operator.AssignOp.TheVariants as op
 use Rattle.swc_context.specs.declared.span.Span.{Span}
 use Rattle.swc_ast.specs.declared.expr.ExprOrSpread.{ExprOrSpread}
-use Rattle.swc_nodes.specs.NodeParts.{Part, View, Form, expr, pat, simple, pattern, view_ok, target_pat, other_pat}
+use Rattle.swc_nodes.specs.NodeParts.{Part, View, Form, expr, pat, simple, pattern, view_ok}
 use Rattle.swc_nodes.specs.NodeParts.{flat, if_some, key_parts, one_expr, expr_part, pat_part, slots}
 use Rattle.swc_nodes.specs.Walking.{part_of}
 use Rattle.swc_nodes.specs.declared.node.ExprId.{ExprId}
@@ -213,14 +213,6 @@ suits r v = false
 abbrev pub suit : List Due → Bool
 suit [] = true
 suit (q ∷ qs) = suits q.role q.part.view && suit qs
-
-abbrev pub new_form : Becomes → Form → Form
-new_form to.Same f = f
-new_form to.Again f = f
-new_form to.Held f = f
-new_form to.Array f = target_pat
-new_form to.Object f = target_pat
-new_form b f = other_pat
 
 -- what a part is that became what it is to, by how it did
 abbrev pub held_view : Becomes → View

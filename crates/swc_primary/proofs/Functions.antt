@@ -1,8 +1,8 @@
 -- The clean parser's steps in the functions of methods (15.4), as the code goes them.
-use Rattle.std.proofs.Common.{◌≡◌, Bool, true, false, not, ◌&&◌, List, [], ◌∷◌, ◌++◌, Some, None, Result, Ok, Err, ℕ, ◌≤◌, map, length, refl, sym, ap, subst, ◌∙◌, arith}
+use Rattle.std.proofs.Common.{◌≡◌, Bool, true, false, not, ◌&&◌, List, [], ◌∷◌, ◌++◌, Some, None, ℕ, ◌≤◌, map, length, refl, sym, ap, subst, ◌∙◌, arith}
 use Rattle.std.specs.{declared.alloc.Global.Global, declared.vec.Vec.Vec, Option.is_some, Prelude.Option}
-use Rattle.swc_context.specs.{Contexts.method_block, Contexts.method_params, declared.context.Context.Context, declared.error.Error.Error, declared.span.Span.Span}
-use Rattle.swc_input.specs.{declared.buffer.Buffer.Buffer, declared.token.Token.Token, declared.token.TokenAndSpan.TokenAndSpan, Source.Model, Buffer.context}
+use Rattle.swc_context.specs.{Contexts.method_block, Contexts.method_params, declared.span.Span.Span}
+use Rattle.swc_input.specs.{declared.buffer.Buffer.Buffer, declared.token.TokenAndSpan.TokenAndSpan, Source.Model, Buffer.context}
 use Rattle.swc_ast.specs.Tree.{Tree, node, Trees, nil, cons, trees, function, block as block_kind}
 use Rattle.swc_ast.specs.Trees.{to, function_e, block_e, params_e, items_of, has_items, is_rest}
 use Rattle.swc_ast.specs.{Parts.leaf, Parts.param_tree, declared.function.Param.Param, declared.spanned.Spanned.Ghosts}
@@ -20,8 +20,8 @@ use Rattle.swc_steps.specs.Params.{pat_at, params_at, placed, params_close}
 use Rattle.swc_primary.specs.declared.modifiers.MethodKind.{MethodKind, MethodKind as kind}
 use Rattle.swc_primary.specs.Methods.{async_in, generator_in, accessor_ok, function_ok, just_one, misses_param, in_params, method_function_node, method_function_of, method_block_by, method_end, method_close, method_left, method_inside, method_by, method_function}
 use Rattle.swc_input.specs.Calls.{Leads, Checks}
-use Rattle.swc_steps.specs.Parsing.{scope, On, Continues, shell_at}
-use Rattle.swc_steps.specs.{Keys.expected, Keys.method_body, Lists.eaten}
+use Rattle.swc_steps.specs.Parsing.{scope, On, shell_at}
+use Rattle.swc_steps.specs.{Keys.expected, Keys.method_body}
 use Rattle.swc_steps.proofs.Keys.{bind_none, then_calls, token_then, then_token}
 use Rattle.swc_steps.proofs.Lists.{binds, bind_same}
 use Rattle.swc_steps.proofs.Steps.{Reader, leads_then, more_recorded, read_scope}
@@ -103,12 +103,6 @@ module _ {F C K : Type 0} {fg : Ghosts F} {cg : Ghosts C} {kg : Ghosts K} where
       (sym (params-are ns ps.items h))
 
 -- ---- the function of a method
-
--- a sign is asked for in any context
-pub expected_within : (f : Token → Bool) (w : Context → Context) (x : Scope) (ts : List TokenAndSpan)
-    → expected f x ts ≡ expected f (in_context w x) ts
-unfolding expected eaten
-expected_within f w x ts = refl
 
 module _ {F C K : Type 0} (hook : Hook F C K) where
   -- the block of a method whose parameters begin at s, as the grammar has it
@@ -244,12 +238,6 @@ module _ {F C K : Type 0} (hook : Hook F C K) where
       by_what (Some p) = refl
 
 -- ---- steps
-
--- whatever was read, the context is kept
-pub continues_context : {S T A : Type 0} (model : Model S) (sure : Bool) (view : T → A) (f : Reader A) (b c : Buffer S)
-    (r : Result T Error) → Continues model sure view f b r c → context model c ≡ context model b
-continues_context model sure view f b c (Ok t) h = h.leads.read.context
-continues_context model sure view f b c (Err e) h = h.refuses.spends.read.context
 
 module _ {S : Type 0} {model : Model S} {sure : Bool} where
   -- f and g, and then k

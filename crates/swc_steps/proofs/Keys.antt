@@ -46,13 +46,6 @@ pub expected_splits : (f : Token → Bool) (x : Scope) (ts : List TokenAndSpan)
 unfolding expected
 expected_splits f x ts = refl
 
--- whatever was read, the context is kept
-pub parses_context : {S T A : Type 0} (model : Model S) (sure : Bool) (view : T → A)
-    (f : Scope → List TokenAndSpan → Out A) (b c : Buffer S) (r : Result T Error) → Parses model sure view f b r c
-    → context model c ≡ context model b
-parses_context model sure view f b c (Ok t) h = h.on.leads.read.context
-parses_context model sure view f b c (Err e) h = h.refuses.spends.read.context
-
 -- ---- keys (13.2.5)
 
 lit_no_word : (t : Token) (s : Span) (k : PropName ExprId) → literal_key t s ≡ Some k → is_word t ≡ false

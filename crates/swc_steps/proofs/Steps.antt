@@ -16,6 +16,6 @@ pub use Rattle.swc_steps.proofs.Steps.Tokens.{on_here, on_by, on_seen, on_told, 
 pub use Rattle.swc_steps.proofs.Steps.Calls.{on_call, unheard_call, heard_call, heard_more, heard_as, on_call_read, heard_call_read, heard_more_read, on_within_call}
 pub use Rattle.swc_steps.proofs.Steps.Refusals.{on_doomed, unheard_doomed, unheard_after, unheard_looked, unheard_none, unheard_at, unheard_told, unheard_memory, unheard_as, unheard_unfit, continues_recovered, parses_recovered}
 pub use Rattle.swc_steps.proofs.Steps.Faults.{on_checked_in, on_checked, on_nothing, heard_nothing, heard_noted, heard_unless, check_passes, checks_both, checks_and, notes_then, check_notes, check_later}
-pub use Rattle.swc_steps.proofs.Steps.Results.{parses_after, continues_after, parses_then, parses_first, consumes_of, consumes_then, continues_of, parses_ok, parses_err, node_parses, node_continues, parses_call, parses_call_read, tries_then, eats_acts, eats_none, eats_some, eats_on}
+pub use Rattle.swc_steps.proofs.Steps.Results.{parses_after, continues_after, parses_then, parses_first, consumes_of, consumes_then, continues_of, node_parses, node_continues, parses_call, parses_call_read, tries_then, eats_acts, eats_none, eats_some, eats_on}
 pub use Rattle.swc_steps.proofs.Steps.Contexts.{moved, within, on_within, on_aside, parses_within, parses_aside}
 pub use Rattle.swc_steps.proofs.Steps.Inner.{inner_of, no_head, inner_is, on_inner, on_from_inner, heard_inner, unheard_inner, parses_inner, continues_inner}

@@ -19,9 +19,6 @@ give t x ts = Some (t, ts)
 kept : {es fs : List Error} → Keeps es fs → length es ≤ length fs
 kept {es} {fs} h = let a = ap length h.added in let l = length-append es h.more in omega arith
 
-pub more_than : (n k m : ℕ) → k ≡ m → n < m → n < k
-more_than n k m e lt = omega arith
-
 place_of : (o : Option TokenAndSpan) (t : TokenAndSpan) (q p : Span) → o ≡ Some t
     → MatchOption o (p ≡ q) (λ x. p ≡ x.span) → p ≡ t.span
 place_of None t q p e m = cc

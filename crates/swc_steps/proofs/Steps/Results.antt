@@ -56,19 +56,6 @@ module _ {S : Type 0} (model : Model S) (sure : Bool) {T A : Type 0} (view : T �
   continues_of b c (Ok x) h = h.on
   continues_of b c (Err e) u = u
 
-  -- an answer that is known
-  pub parses_ok : (b c : Buffer S) (r : Result T Error) (x : T) → r ≡ Ok x → Parses model sure view f b r c
-      → Heard model sure f (view x) b c
-  parses_ok b c (Ok y) x e h = let P : T → Type 0 = λ v. Heard model sure f (view v) b c in let same : y ≡ x = cc in
-      subst P same h
-  parses_ok b c (Err y) x e h = cc
-
-  pub parses_err : (b c : Buffer S) (r : Result T Error) (x : Error) → r ≡ Err x → Parses model sure view f b r c
-      → Unheard model sure f b x c
-  parses_err b c (Ok y) x e h = cc
-  parses_err b c (Err y) x e h = let P : Error → Type 0 = λ v. Unheard model sure f b v c in let same : y ≡ x = cc in
-      subst P same h
-
 module _ {S : Type 0} (model : Model S) (sure : Bool) where
   -- a reading, whose answer is a node made in the end
   pub node_parses : {T A : Type 0} (view : T → A) {f : Reader A} {b c : Buffer S} (at : BytePos) (r : Result T Error)
