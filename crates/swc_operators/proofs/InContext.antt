@@ -36,8 +36,8 @@ module _ {S H F C K : Type 0} {fg : Ghosts F} {cg : Ghosts C} {kg : Ghosts K} {m
       → Produces model sure held view f k p o (record q { input = e })
   within {f = f} {g = g} w quiet step from says before to set h answer back left =
       subst (λ x. Produces model sure held view f k p x (record q { input = e })) answer
-      (m.yes r (parses_within model sure (view q.nodes) f g r w quiet step to (as_set model p.input b w from says set) h.reads back
-      (left ∙ before))
+      (m.yes r (parses_within model sure (view q.nodes) f g r w quiet step to (as_set model p.input b w from says set)
+      h.reads back (left ∙ before))
       h.grows h.from)
 
   -- the same, where no assignment expression begins

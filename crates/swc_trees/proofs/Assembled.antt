@@ -219,7 +219,7 @@ module _ {F C K : Type 0} {fun_at : F → Span} {class_at : C → Span} {block_a
           (λ w. w ∷ map tree (reverse made)) e ∙ ap (λ w. of at i ∷ w) f);
     }
 
--- what a result holds, in something that stands for the same tree
+-- what a result holds, in something that has the same tree
 module _ {F C K : Type 0} (fun_at : F → Span) (class_at : C → Span) (block_at : K → Span) where
   pub made-wrapped : {X Y : Type 0} (old new : List (Built F C K)) (ps : List Part) (tree : X → Tree F C K)
       (whole : Y → Tree F C K) (of : (ℕ → Tree F C K) → Tree F C K) (r : Result X AllocError) (q : Result Y AllocError)

@@ -8,7 +8,8 @@ use Rattle.swc_operators.proofs.ops.recover.Goals as goal
 pub returns-in_err-record_refusal : goal.returns-in_err-record_refusal
 returns-in_err-record_refusal g c =
     let p = err_from_is_err_and c.from_residual.result c.from_residual.ensures.1 in
-    let h = c.in_err-record_refusal.ensures.tries in rw (p.1, p.2) (not_recovered h (λ n. absurd (n h.kind)) (grows-same _))
+    let h = c.in_err-record_refusal.ensures.tries in
+    rw (p.1, p.2) (not_recovered h (λ n. absurd (n h.kind)) (grows-same _))
 
 pub returns : goal.returns
 returns g c =

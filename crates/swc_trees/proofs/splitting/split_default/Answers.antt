@@ -7,6 +7,7 @@ pub returns : goal.returns
 returns g c = split-two c.in_ok-place_pat.ensures c.in_ok-right.ensures refl
     (λ at e f. record {
       stands = ap (node default c.args.span)
-          (two (e ∙ ap (pat_tree _ _ _ g.F.Spanned.place g.C.Spanned.place g.K.Spanned.place) c.deref_mut.ensures.value) f);
+          (two (e ∙ ap (pat_tree _ _ _ g.F.Spanned.place g.C.Spanned.place g.K.Spanned.place)
+          c.deref_mut.ensures.value) f);
       view = refl;
     })

@@ -54,7 +54,8 @@ pub returns-in_ok-place_expr-in-Expr : goal.returns-in_ok-place_expr-in-Expr
 returns-in_ok-place_expr-in-Expr g c = split-one c.in_ok-place_expr-in-Expr.ensures refl
     (λ at e. record {
       stands = ap (λ v. node pat_expr (span_of v) (cons v nil)) e
-          ∙ (ap (λ v0. node pat_expr (span_of ((boxed_tree _ _ _ g.F.Spanned.place g.C.Spanned.place g.K.Spanned.place) v0))
+          ∙ (ap (λ v0. node pat_expr
+          (span_of ((boxed_tree _ _ _ g.F.Spanned.place g.C.Spanned.place g.K.Spanned.place) v0))
           (cons ((boxed_tree _ _ _ g.F.Spanned.place g.C.Spanned.place g.K.Spanned.place) v0) nil)) c.in-Expr.e-is ∙ sym
           (ap (pat_tree _ _ _ g.F.Spanned.place g.C.Spanned.place g.K.Spanned.place) c.in-Expr.is
           ∙ expr_pat_tree _ _ _ g.F.Spanned.place g.C.Spanned.place g.K.Spanned.place c.in-Expr.e));
