@@ -1,4 +1,4 @@
-//! Moves boxed trees out of the nodes, and into them. What is moved stands for the same tree.
+//! Moves boxed trees out of the nodes, and into them. Moving a tree doesn't change it.
 #![tactic(auto)]
 
 mod assembling;

@@ -39,7 +39,8 @@ returns-in-Assign g c =
     (prop_or_spread_tree _ _ _ g.F.Spanned.place g.C.Spanned.place g.K.Spanned.place) _
     (Ok _) _ c.named-in-Assign.ensures
     (made-one c.pop_expr-value.ensures (λ at e.
-    cover_prop_tree _ _ _ g.F.Spanned.place g.C.Spanned.place g.K.Spanned.place (record { span = c.in-Assign.p.span; key = c.in-Assign.p.key; value = c.pop_expr-value.result }) ∙ ap
+    cover_prop_tree _ _ _ g.F.Spanned.place g.C.Spanned.place g.K.Spanned.place
+    (record { span = c.in-Assign.p.span; key = c.in-Assign.p.key; value = c.pop_expr-value.result }) ∙ ap
     (λ v. node cover c.in-Assign.p.span (cons (ident_tree c.in-Assign.p.key) (cons v nil))) e)))
 
 pub method-requires : goal.method-requires
