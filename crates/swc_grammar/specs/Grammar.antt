@@ -11,7 +11,7 @@ use Rattle.swc_ast.specs.Trees.{key_value_e, params_e, setter_e, getter_ok, sett
 use Rattle.swc_ast.specs.{Targets.is_target as is_simple_target, declared.expr.ImportPhase.ImportPhase as phase, declared.expr.MetaPropKind.MetaPropKind as kind}
 use Rattle.swc_bodies.specs.Readings.{is_async, is_brace}
 use Rattle.swc_grammar.specs.Scope.{Scope, in_context, at_head, inner}
-use Rattle.swc_grammar.specs.Rule.{gives, symbol, token, one, token_on_line, one_on_line, given, must, ahead, ahead_two, body}
+use Rattle.swc_grammar.specs.Rule.{gives, ◌>>=◌, ◌>>◌, symbol, token, one, token_on_line, one_on_line, given, must, ahead, ahead_two, body}
 use Rattle.swc_grammar.specs.Symbols.{Symbol, Expr, Exprs, Assign, Level, Unary, Lhs, Left, Arguments, Args, ArgsTail, Primary, Literal, Template, Parts, Base, Elements, ElementsTail, Item, Props, PropsTail, Prop, Key, AfterKey, Shell, Side, function, class, block, Pat, Element, Rest, PatElements, PatElementsTail, PatProps, PatPropsTail, PatProp, Params, ParamsTail, ArrowParams, ArrowBody}
 use Rattle.swc_grammar.specs.Arrows.{is_arrow, arrow_name, is_block, is_sign, async_name, async_param, goes_on_async, of_arrow}
 use Rattle.swc_grammar.specs.Names.{is_joined}
