@@ -15,9 +15,6 @@ use swc_context::span::Span;
 use swc_nodes::node::{ExprId, Node, PatId};
 use swc_nodes::nodes::Nodes;
 use swc_print::print::PrintNodes;
-use swc_trees::letting_go::{
-    let_go_exprs, let_go_params, let_go_pat_props, let_go_pats, let_go_prop,
-};
 use swc_trees::putting::{put_args, put_expr, put_pat};
 
 /// The nodes of all rows, whose bodies are kept as tokens.
@@ -90,7 +87,6 @@ impl Shown for PropOrSpread<TokenBody, TokenBody, TokenBody> {
             PropOrSpread::Prop(prop) => kind_of(prop),
         };
         let span = self.span();
-        let_go_prop(self);
         write!(out, "{kind} {span}")
     }
 }
@@ -144,7 +140,6 @@ impl Shown for PatProp {
         if push_prop(&mut props, self) {
             return Pat::Object { span, props }.show(out);
         }
-        let_go_pat_props(props);
         out.push_str(NO_MEMORY)
     }
 }
@@ -249,7 +244,6 @@ fn put_pats(
         let id = put_pat(nodes, alloc, pat);
         ids = with_pat(ids, id);
     }
-    let_go_pats(pats);
     ids
 }
 
@@ -265,7 +259,6 @@ fn put_params(
         let id = put_pat(nodes, alloc, pat);
         ids = with_pat(ids, id);
     }
-    let_go_params(params);
     ids
 }
 
@@ -315,7 +308,6 @@ fn put_exprs(
         let id = put_expr(nodes, alloc, expr);
         ids = with_id(ids, id);
     }
-    let_go_exprs(exprs);
     ids
 }
 

@@ -21,7 +21,6 @@ use swc_ecma_parser::parser::object::ParseObject;
 use swc_input::buffer::Buffer;
 use swc_input::capturing::Capturing;
 use swc_nodes::node::{ExprId, PatId};
-use swc_trees::letting_go::let_go;
 
 /// Makes the call, and writes what it answers.
 pub(crate) fn call(
@@ -128,7 +127,6 @@ fn show_is_target(
         Ok(expr) => {
             let is_target = expr.is_valid_simple_assignment_target(is_strict);
             let is_same = expr.as_expr().is_valid_simple_assignment_target(is_strict) == is_target;
-            let_go(expr);
             out.push_str(if is_same {
                 ""
             } else {

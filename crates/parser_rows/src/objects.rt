@@ -4,12 +4,10 @@ use lower_rows::shown::{NO_MEMORY, show, show_refusal};
 use lower_rows::tokens::span_of;
 use lower_rows::trees::{TestExpr, TestPat, push_prop};
 use std::alloc::{AllocError, Global};
-use std::mem::forget;
 use swc_ast::prop::PropOrSpread;
 use swc_bodies::token_body::TokenBody;
 use swc_context::span::{BytePos, Span};
 use swc_ecma_parser::parser::object::ParseObject;
-use swc_trees::letting_go::{let_go_pat_props, let_go_props};
 
 type Prop = PropOrSpread<TokenBody, TokenBody, TokenBody>;
 
@@ -46,18 +44,13 @@ pub(crate) fn make_literal(parser: &mut TestParser, out: &mut String) -> Result<
     }
 }
 
-/// A list of the property alone, or nothing if there is no memory: then the property is forgotten, so that no tree is
-/// dropped here.
+/// A list of the property alone, or nothing if there is no memory.
 fn only_prop(alloc: Global, prop: Prop) -> Option<Vec<Prop>> {
     let mut props = Vec::new(alloc);
-    let pushed = props.push(prop);
-    let is_pushed = pushed.is_ok();
-    forget(pushed);
-    if is_pushed {
-        return Some(props);
+    match props.push(prop) {
+        Ok(()) => Some(props),
+        Err(_) => None,
     }
-    let_go_props(props);
-    None
 }
 
 /// Makes an object pattern at the start of the text, of as many properties as are said, which the parser reads one
@@ -73,12 +66,10 @@ pub(crate) fn make_pattern(
         match ParseObject::<TestPat>::parse_object_prop(parser) {
             Ok(prop) => {
                 if !push_prop(&mut props, prop) {
-                    let_go_pat_props(props);
                     return out.push_str(NO_MEMORY);
                 }
             }
             Err(fault) => {
-                let_go_pat_props(props);
                 return show_refusal(out, fault);
             }
         }

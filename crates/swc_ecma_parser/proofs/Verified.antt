@@ -1,7 +1,7 @@
 -- From what is recorded of names that are left over to what is promised of the answer in a box.
-use Rattle.std.proofs.Common.{◌≡◌, ℕ, Bool, true, false, List, Result, Ok, Err, IsOk, IfOk, IfErr, OnOk, MatchResult, ◌||◌, sym, ap, subst, ◌∙◌}
+use Rattle.std.proofs.Common.{◌≡◌, ℕ, Bool, true, false, List, Result, Ok, Err, IsOk, IfOk, IfErr, OnOk, MatchResult, ◌||◌, refl, sym, ap, subst, ◌∙◌}
 use Rattle.swc_context.specs.{declared.error.Error.Error, declared.span.BytePos.BytePos}
-use Rattle.swc_input.specs.Buffer.{Known, Lives, Read, ReadSome, current, last_position, state_of}
+use Rattle.swc_input.specs.Buffer.{Known, Lives, Read, ReadSome, current, last_position, previous, state_of}
 use Rattle.swc_input.specs.Recording.{is_fit, is_silent, no_memory}
 use Rattle.swc_input.specs.{Source.Model, Source.Laws, declared.buffer.Buffer.Buffer, declared.token.TokenAndSpan.TokenAndSpan, Recordings.RecordsAll}
 use Rattle.swc_ast.specs.{Tree.Tree, Trees.unmarked, declared.spanned.Spanned.Ghosts}
@@ -11,7 +11,7 @@ use Rattle.swc_ecma_parser.specs.{CoverNames.cover_names, declared.parser.Parser
 use Rattle.swc_ecma_parser.specs.Faults.{cover_faults, begins_fit, Appends}
 use Rattle.swc_input.specs.Calls.{Loud, Tries}
 use Rattle.swc_steps.proofs.Steps.{spent}
-use Rattle.swc_ecma_parser.specs.Calls.{buffer_of, nodes_of, commas_of, has_failed, wants_memory}
+use Rattle.swc_ecma_parser.specs.Calls.{buffer_of, nodes_of, commas_of, has_failed, parser_failed, wants_memory}
 use Rattle.swc_ecma_parser.specs.Verification.{PromisedVerification, RecordsFaults, TriesFaults}
 use Rattle.swc_ecma_parser.proofs.Calling.{failing, not_both}
 
@@ -113,6 +113,23 @@ module _ {S T F C K : Type 0} (model : Model S) (given : Tree F C K) (view : T �
 
 module _ {S H T F C K : Type 0} {fg : Ghosts F} {cg : Ghosts C} {kg : Ghosts K} {model : Model S} {given : Tree F C K}
     {view : T → Tree F C K} where
+  -- a parser that has failed
+  pub verification-again : {p : Parser S H F C K fg cg kg} {e : Error}
+      → (has_failed p ≡ true) × (e ≡ parser_failed (previous (buffer_of p)))
+      → PromisedVerification model given view p (Err e) p
+  verification-again h = record {
+    again = λ failed. (refl, ap (λ x. Err x) h.1);
+    acts = λ runs. absurd (not_both h.0 runs);
+    tree = tt;
+    records = λ runs. absurd (not_both h.0 runs);
+    current = λ runs. absurd (not_both h.0 runs);
+    listed = λ runs. absurd (not_both h.0 runs);
+    silent = λ runs. absurd (not_both h.0 runs);
+    commas = refl;
+    nodes = refl;
+    fails = λ runs. absurd (not_both h.0 runs);
+  }
+
   -- the buffer, the nodes and the commas before the parser remembers that it is out of memory
   pub promised-verification : {p q : Parser S H F C K fg cg kg} {f : Bool} (b : Buffer S) (ns : Nodes F C K fg cg kg)
       (cs : TrailingCommas)

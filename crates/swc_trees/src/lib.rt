@@ -4,7 +4,6 @@
 mod assembling;
 mod built;
 mod items;
-pub mod letting_go;
 pub mod making;
 mod moved;
 mod parting;

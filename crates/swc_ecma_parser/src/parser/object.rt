@@ -23,7 +23,6 @@ use swc_input::tokens::Tokens;
 use swc_nodes::node::ExprId;
 use swc_patterns::object::{RestProp, check_earlier_rest, check_last_rest};
 use swc_productions::ring::{parse_object_pat_prop, parse_object_prop, parse_prop_name};
-use swc_trees::letting_go::{let_go_pat_props, let_go_props};
 use swc_trees::making::object_lit;
 
 /// What object literals and object patterns (ECMA-262, 13.2.5 and 14.3.3) are read as, a property at
@@ -98,10 +97,7 @@ impl<I: Tokens, B: Bodies<I>> Parser<I, B> {
                 Ok(object) => Ok(object),
                 Err(_) => Err(self.productions.input.out_of_memory()),
             },
-            Err(_) => {
-                let_go_props(props);
-                Err(self.productions.input.out_of_memory())
-            }
+            Err(_) => Err(self.productions.input.out_of_memory()),
         }
     }
 }
@@ -126,16 +122,9 @@ impl<I: Tokens, B: Bodies<I>> ParseObject<Box<ExprOf<B>>> for Parser<I, B> {
     ) -> PResult<Box<ExprOf<B>>>
         ensures { Makes span props.items trailing_comma self.old result self.new }
     {
-        match self.begin() {
-            Ok(_) => {
-                let answer = self.make_literal(span, props, trailing_comma);
-                self.finish(answer)
-            }
-            Err(error) => {
-                let_go_props(props);
-                Err(error)
-            }
-        }
+        self.begin()?;
+        let answer = self.make_literal(span, props, trailing_comma);
+        self.finish(answer)
     }
 
     /// A property of an object literal (ECMA-262, 13.2.5 and 15.4), up to the `,` or `}` after it, which stays.
@@ -211,15 +200,9 @@ impl<I: Tokens, B: Bodies<I>> Parser<I, B> {
         match check_rests(&mut self.productions.input, &props, trailing_comma) {
             Ok(()) => match self.commas.remember(span.lo, None) {
                 Ok(()) => Ok(Pat::Object { span, props }),
-                Err(_) => {
-                    let_go_pat_props(props);
-                    Err(self.productions.input.out_of_memory())
-                }
+                Err(_) => Err(self.productions.input.out_of_memory()),
             },
-            Err(error) => {
-                let_go_pat_props(props);
-                Err(error)
-            }
+            Err(error) => Err(error),
         }
     }
 }
@@ -246,16 +229,9 @@ impl<I: Tokens, B: Bodies<I>> ParseObject<PatOf<B>> for Parser<I, B> {
     ) -> PResult<PatOf<B>>
         ensures { Patterns I.model span props.items trailing_comma self.old result self.new }
     {
-        match self.begin() {
-            Ok(_) => {
-                let answer = self.make_pattern(span, props, trailing_comma);
-                self.finish(answer)
-            }
-            Err(error) => {
-                let_go_pat_props(props);
-                Err(error)
-            }
-        }
+        self.begin()?;
+        let answer = self.make_pattern(span, props, trailing_comma);
+        self.finish(answer)
     }
 
     /// A property of an object pattern (BindingProperty; ECMA-262, 14.3.3), up to what is after it, which stays: a

@@ -18,7 +18,6 @@ use swc_cover::pat_type::PatType;
 use swc_cover::refining::{parse_paren_items_as_params, reparse_expr_as_pat};
 use swc_input::tokens::Tokens;
 use swc_nodes::node::{ExprId, PatId};
-use swc_trees::letting_go::{let_go, let_go_args};
 use swc_trees::putting::{put_args, put_expr};
 
 /// Expressions in boxes, as items of a list in parentheses, over a hook's values.
@@ -54,17 +53,10 @@ impl<I: Tokens, B: Bodies<I>> Parser<I, B> {
     ) -> PResult<PatOf<B>>
         ensures { RefinesExpr I.model pat_type expr self.old result self.new }
     {
-        match self.begin() {
-            Ok(start) => {
-                let answer = self.recast_expr(pat_type, expr);
-                let answer = self.lift_out(start, answer);
-                self.finish(answer)
-            }
-            Err(error) => {
-                let_go(expr);
-                Err(error)
-            }
-        }
+        let start = self.begin()?;
+        let answer = self.recast_expr(pat_type, expr);
+        let answer = self.lift_out(start, answer);
+        self.finish(answer)
     }
 
     /// As `reparse_expr_as_pat`, of an expression by its number, as `parse_expr_id` returns it. Its nodes become those
@@ -100,17 +92,10 @@ impl<I: Tokens, B: Bodies<I>> Parser<I, B> {
     ) -> PResult<Vec<PatOf<B>>>
         ensures { RefinesItems I.model items.items trailing_comma self.old result self.new }
     {
-        match self.begin() {
-            Ok(start) => {
-                let answer = self.recast_items(items, trailing_comma);
-                let answer = self.lift_out(start, answer);
-                self.finish(answer)
-            }
-            Err(error) => {
-                let_go_args(items);
-                Err(error)
-            }
-        }
+        let start = self.begin()?;
+        let answer = self.recast_items(items, trailing_comma);
+        let answer = self.lift_out(start, answer);
+        self.finish(answer)
     }
 
     /// Moves the answer out of the nodes, and cuts off those that were made for it. What is remembered of commas stays.

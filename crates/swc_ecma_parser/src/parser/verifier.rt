@@ -12,7 +12,6 @@ use swc_bodies::bodies::{Bodies, ExprOf};
 use swc_context::error::PResult;
 use swc_input::tokens::Tokens;
 use swc_nodes::node::ExprId;
-use swc_trees::letting_go::let_go;
 use swc_trees::putting::put_expr;
 
 impl<I: Tokens, B: Bodies<I>> Parser<I, B> {
@@ -33,17 +32,10 @@ impl<I: Tokens, B: Bodies<I>> Parser<I, B> {
     pub fn verify_expr(&mut self, expr: Box<ExprOf<B>>) -> PResult<Box<ExprOf<B>>>
         ensures { VerifiesExpr I.model expr self.old result self.new }
     {
-        match self.begin() {
-            Ok(start) => {
-                let answer = self.look_through(expr);
-                let answer = self.lift_out(start, answer);
-                self.finish(answer)
-            }
-            Err(error) => {
-                let_go(expr);
-                Err(error)
-            }
-        }
+        let start = self.begin()?;
+        let answer = self.look_through(expr);
+        let answer = self.lift_out(start, answer);
+        self.finish(answer)
     }
 
     /// Puts the expression after all nodes, and records the names that are left over in it.

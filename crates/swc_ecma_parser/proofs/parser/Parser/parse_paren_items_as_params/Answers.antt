@@ -1,4 +1,5 @@
 use Rattle.std.proofs.Common.{◌≡◌, map, refl, sym, ◌∙◌}
+use Rattle.std.proofs.lemmas.Result.{err_from_is_err_and}
 use Rattle.swc_input.specs.{Buffer.last_position, Recording.no_memory}
 use Rattle.swc_ast.specs.{Tree.trees, TreeOf.pat_tree, Trees.are_valid, Trees.all_unmarked}
 use Rattle.swc_cover.specs.{Items.want_items, Refining.pats_at}
@@ -9,14 +10,16 @@ use Rattle.swc_ecma_parser.proofs.Refined.{cut-kept, meets-refinement, moved-pat
 use Rattle.swc_ecma_parser.proofs.parser.Parser.parse_paren_items_as_params.Goals as goal
 
 pub lift_out-answer-requires : goal.lift_out-answer-requires
-lift_out-answer-requires g c = rw (c.in-Ok.ensures.start)
+lift_out-answer-requires g c = rw (c.in_ok-start.ensures.start)
     (of-answer _ _ _ c.recast_items-answer.result c.recast_items-answer.ensures.recasts (λ x w. w.apart))
 
-pub returns-in-Err : goal.returns-in-Err
-returns-in-Err g c = refinement-again refl c.in-Err.ensures.again
+pub returns-in_err-start : goal.returns-in_err-start
+returns-in_err-start g c =
+    let p = err_from_is_err_and c.from_residual.result c.from_residual.ensures.1 in
+    rw (p.1, p.2) (refinement-again refl c.in_err-start.ensures.again)
 
-pub returns-in-Ok : goal.returns-in-Ok
-returns-in-Ok g c =
+pub returns : goal.returns
+returns g c =
     let done = c.finish.ensures in
     let moved = c.lift_out-answer.ensures in
     let made = c.recast_items-answer.ensures in
@@ -25,7 +28,7 @@ returns-in-Ok g c =
     let xs = c.args.items.items in
     let pat = pat_tree _ _ _ g.B.Fun.Spanned.place g.B.Class.Spanned.place g.B.Block.Spanned.place in
     promised-refinement _ (nodes_of c.lift_out-answer.new.self) (commas_of c.lift_out-answer.new.self)
-    c.lift_out-answer.result c.finish.result c.in-Ok.ensures.runs (moved.runs ∙ made.runs)
+    c.lift_out-answer.result c.finish.result c.in_ok-start.ensures.runs (moved.runs ∙ made.runs)
     done.answer (done.buffer ∙ moved.buffer) done.nodes done.commas done.fails
     (meets-refinement g.I.Tokens.model
     (are_valid (boxed_items g.B.Fun.Spanned.place g.B.Class.Spanned.place g.B.Block.Spanned.place xs))
@@ -37,4 +40,4 @@ returns-in-Ok g c =
     (records-moved _ _ _ _ c.recast_items-answer.result c.lift_out-answer.result made.judges moved.moved)
     (moved.commas ∙ made.commas)
     (cut-kept (nodes_of c.lift_out-answer.new.self) (whichever _ _ _ c.recast_items-answer.result made.recasts
-    (λ x w. w.kept) (λ e w. w.kept)) (rw (sym c.in-Ok.ensures.start) moved.nodes))
+    (λ x w. w.kept) (λ e w. w.kept)) (rw (sym c.in_ok-start.ensures.start) moved.nodes))

@@ -1,4 +1,5 @@
 use Rattle.std.proofs.Common.{refl, sym, ◌∙◌}
+use Rattle.std.proofs.lemmas.Result.{err_from_is_err_and}
 use Rattle.swc_ast.specs.{TreeOf.pat_tree, Trees.is_valid, Trees.unmarked}
 use Rattle.swc_cover.specs.PatTypes.{want_as}
 use Rattle.swc_nodes.specs.{GrowingNodes.count, NodeParts.one_pat}
@@ -9,21 +10,23 @@ use Rattle.swc_ecma_parser.proofs.Refined.{cut-kept, meets-refinement, of-answer
 use Rattle.swc_ecma_parser.proofs.parser.Parser.reparse_expr_as_pat.Goals as goal
 
 pub lift_out-answer-requires : goal.lift_out-answer-requires
-lift_out-answer-requires g c = rw (c.in-Ok.ensures.start)
+lift_out-answer-requires g c = rw (c.in_ok-start.ensures.start)
     (of-answer _ _ _ c.recast_expr-answer.result c.recast_expr-answer.ensures.recasts (λ x w. w.apart))
 
-pub returns-in-Err : goal.returns-in-Err
-returns-in-Err g c = refinement-again refl c.in-Err.ensures.again
+pub returns-in_err-start : goal.returns-in_err-start
+returns-in_err-start g c =
+    let p = err_from_is_err_and c.from_residual.result c.from_residual.ensures.1 in
+    rw (p.1, p.2) (refinement-again refl c.in_err-start.ensures.again)
 
-pub returns-in-Ok : goal.returns-in-Ok
-returns-in-Ok g c =
+pub returns : goal.returns
+returns g c =
     let done = c.finish.ensures in
     let moved = c.lift_out-answer.ensures in
     let made = c.recast_expr-answer.ensures in
     let p = c.args.self.now in
     let e = c.args.expr in
     promised-refinement _ (nodes_of c.lift_out-answer.new.self) (commas_of c.lift_out-answer.new.self)
-    c.lift_out-answer.result c.finish.result c.in-Ok.ensures.runs (moved.runs ∙ made.runs)
+    c.lift_out-answer.result c.finish.result c.in_ok-start.ensures.runs (moved.runs ∙ made.runs)
     done.answer (done.buffer ∙ moved.buffer) done.nodes done.commas done.fails
     (meets-refinement g.I.Tokens.model
     (is_valid (tree_by g.B.Fun.Spanned.place g.B.Class.Spanned.place g.B.Block.Spanned.place e))
@@ -35,4 +38,4 @@ returns-in-Ok g c =
     (records-moved _ _ _ _ c.recast_expr-answer.result c.lift_out-answer.result made.judges moved.moved)
     (moved.commas ∙ made.commas)
     (cut-kept (nodes_of c.lift_out-answer.new.self) (whichever _ _ _ c.recast_expr-answer.result made.recasts
-    (λ x w. w.kept) (λ e w. w.kept)) (rw (sym c.in-Ok.ensures.start) moved.nodes))
+    (λ x w. w.kept) (λ e w. w.kept)) (rw (sym c.in_ok-start.ensures.start) moved.nodes))

@@ -1,13 +1,19 @@
 use Rattle.std.proofs.Common.{sym, ◌∙◌}
+use Rattle.std.proofs.lemmas.Result.{err_from_is_err_and}
 use Rattle.swc_input.specs.Buffer.{last_position}
 use Rattle.swc_nodes.specs.GrowingNodes.{count}
 use Rattle.swc_ecma_parser.specs.Calls.{buffer_of, nodes_of, commas_of, tree_by}
-use Rattle.swc_ecma_parser.proofs.Verified.{meets-verification, moved-given, promised-verification}
+use Rattle.swc_ecma_parser.proofs.Verified.{meets-verification, moved-given, promised-verification, verification-again}
 use Rattle.swc_ecma_parser.proofs.{Bare.bare-boxed, Moving.cut-back}
 use Rattle.swc_ecma_parser.proofs.parser.Parser.verify_expr.Goals as goal
 
-pub returns-in-Ok : goal.returns-in-Ok
-returns-in-Ok g c =
+pub returns-in_err-start : goal.returns-in_err-start
+returns-in_err-start g c =
+    let p = err_from_is_err_and c.from_residual.result c.from_residual.ensures.1 in
+    rw (p.1, p.2) (verification-again c.in_err-start.ensures.again)
+
+pub returns : goal.returns
+returns g c =
     let done = c.finish.ensures in
     let moved = c.lift_out-answer.ensures in
     let made = c.look_through-answer.ensures in
@@ -15,7 +21,7 @@ returns-in-Ok g c =
     let q = c.look_through-answer.new.self in
     let given = tree_by g.B.Fun.Spanned.place g.B.Class.Spanned.place g.B.Block.Spanned.place c.args.expr in
     promised-verification _ (nodes_of c.lift_out-answer.new.self) (commas_of c.lift_out-answer.new.self)
-    c.lift_out-answer.result c.finish.result c.in-Ok.ensures.runs (moved.runs ∙ made.runs)
+    c.lift_out-answer.result c.finish.result c.in_ok-start.ensures.runs (moved.runs ∙ made.runs)
     done.answer (done.buffer ∙ moved.buffer) done.nodes done.commas done.fails
     (meets-verification g.I.Tokens.model given
     (tree_by g.B.Fun.Spanned.place g.B.Class.Spanned.place g.B.Block.Spanned.place)
@@ -27,4 +33,4 @@ returns-in-Ok g c =
     (bare-boxed g.B.Fun.Spanned.place g.B.Class.Spanned.place g.B.Block.Spanned.place c.args.expr) made.looks.1
     moved.moved))
     (moved.commas ∙ made.commas)
-    (cut-back (nodes_of c.lift_out-answer.new.self) made.grows (rw (sym c.in-Ok.ensures.start) moved.nodes))
+    (cut-back (nodes_of c.lift_out-answer.new.self) made.grows (rw (sym c.in_ok-start.ensures.start) moved.nodes))
