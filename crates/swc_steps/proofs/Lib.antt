@@ -10,6 +10,7 @@ pub mod Loops
 pub mod Making
 pub mod Naming
 pub mod PrivateNames
+pub mod Refused
 pub mod Regexes
 pub mod Rules
 pub mod Signs

@@ -1,7 +1,7 @@
 use Rattle.std.proofs.Common.{sym, ap, ◌∙◌}
-use Rattle.std.proofs.lemmas.Result.{err_from_is_err_and}
 use Rattle.swc_input.specs.Kinds.{at_token}
 use Rattle.swc_grammar.specs.Arrows.{is_sign}
+use Rattle.swc_steps.proofs.Refused.{err_is}
 use Rattle.swc_steps.proofs.Steps as s
 use Rattle.swc_arrows.proofs.Dooms.{doomed_seen}
 use Rattle.swc_arrows.proofs.Ends.{not_barred, no_sign_here, sign_barred}
@@ -18,13 +18,11 @@ returns-then-not-branch-clause-checks g c = λ sure.
 
 pub returns-in_err-is_at_sign-clause-checks : goal.returns-in_err-is_at_sign-clause-checks
 returns-in_err-is_at_sign-clause-checks g c =
-    let p = err_from_is_err_and c.from_residual.result c.from_residual.ensures.1 in λ sure. rw (p.1, p.2)
-    (s.unheard_memory c.in_err-is_at_sign.ensures.looks)
+    λ sure. rw (err_is c.from_residual.ensures.1) (s.unheard_memory c.in_err-is_at_sign.ensures.looks)
 
 pub returns-in_err-emit_err-clause-checks : goal.returns-in_err-emit_err-clause-checks
 returns-in_err-emit_err-clause-checks g c =
-    let p = err_from_is_err_and c.from_residual-in_err-emit_err.result c.from_residual-in_err-emit_err.ensures.1 in
-    λ sure. rw (p.1, p.2) (s.unheard_memory
+    λ sure. rw (err_is c.from_residual-in_err-emit_err.ensures.1) (s.unheard_memory
     (s.forgoes_later (s.here_leads c.in_ok-is_at_sign.ensures.looks) c.in_err-emit_err.ensures.tries))
 
 pub returns-clause-checks : goal.returns-clause-checks

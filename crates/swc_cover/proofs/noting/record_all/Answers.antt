@@ -1,5 +1,5 @@
 use Rattle.std.proofs.Common.{true, refl, sym, arith}
-use Rattle.std.proofs.lemmas.Result.{err_from_is_err_and}
+use Rattle.swc_steps.proofs.Refused.{err_is}
 use Rattle.swc_cover.proofs.{Checked.faults-more, Checked.faults-all, Clear.stays-then, FaultsNoted.errors-all, FaultsNoted.errors-more}
 use Rattle.swc_steps.proofs.Emitted.{fit_seen, notes-none, notes-one, notes-then}
 use Rattle.swc_steps.proofs.Steps.{check_passes, forgoes_later}
@@ -15,8 +15,7 @@ loop-fault-init g c = (
 
 pub returns-in_err-emit_err-clause-checks : goal.returns-in_err-emit_err-clause-checks
 returns-in_err-emit_err-clause-checks g c =
-    let p = err_from_is_err_and c.from_residual.result c.from_residual.ensures.1 in rw (p.1, p.2)
-    (forgoes_later c.loop-fault.invariant.0.leads
+    rw (err_is c.from_residual.ensures.1) (forgoes_later c.loop-fault.invariant.0.leads
     c.in_err-emit_err.ensures.tries)
 
 pub loop-fault-preserved : goal.loop-fault-preserved

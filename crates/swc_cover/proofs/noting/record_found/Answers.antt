@@ -1,6 +1,6 @@
 use Rattle.std.proofs.Common.{refl, sym, ap, subst}
-use Rattle.std.proofs.lemmas.Result.{err_from_is_err_and}
 use Rattle.std.specs.Prelude.{IsSome}
+use Rattle.swc_steps.proofs.Refused.{err_is}
 use Rattle.swc_steps.proofs.Steps.{forgoes_refuses, refuses_later}
 use Rattle.swc_cover.proofs.FaultsNoted.{refused-at}
 use Rattle.swc_cover.specs.Noting.{no_pattern, refusal_of}
@@ -9,8 +9,8 @@ use Rattle.swc_cover.proofs.noting.record_found.Goals as goal
 
 pub returns-in_err-record_all-clause-refuses : goal.returns-in_err-record_all-clause-refuses
 returns-in_err-record_all-clause-refuses g c =
-    let p = err_from_is_err_and c.from_residual.result c.from_residual.ensures.1 in
-    let h = c.in_err-record_all.ensures.checks in rw (p.1, p.2) (forgoes_refuses h, λ n. absurd (n h.kind))
+    let h = c.in_err-record_all.ensures.checks in
+    rw (err_is c.from_residual.ensures.1) (forgoes_refuses h, λ n. absurd (n h.kind))
 
 pub returns-in-Some-clause-refuses : goal.returns-in-Some-clause-refuses
 returns-in-Some-clause-refuses g c = (
@@ -24,8 +24,7 @@ returns-in-None-clause-checks g c = (c.in-None.is, c.in_ok-record_all.ensures.ch
 
 pub returns-in_err-record_all-clause-judges : goal.returns-in_err-record_all-clause-judges
 returns-in_err-record_all-clause-judges g c =
-    let p = err_from_is_err_and c.from_residual.result c.from_residual.ensures.1 in
-    let h = c.in_err-record_all.ensures.checks in rw (p.1, p.2) (λ n. absurd (n h.kind))
+    let h = c.in_err-record_all.ensures.checks in rw (err_is c.from_residual.ensures.1) (λ n. absurd (n h.kind))
 
 pub returns-in-Some-clause-judges : goal.returns-in-Some-clause-judges
 returns-in-Some-clause-judges g c = λ n. record {

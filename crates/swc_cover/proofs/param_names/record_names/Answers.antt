@@ -1,5 +1,5 @@
 use Rattle.std.proofs.Common.{sym, arith}
-use Rattle.std.proofs.lemmas.Result.{err_from_is_err_and}
+use Rattle.swc_steps.proofs.Refused.{err_is}
 use Rattle.swc_cover.proofs.Checked.{names-none, names-more, names-all}
 use Rattle.swc_cover.proofs.FaultsNoted.{none-strict}
 use Rattle.swc_cover.proofs.FaultsNoted as errors
@@ -11,7 +11,7 @@ loop-span-init g c = (names-none g.met.I.Tokens.laws _ _, omega arith, none-stri
 
 pub returns-in_err-emit_strict_mode_err-clause-checks : goal.returns-in_err-emit_strict_mode_err-clause-checks
 returns-in_err-emit_strict_mode_err-clause-checks g c =
-    let p = err_from_is_err_and c.from_residual.result c.from_residual.ensures.1 in rw (p.1, p.2)
+    rw (err_is c.from_residual.ensures.1)
     (forgoes_later c.loop-span.invariant.0.leads c.in_err-emit_strict_mode_err.ensures.checks)
 
 pub loop-span-preserved : goal.loop-span-preserved

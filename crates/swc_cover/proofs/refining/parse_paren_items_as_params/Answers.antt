@@ -1,6 +1,6 @@
 use Rattle.std.proofs.Common.{sym, ap, ◌∙◌}
-use Rattle.std.proofs.lemmas.Result.{err_from_is_err_and}
 use Rattle.swc_input.specs.Buffer.{context}
+use Rattle.swc_steps.proofs.Refused.{err_is}
 use Rattle.swc_cover.proofs.{Checked.forgoes-after, Clear.params-then, Kept.apart-any, Kept.parts-kept, FaultsNoted.judged-params, Refines.items-refined, Refines.items-unfit}
 use Rattle.swc_cover.specs.{Noting.names_bound, Refining.pats_at}
 use Rattle.swc_nodes.specs.NodeParts.{flat, item_parts}
@@ -8,8 +8,7 @@ use Rattle.swc_cover.proofs.refining.parse_paren_items_as_params.Goals as goal
 
 pub returns-in_err-check_items-clause-unrefined : goal.returns-in_err-check_items-clause-unrefined
 returns-in_err-check_items-clause-unrefined g c =
-    let p = err_from_is_err_and c.from_residual.result c.from_residual.ensures.1 in rw (p.1, p.2)
-    (record {
+    rw (err_is c.from_residual.ensures.1) (record {
       refuses = items-unfit c.args.trailing_comma c.args.items.now.items c.requires
           c.in_err-check_items.ensures.refuses;
       kept = parts-kept (flat item_parts c.args.items.now.items) c.requires;
@@ -21,9 +20,7 @@ check_param_names-requires g c = apart-any c.in-Ok.ensures.made.apart
 pub returns-in_err-check_param_names-in-Ok-clause-unrefined :
     goal.returns-in_err-check_param_names-in-Ok-clause-unrefined
 returns-in_err-check_param_names-in-Ok-clause-unrefined g c =
-    let p = err_from_is_err_and c.from_residual-in_err-check_param_names-in-Ok.result
-    c.from_residual-in_err-check_param_names-in-Ok.ensures.1 in rw (p.1, p.2)
-    (record {
+    rw (err_is c.from_residual-in_err-check_param_names-in-Ok.ensures.1) (record {
       refuses = forgoes-after c.in_ok-check_items.ensures.checks c.in_err-check_param_names-in-Ok.ensures.checks;
       kept = c.in-Ok.ensures.kept;
     })
@@ -36,14 +33,12 @@ returns-in_ok-check_param_names-in-Ok-clause-refined g c =
 
 pub returns-in_err-check_items-clause-unclear : goal.returns-in_err-check_items-clause-unclear
 returns-in_err-check_items-clause-unclear g c =
-    let p = err_from_is_err_and c.from_residual.result c.from_residual.ensures.1 in rw (p.1, p.2)
-    c.in_err-check_items.ensures.unclear
+    rw (err_is c.from_residual.ensures.1) c.in_err-check_items.ensures.unclear
 
 pub returns-in_err-check_param_names-in-Ok-clause-unclear : goal.returns-in_err-check_param_names-in-Ok-clause-unclear
 returns-in_err-check_param_names-in-Ok-clause-unclear g c =
     let r = c.from_residual-in_err-check_param_names-in-Ok in
-    let p = err_from_is_err_and r.result r.ensures.1 in rw (p.1, p.2)
-    (λ n. absurd (n c.in_err-check_param_names-in-Ok.ensures.checks.kind))
+    rw (err_is r.ensures.1) (λ n. absurd (n c.in_err-check_param_names-in-Ok.ensures.checks.kind))
 
 pub returns-in_ok-check_param_names-in-Ok-clause-exact : goal.returns-in_ok-check_param_names-in-Ok-clause-exact
 returns-in_ok-check_param_names-in-Ok-clause-exact g c =
@@ -51,15 +46,12 @@ returns-in_ok-check_param_names-in-Ok-clause-exact g c =
     c.in_ok-check_param_names-in-Ok.ensures.checks
 
 pub returns-in_err-check_items-clause-judges : goal.returns-in_err-check_items-clause-judges
-returns-in_err-check_items-clause-judges g c =
-    let p = err_from_is_err_and c.from_residual.result c.from_residual.ensures.1 in rw (p.1, p.2)
-    c.in_err-check_items.ensures.judges
+returns-in_err-check_items-clause-judges g c = rw (err_is c.from_residual.ensures.1) c.in_err-check_items.ensures.judges
 
 pub returns-in_err-check_param_names-in-Ok-clause-judges : goal.returns-in_err-check_param_names-in-Ok-clause-judges
 returns-in_err-check_param_names-in-Ok-clause-judges g c =
     let r = c.from_residual-in_err-check_param_names-in-Ok in
-    let p = err_from_is_err_and r.result r.ensures.1 in rw (p.1, p.2)
-    (λ n. absurd (n c.in_err-check_param_names-in-Ok.ensures.checks.kind))
+    rw (err_is r.ensures.1) (λ n. absurd (n c.in_err-check_param_names-in-Ok.ensures.checks.kind))
 
 pub returns-in_ok-check_param_names-in-Ok-clause-judges : goal.returns-in_ok-check_param_names-in-Ok-clause-judges
 returns-in_ok-check_param_names-in-Ok-clause-judges g c =

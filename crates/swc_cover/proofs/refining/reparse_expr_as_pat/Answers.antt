@@ -1,4 +1,4 @@
-use Rattle.std.proofs.lemmas.Result.{err_from_is_err_and}
+use Rattle.swc_steps.proofs.Refused.{err_is}
 use Rattle.swc_cover.proofs.Refines.{refined-is}
 use Rattle.swc_cover.proofs.refining.reparse_expr_as_pat.Goals as goal
 
@@ -8,11 +8,8 @@ returns-in-Ok-clause-refined g c =
     c.in-Ok.ensures.made
 
 pub returns-in_err-check_pat-clause-unclear : goal.returns-in_err-check_pat-clause-unclear
-returns-in_err-check_pat-clause-unclear g c =
-    let p = err_from_is_err_and c.from_residual.result c.from_residual.ensures.1 in rw (p.1, p.2)
-    c.in_err-check_pat.ensures.unclear
+returns-in_err-check_pat-clause-unclear g c = rw (err_is c.from_residual.ensures.1) c.in_err-check_pat.ensures.unclear
 
 pub returns-in_err-check_pat-clause-judges : goal.returns-in_err-check_pat-clause-judges
 returns-in_err-check_pat-clause-judges g c =
-    let p = err_from_is_err_and c.from_residual.result c.from_residual.ensures.1 in rw (p.1, p.2)
-    c.in_err-check_pat.ensures.judges
+    rw (err_is c.from_residual.ensures.1) c.in_err-check_pat.ensures.judges

@@ -1,13 +1,12 @@
-use Rattle.std.proofs.lemmas.Result.{err_from_is_err_and}
 use Rattle.swc_nodes.specs.NodeParts.{args_parts}
+use Rattle.swc_steps.proofs.Refused.{err_is}
 use Rattle.swc_steps.proofs.Building.{apart-down}
 use Rattle.swc_ecma_parser.proofs.ArrowParams.{params-made, params-unread}
 use Rattle.swc_ecma_parser.proofs.arrow_params.parse_arrow_params.Goals as goal
 
 pub returns-in_err-list : goal.returns-in_err-list
 returns-in_err-list g c =
-    let p = err_from_is_err_and c.from_residual.result c.from_residual.ensures.1 in
-    rw (p.1, p.2) (params-unread g.B.BodyForms.forms {m =
+    rw (err_is c.from_residual.ensures.1) (params-unread g.B.BodyForms.forms {m =
     c.parse_arguments.new.p} c.in_err-list.ensures.reads c.parse_arguments.ensures.grows)
 
 pub parse_paren_items_as_params-requires : goal.parse_paren_items_as_params-requires

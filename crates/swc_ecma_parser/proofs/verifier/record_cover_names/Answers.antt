@@ -1,6 +1,6 @@
 use Rattle.std.proofs.Common.{refl, ap, ◌∙◌, arith}
-use Rattle.std.proofs.lemmas.Result.{err_from_is_err_and}
 use Rattle.swc_input.specs.{Buffer.state_of, Recording.is_silent}
+use Rattle.swc_steps.proofs.Refused.{err_is}
 use Rattle.swc_ecma_parser.proofs.Recordings.{midway-first, midway-more, all-recorded, all-appended, all-listed, read-on, none-left, more-left}
 use Rattle.swc_ecma_parser.proofs.verifier.record_cover_names.Goals as goal
 
@@ -14,9 +14,8 @@ returns-in_err-emit_err-clause-silent g c = λ s.
 
 pub returns-in_err-emit_err-clause-refused : goal.returns-in_err-emit_err-clause-refused
 returns-in_err-emit_err-clause-refused g c =
-    let p = err_from_is_err_and c.from_residual.result c.from_residual.ensures.1 in
     let r = c.in_err-emit_err.ensures.refused in
-    rw (p.1, p.2) (_, read-on g.met.I.Tokens.laws c.loop-name.invariant r.0 r.1, r.2)
+    rw (err_is c.from_residual.ensures.1) (_, read-on g.met.I.Tokens.laws c.loop-name.invariant r.0 r.1, r.2)
 
 pub returns-in_err-emit_err-clause-read : goal.returns-in_err-emit_err-clause-read
 returns-in_err-emit_err-clause-read g c =

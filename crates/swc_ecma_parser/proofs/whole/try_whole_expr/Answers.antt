@@ -1,17 +1,13 @@
-use Rattle.std.proofs.lemmas.Result.{err_from_is_err_and}
+use Rattle.swc_steps.proofs.Refused.{err_is}
 use Rattle.swc_ecma_parser.specs.WholeList.{tried, refused, lost}
 use Rattle.swc_ecma_parser.proofs.whole.try_whole_expr.Goals as goal
 
 pub returns-in_err-expr-clause-tries : goal.returns-in_err-expr-clause-tries
-returns-in_err-expr-clause-tries g c =
-    let p = err_from_is_err_and c.from_residual.result c.from_residual.ensures.1 in rw (p.1, p.2)
-    (refused c.in_err-expr.ensures.promised)
+returns-in_err-expr-clause-tries g c = rw (err_is c.from_residual.ensures.1) (refused c.in_err-expr.ensures.promised)
 
 pub returns-in_err-at_end-clause-tries : goal.returns-in_err-at_end-clause-tries
 returns-in_err-at_end-clause-tries g c =
-    let p = err_from_is_err_and c.from_residual-in_err-at_end.result c.from_residual-in_err-at_end.ensures.1 in
-    rw (p.1, p.2)
-    (lost c.in_ok-expr.ensures.promised c.in_err-at_end.ensures)
+    rw (err_is c.from_residual-in_err-at_end.ensures.1) (lost c.in_ok-expr.ensures.promised c.in_err-at_end.ensures)
 
 pub returns-clause-tries : goal.returns-clause-tries
 returns-clause-tries g c = tried c.in_ok-expr.ensures.promised c.in_ok-at_end.ensures

@@ -1,15 +1,14 @@
 use Rattle.std.proofs.Common.{sym, ap, ◌∙◌}
-use Rattle.std.proofs.lemmas.Result.{err_from_is_err_and}
 use Rattle.swc_input.specs.Kinds.{at_token}
 use Rattle.swc_grammar.specs.Tokens.{is_rparen, import_comma_ok}
+use Rattle.swc_steps.proofs.Refused.{err_is}
 use Rattle.swc_steps.proofs.Args.{last_not, last_allowed, last_refused}
 use Rattle.swc_steps.proofs.Steps as s
 use Rattle.swc_left.proofs.args.refuse_last_comma.Goals as goal
 
 pub returns-in_err-look-clause-passes : goal.returns-in_err-look-clause-passes
 returns-in_err-look-clause-passes g c =
-    let p = err_from_is_err_and c.from_residual.result c.from_residual.ensures.1 in λ sure. rw (p.1, p.2)
-    (s.unheard_memory c.in_err-look.ensures.looks)
+    λ sure. rw (err_is c.from_residual.ensures.1) (s.unheard_memory c.in_err-look.ensures.looks)
 
 pub returns-then-not-is_sign-clause-passes : goal.returns-then-not-is_sign-clause-passes
 returns-then-not-is_sign-clause-passes g c = λ sure.

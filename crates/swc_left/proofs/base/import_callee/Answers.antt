@@ -1,5 +1,5 @@
 use Rattle.std.proofs.Common.{not, Some, refl, ap}
-use Rattle.std.proofs.lemmas.Result.{err_from_is_err_and}
+use Rattle.swc_steps.proofs.Refused.{err_is}
 use Rattle.swc_left.specs.declared.base.ImportHead.TheVariants as begun
 use Rattle.swc_left.proofs.Bases as base
 use Rattle.swc_steps.proofs.Steps as s
@@ -12,7 +12,7 @@ returns-then-no_call-clause-parses g c = λ sure.
 
 pub returns-in_err-expect-clause-parses : goal.returns-in_err-expect-clause-parses
 returns-in_err-expect-clause-parses g c =
-    let p = err_from_is_err_and c.from_residual.result c.from_residual.ensures.1 in λ sure. rw (p.1, p.2)
+    λ sure. rw (err_is c.from_residual.ensures.1)
     (s.unheard_call (λ x p. Some (begun.Call c.args.import, p.1))
     (λ x ts. base.import_calls (not c.args.no_call) c.args.import x ts (ap not c.if-no_call.false))
     (c.in_err-expect.ensures.expects sure))

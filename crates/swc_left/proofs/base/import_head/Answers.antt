@@ -1,5 +1,6 @@
-use Rattle.std.proofs.{Common.not, lemmas.Result.err_from_is_err_and}
+use Rattle.std.proofs.Common.{not}
 use Rattle.swc_grammar.specs.Tokens.{is_dot}
+use Rattle.swc_steps.proofs.Refused.{err_is}
 use Rattle.swc_left.proofs.Bases as base
 use Rattle.swc_steps.proofs.Steps as s
 use Rattle.swc_left.proofs.base.import_head.Goals as goal
@@ -7,7 +8,7 @@ use Rattle.swc_left.proofs.base.import_head.Goals as goal
 pub returns-in_err-eat-clause-parses : goal.returns-in_err-eat-clause-parses
 returns-in_err-eat-clause-parses g c =
     let b = not c.args.no_call in
-    let p = err_from_is_err_and c.from_residual.result c.from_residual.ensures.1 in λ sure. rw (p.1, p.2)
+    λ sure. rw (err_is c.from_residual.ensures.1)
     (s.unheard_call _ (base.import_begins b c.args.start) (c.in_err-eat.ensures.eats sure))
 
 pub returns-in-Some-clause-parses : goal.returns-in-Some-clause-parses

@@ -1,5 +1,6 @@
-use Rattle.std.proofs.{Common.not, Common.refl, lemmas.Result.err_from_is_err_and}
+use Rattle.std.proofs.Common.{not, refl}
 use Rattle.swc_grammar.specs.Tokens.{is_meta, is_source}
+use Rattle.swc_steps.proofs.Refused.{err_is}
 use Rattle.swc_left.specs.Bases.{import_source}
 use Rattle.swc_left.proofs.Bases as base
 use Rattle.swc_steps.proofs.Naming.{name_read, name_unread}
@@ -9,15 +10,13 @@ use Rattle.swc_left.proofs.base.import_member.Goals as goal
 pub returns-in_err-end-clause-parses : goal.returns-in_err-end-clause-parses
 returns-in_err-end-clause-parses g c =
     let b = not c.args.no_call in
-    let p = err_from_is_err_and c.from_residual.result c.from_residual.ensures.1 in λ sure. rw (p.1, p.2)
+    λ sure. rw (err_is c.from_residual.ensures.1)
     (s.unheard_call _ (base.member_begins b c.args.start) (c.in_err-end.ensures.eats sure))
 
 pub returns-in_err-check_import_meta-in-Some-clause-parses : goal.returns-in_err-check_import_meta-in-Some-clause-parses
-returns-in_err-check_import_meta-in-Some-clause-parses g c =
-    let p = err_from_is_err_and c.from_residual-in_err-check_import_meta-in-Some.result
-    c.from_residual-in_err-check_import_meta-in-Some.ensures.1 in λ sure.
+returns-in_err-check_import_meta-in-Some-clause-parses g c = λ sure.
     let some = s.eats_some sure is_meta _ c.in-Some.end _ _ c.in-Some.is (c.in_ok-end.ensures.eats sure) in
-    rw (p.1, p.2)
+    rw (err_is c.from_residual-in_err-check_import_meta-in-Some.ensures.1)
     (s.unheard_memory (s.forgoes_later some.on.leads c.in_err-check_import_meta-in-Some.ensures.checks))
 
 pub returns-in-Some-clause-parses : goal.returns-in-Some-clause-parses
@@ -31,8 +30,9 @@ returns-in-Some-clause-parses g c = λ sure.
 pub returns-in_err-end-2-clause-parses : goal.returns-in_err-end-2-clause-parses
 returns-in_err-end-2-clause-parses g c =
     let b = not c.args.no_call in
-    let p = err_from_is_err_and c.from_residual-in_err-end-2.result c.from_residual-in_err-end-2.ensures.1 in λ sure.
-    let none = s.eats_none sure is_meta _ _ _ c.in-None.is (c.in_ok-end.ensures.eats sure) in rw (p.1, p.2)
+    λ sure.
+    let none = s.eats_none sure is_meta _ _ _ c.in-None.is (c.in_ok-end.ensures.eats sure) in
+    rw (err_is c.from_residual-in_err-end-2.ensures.1)
     (s.unheard_after (s.on_call _ (base.member_begins b c.args.start) none)
     (s.unheard_call (λ x q. import_source b c.args.start q.0 x q.1) (λ x ts. refl) (c.in_err-end-2.ensures.eats sure)))
 
@@ -51,10 +51,10 @@ pub returns-in_err-parse_ident_name-in-None-2-clause-parses :
     goal.returns-in_err-parse_ident_name-in-None-2-clause-parses
 returns-in_err-parse_ident_name-in-None-2-clause-parses g c =
     let b = not c.args.no_call in
-    let p = err_from_is_err_and c.from_residual-in_err-parse_ident_name-in-None-2.result
-    c.from_residual-in_err-parse_ident_name-in-None-2.ensures.1 in λ sure.
+    λ sure.
     let none = s.eats_none sure is_meta _ _ _ c.in-None.is (c.in_ok-end.ensures.eats sure) in
-    let no = s.eats_none sure is_source _ _ _ c.in-None-2.is (c.in_ok-end-2.ensures.eats sure) in rw (p.1, p.2)
+    let no = s.eats_none sure is_source _ _ _ c.in-None-2.is (c.in_ok-end-2.ensures.eats sure) in
+    rw (err_is c.from_residual-in_err-parse_ident_name-in-None-2.ensures.1)
     (s.unheard_after (s.on_then (s.on_call _ (base.member_begins b c.args.start) none)
     (s.on_call (λ x q. import_source b c.args.start q.0 x q.1) (λ x ts. refl) no))
     (s.unheard_none (λ x ts. refl)

@@ -1,11 +1,10 @@
-use Rattle.std.proofs.lemmas.Result.{err_from_is_err_and}
+use Rattle.swc_steps.proofs.Refused.{err_is}
 use Rattle.swc_steps.proofs.Steps as s
 use Rattle.swc_left.proofs.base.super_chain.Goals as goal
 
 pub returns-in_err-look-clause-acts : goal.returns-in_err-look-clause-acts
 returns-in_err-look-clause-acts g c =
-    let p = err_from_is_err_and c.from_residual.result c.from_residual.ensures.1 in rw (p.1, p.2)
-    (s.forgoes_refuses c.in_err-look.ensures.looks)
+    rw (err_is c.from_residual.ensures.1) (s.forgoes_refuses c.in_err-look.ensures.looks)
 
 pub returns-then-not-is_sign-clause-acts : goal.returns-then-not-is_sign-clause-acts
 returns-then-not-is_sign-clause-acts g c = s.refuses_later
@@ -13,8 +12,7 @@ returns-then-not-is_sign-clause-acts g c = s.refuses_later
 
 pub returns-in_err-chain_behind-clause-acts : goal.returns-in_err-chain_behind-clause-acts
 returns-in_err-chain_behind-clause-acts g c =
-    let p = err_from_is_err_and c.from_residual-in_err-chain_behind.result
-    c.from_residual-in_err-chain_behind.ensures.1 in rw (p.1, p.2)
+    rw (err_is c.from_residual-in_err-chain_behind.ensures.1)
     (s.forgoes_refuses (s.forgoes_later (s.here_leads c.in_ok-look.ensures.looks) c.in_err-chain_behind.ensures.tells))
 
 pub returns-in-Some-clause-acts : goal.returns-in-Some-clause-acts

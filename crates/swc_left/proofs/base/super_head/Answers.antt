@@ -1,6 +1,6 @@
 use Rattle.std.proofs.Common.{not, refl, ap}
-use Rattle.std.proofs.lemmas.Result.{err_from_is_err_and}
 use Rattle.swc_grammar.specs.Tokens.{is_dot, is_lbracket, is_lparen}
+use Rattle.swc_steps.proofs.Refused.{err_is}
 use Rattle.swc_left.specs.Bases.{head_bracket, head_paren}
 use Rattle.swc_left.proofs.Bases as base
 use Rattle.swc_steps.proofs.Steps as s
@@ -9,7 +9,7 @@ use Rattle.swc_left.proofs.base.super_head.Goals as goal
 pub returns-in_err-eat-clause-continues : goal.returns-in_err-eat-clause-continues
 returns-in_err-eat-clause-continues g c =
     let b = not c.args.no_call in
-    let p = err_from_is_err_and c.from_residual.result c.from_residual.ensures.1 in λ sure. rw (p.1, p.2)
+    λ sure. rw (err_is c.from_residual.ensures.1)
     (s.unheard_call _ (base.super_begins b) (c.in_err-eat.ensures.eats sure))
 
 pub returns-in-Some-clause-continues : goal.returns-in-Some-clause-continues
@@ -21,9 +21,9 @@ returns-in-Some-clause-continues g c = λ sure.
 pub returns-in_err-bracket-clause-continues : goal.returns-in_err-bracket-clause-continues
 returns-in_err-bracket-clause-continues g c =
     let b = not c.args.no_call in
-    let p = err_from_is_err_and c.from_residual-in_err-bracket.result c.from_residual-in_err-bracket.ensures.1 in
     λ sure.
-    let none = s.eats_none sure is_dot _ _ _ c.in-None.is (c.in_ok-eat.ensures.eats sure) in rw (p.1, p.2)
+    let none = s.eats_none sure is_dot _ _ _ c.in-None.is (c.in_ok-eat.ensures.eats sure) in
+    rw (err_is c.from_residual-in_err-bracket.ensures.1)
     (s.unheard_after (s.on_call _ (base.super_begins b) none)
     (s.unheard_call (λ x q. head_bracket b q.0 x q.1) (λ x ts. refl) (c.in_err-bracket.ensures.eats sure)))
 
@@ -48,9 +48,10 @@ returns-then-no_call-clause-continues g c = λ sure.
 pub returns-in_err-eat-2-clause-continues : goal.returns-in_err-eat-2-clause-continues
 returns-in_err-eat-2-clause-continues g c =
     let b = not c.args.no_call in
-    let p = err_from_is_err_and c.from_residual-in_err-eat-2.result c.from_residual-in_err-eat-2.ensures.1 in λ sure.
+    λ sure.
     let none = s.eats_none sure is_dot _ _ _ c.in-None.is (c.in_ok-eat.ensures.eats sure) in
-    let no = s.eats_none sure is_lbracket _ _ _ c.in-None-2.is (c.in_ok-bracket.ensures.eats sure) in rw (p.1, p.2)
+    let no = s.eats_none sure is_lbracket _ _ _ c.in-None-2.is (c.in_ok-bracket.ensures.eats sure) in
+    rw (err_is c.from_residual-in_err-eat-2.ensures.1)
     (s.unheard_after (s.on_then (s.on_call _ (base.super_begins b) none)
     (s.on_call (λ x q. head_bracket b q.0 x q.1) (λ x ts. refl) no))
     (s.unheard_call (λ x q. head_paren q.0 x q.1) (λ x ts. base.super_calls b x ts (ap not c.if-no_call.false))

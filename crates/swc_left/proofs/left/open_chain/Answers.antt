@@ -1,4 +1,5 @@
-use Rattle.std.proofs.{Common.refl, lemmas.Result.err_from_is_err_and}
+use Rattle.std.proofs.Common.{refl}
+use Rattle.swc_steps.proofs.Refused.{err_is}
 use Rattle.swc_grammar.specs.Tokens.{is_lbracket, is_lparen}
 use Rattle.swc_left.specs.Links.{chain_paren, chain_bracket, chain_dot}
 use Rattle.swc_left.proofs.Links as link
@@ -7,13 +8,12 @@ use Rattle.swc_left.proofs.left.open_chain.Goals as goal
 
 pub returns-in_err-expect-clause-begins : goal.returns-in_err-expect-clause-begins
 returns-in_err-expect-clause-begins g c =
-    let p = err_from_is_err_and c.from_residual.result c.from_residual.ensures.1 in λ sure. rw (p.1, p.2)
+    λ sure. rw (err_is c.from_residual.ensures.1)
     (s.unheard_call (λ x p. chain_dot x p.1) link.chain_splits (c.in_err-expect.ensures.expects sure))
 
 pub returns-in_err-start-clause-begins : goal.returns-in_err-start-clause-begins
 returns-in_err-start-clause-begins g c =
-    let p = err_from_is_err_and c.from_residual-in_err-start.result c.from_residual-in_err-start.ensures.1 in
-    λ sure. rw (p.1, p.2)
+    λ sure. rw (err_is c.from_residual-in_err-start.ensures.1)
     (s.unheard_after (s.on_call (λ x p. chain_dot x p.1) link.chain_splits (c.in_ok-expect.ensures.expects sure).on)
     (s.unheard_call (λ x q. chain_bracket q.0 x q.1) (λ x ts. refl) (c.in_err-start.ensures.eats sure)))
 
@@ -25,8 +25,9 @@ returns-in-Some-clause-begins g c = λ sure.
 
 pub returns-in_err-eat-clause-begins : goal.returns-in_err-eat-clause-begins
 returns-in_err-eat-clause-begins g c =
-    let p = err_from_is_err_and c.from_residual-in_err-eat.result c.from_residual-in_err-eat.ensures.1 in λ sure.
-    let none = s.eats_none sure is_lbracket _ _ _ c.in-None.is (c.in_ok-start.ensures.eats sure) in rw (p.1, p.2)
+    λ sure.
+    let none = s.eats_none sure is_lbracket _ _ _ c.in-None.is (c.in_ok-start.ensures.eats sure) in
+    rw (err_is c.from_residual-in_err-eat.ensures.1)
     (s.unheard_after (s.on_then (s.on_call (λ x p. chain_dot x p.1) link.chain_splits
     (c.in_ok-expect.ensures.expects sure).on)
     (s.on_call (λ x q. chain_bracket q.0 x q.1) (λ x ts. refl) none))

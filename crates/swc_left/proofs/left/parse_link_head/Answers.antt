@@ -1,6 +1,6 @@
 use Rattle.std.proofs.Common.{not, Some, refl, ◌∙◌}
-use Rattle.std.proofs.lemmas.Result.{err_from_is_err_and}
 use Rattle.swc_grammar.specs.Words.{◌>>=◌}
+use Rattle.swc_steps.proofs.Refused.{err_is}
 use Rattle.swc_left.specs.Links.{head_of}
 use Rattle.swc_left.proofs.Links as link
 use Rattle.swc_steps.proofs.Steps as s
@@ -8,13 +8,11 @@ use Rattle.swc_left.proofs.left.parse_link_head.Goals as goal
 
 pub returns-in_err-look-clause-begins : goal.returns-in_err-look-clause-begins
 returns-in_err-look-clause-begins g c =
-    let p = err_from_is_err_and c.from_residual.result c.from_residual.ensures.1 in λ sure. rw (p.1, p.2)
-    (s.unheard_memory c.in_err-look.ensures.looks)
+    λ sure. rw (err_is c.from_residual.ensures.1) (s.unheard_memory c.in_err-look.ensures.looks)
 
 pub returns-in_err-link-clause-begins : goal.returns-in_err-link-clause-begins
 returns-in_err-link-clause-begins g c =
-    let p = err_from_is_err_and c.from_residual-in_err-link.result c.from_residual-in_err-link.ensures.1 in
-    λ sure. rw (p.1, p.2)
+    λ sure. rw (err_is c.from_residual-in_err-link.ensures.1)
     (s.unheard_memory (s.forgoes_later (s.here_leads c.in_ok-look.ensures.looks) c.in_err-link.ensures.tells))
 
 pub returns-in-None-clause-begins : goal.returns-in-None-clause-begins
@@ -24,8 +22,7 @@ returns-in-None-clause-begins g c = λ sure.
 
 pub returns-in_err-head-clause-begins : goal.returns-in_err-head-clause-begins
 returns-in_err-head-clause-begins g c =
-    let p = err_from_is_err_and c.from_residual-in_err-head.result c.from_residual-in_err-head.ensures.1 in
-    λ sure. rw (p.1, p.2)
+    λ sure. rw (err_is c.from_residual-in_err-head.ensures.1)
     (s.unheard_after (s.on_told {g = λ x ts. head_of c.in-Some.link x ts >>=
     (λ p. Some (Some p.0, p.1))} c.in_ok-look.ensures.looks c.in_ok-link.ensures.tells
     (λ x ts same e told. link.head_takes (not c.args.no_call) c.in-Some.link x ts (told ∙ c.in-Some.is)))

@@ -1,6 +1,6 @@
 use Rattle.std.proofs.Common.{true, Some, None, refl}
-use Rattle.std.proofs.lemmas.Result.{err_from_is_err_and}
 use Rattle.swc_grammar.specs.Tokens.{is_backquote}
+use Rattle.swc_steps.proofs.Refused.{err_is}
 use Rattle.swc_left.specs.Templates.{tpl_end_by}
 use Rattle.swc_steps.proofs.Steps as s
 use Rattle.swc_left.proofs.Templates as tpl
@@ -8,7 +8,7 @@ use Rattle.swc_left.proofs.tpl.eat_tpl_end.Goals as goal
 
 pub returns-in_err-end-clause-ends : goal.returns-in_err-end-clause-ends
 returns-in_err-end-clause-ends g c =
-    let p = err_from_is_err_and c.from_residual.result c.from_residual.ensures.1 in λ sure. rw (p.1, p.2)
+    λ sure. rw (err_is c.from_residual.ensures.1)
     (s.unheard_call (λ x q. tpl_end_by q.0 x q.1) tpl.end_splits (c.in_err-end.ensures.eats sure))
 
 pub returns-in-Some-clause-ends : goal.returns-in-Some-clause-ends
@@ -23,8 +23,7 @@ returns-in-Some-clause-falls g c =
 
 pub returns-in_err-expect-in-None-clause-ends : goal.returns-in_err-expect-in-None-clause-ends
 returns-in_err-expect-in-None-clause-ends g c =
-    let p = err_from_is_err_and c.from_residual-in_err-expect-in-None.result
-    c.from_residual-in_err-expect-in-None.ensures.1 in λ sure. rw (p.1, p.2)
+    λ sure. rw (err_is c.from_residual-in_err-expect-in-None.ensures.1)
     (s.unheard_after (s.on_call (λ x q. tpl_end_by q.0 x q.1) tpl.end_splits
     (s.eats_none sure is_backquote _ _ _ c.in-None.is (c.in_ok-end.ensures.eats sure)))
     (s.unheard_call (λ x q. Some (None, q.1)) (λ x ts. refl) (c.in_err-expect-in-None.ensures.expects sure)))

@@ -1,7 +1,7 @@
 use Rattle.std.proofs.Common.{Some, refl, sym, ap, ◌∙◌}
-use Rattle.std.proofs.lemmas.Result.{err_from_is_err_and}
 use Rattle.swc_input.specs.{Plain.plain, Kinds.at_token}
 use Rattle.swc_grammar.specs.Tokens.{is_backquote}
+use Rattle.swc_steps.proofs.Refused.{err_is}
 use Rattle.swc_left.specs.Templates.{is_template, quasi_with, text_at, tpl_element}
 use Rattle.swc_steps.proofs.Steps as s
 use Rattle.swc_left.proofs.Templates as tpl
@@ -9,8 +9,7 @@ use Rattle.swc_left.proofs.tpl.parse_tpl_element.Goals as goal
 
 pub returns-in_err-look-clause-parses : goal.returns-in_err-look-clause-parses
 returns-in_err-look-clause-parses g c =
-    let p = err_from_is_err_and c.from_residual.result c.from_residual.ensures.1 in λ sure. rw (p.1, p.2)
-    (s.unheard_memory c.in_err-look.ensures.looks)
+    λ sure. rw (err_is c.from_residual.ensures.1) (s.unheard_memory c.in_err-look.ensures.looks)
 
 pub returns-then-not-is_template-clause-parses : goal.returns-then-not-is_template-clause-parses
 returns-then-not-is_template-clause-parses g c = λ sure.
@@ -23,8 +22,7 @@ returns-in_err-cooked-clause-parses g c =
     let took = c.bump-token.ensures in
     let text = c.template_of-raw.result in
     let bad = c.in_err-cooked.ensures.refused in
-    let p = err_from_is_err_and c.from_residual-in_err-cooked.result c.from_residual-in_err-cooked.ensures.1 in
-    λ sure. rw (p.1, p.2)
+    λ sure. rw (err_is c.from_residual-in_err-cooked.ensures.1)
     (s.unheard_at c.in_ok-look.ensures.looks (λ x ts same e. tpl.element_bad c.args.is_tagged text.0 text.1 took
     c.template_of-raw.ensures c.in_err-cooked.ensures.bad x ts e)
     (tpl.refused_took g.met.I.Tokens.laws (c.is_template.ensures.some c.if-not-is_template.false) took
@@ -33,8 +31,7 @@ returns-in_err-cooked-clause-parses g c =
 pub returns-in_err-look-2-clause-parses : goal.returns-in_err-look-2-clause-parses
 returns-in_err-look-2-clause-parses g c =
     let took = c.bump-token.ensures in
-    let p = err_from_is_err_and c.from_residual-in_err-look-2.result c.from_residual-in_err-look-2.ensures.1 in
-    λ sure. rw (p.1, p.2)
+    λ sure. rw (err_is c.from_residual-in_err-look-2.ensures.1)
     (s.unheard_memory (s.forgoes_later (s.leads_then (s.here_leads c.in_ok-look.ensures.looks)
     (s.took_leads g.met.I.Tokens.laws took)) c.in_err-look-2.ensures.looks))
 

@@ -1,8 +1,8 @@
 use Rattle.std.proofs.Common.{sym, ap, subst, ◌∙◌}
-use Rattle.std.proofs.lemmas.Result.{err_from_is_err_and}
 use Rattle.swc_context.specs.declared.operator.AssignOp.{AssignOp, AssignOp as write}
 use Rattle.swc_ast.specs.{Targets.is_target, Tree.Tree}
 use Rattle.swc_grammar.specs.Cover.{is_pattern}
+use Rattle.swc_steps.proofs.Refused.{err_is}
 use Rattle.swc_cover.specs.{Clear.is_clear, PatTypes.verdict_as, PatTypes.want_as, declared.pat_type.PatType.TheVariants.AssignPat}
 use Rattle.swc_cover.proofs.Kept.{none-kept}
 use Rattle.swc_steps.specs.Parsing.{behind, On, scope, tree_of}
@@ -14,13 +14,12 @@ use Rattle.swc_operators.proofs.assign.assign_target.Goals as goal
 
 pub returns-in_err-check_assign_target-clause-rewrites : goal.returns-in_err-check_assign_target-clause-rewrites
 returns-in_err-check_assign_target-clause-rewrites g c =
-    let p = err_from_is_err_and c.from_residual.result c.from_residual.ensures.1 in
     let l = tree_of c.args.p.now.nodes c.args.left in
     let op = c.args.op in
     let x = scope g.I.Tokens.model c.args.p.now.input in
     let h = c.in_err-check_assign_target.ensures.refuses in
     let simple = sym c.refines.ensures ∙ c.if-not-refines.true in
-    rw (p.1, p.2) (record {
+    rw (err_is c.from_residual.ensures.1) (record {
       reads = record {
         refuses = h.0;
         none = λ m sure loud ts k. assign.by_simple_node _ op l x ts simple ∙ assign.assign_ill _ op l x ts (h.1 m);
@@ -49,13 +48,12 @@ returns-then-not-refines-clause-rewrites g c =
 pub returns-in_err-pat-clause-rewrites : goal.returns-in_err-pat-clause-rewrites
 returns-in_err-pat-clause-rewrites g c =
     let r = c.from_residual-in_err-pat in
-    let p = err_from_is_err_and r.result r.ensures.1 in
     let l = tree_of c.args.p.now.nodes c.args.left in
     let op = c.args.op in
     let x = scope g.I.Tokens.model c.args.p.now.input in
     let h = c.in_err-pat.ensures in
     let refined = sym c.refines.ensures ∙ c.if-not-refines.false in
-    rw (p.1, p.2) (record {
+    rw (err_is r.ensures.1) (record {
       reads = record {
         refuses = h.unrefined.refuses.refuses;
         none = λ m sure loud ts k.

@@ -1,7 +1,7 @@
 use Rattle.std.proofs.Common.{Ok, None, sym, ap, ◌∙◌}
-use Rattle.std.proofs.lemmas.Result.{err_from_is_err_and}
 use Rattle.swc_ast.specs.Trees.{nullish_ok, left_ok}
 use Rattle.swc_nodes.proofs.Standing.{grows-same}
+use Rattle.swc_steps.proofs.Refused.{err_is}
 use Rattle.swc_steps.specs.{Parsing.tree_of, Readers.turned}
 use Rattle.swc_steps.proofs.Building.{made_at}
 use Rattle.swc_steps.proofs.Making as m
@@ -18,8 +18,7 @@ returns-in_err-check_operands g c =
 pub returns-in_err-node : goal.returns-in_err-node
 returns-in_err-node g c =
     let failed = c.from_residual-in_err-node in
-    let p = err_from_is_err_and failed.result failed.ensures.1 in rw (p.1, p.2)
-    (m.no_more
+    rw (err_is failed.ensures.1) (m.no_more
     (s.unheard_memory (s.forgoes_later c.in_ok-check_operands.ensures.checks.leads
     (s.forgoes_here g.met.I.Tokens.laws _ _ _ c.in_err-node.ensures.refused)))
     c.bin_op-node.ensures.grows)
@@ -27,8 +26,7 @@ returns-in_err-node g c =
 pub returns-in_err-check_nullish_left : goal.returns-in_err-check_nullish_left
 returns-in_err-check_nullish_left g c =
     let failed = c.from_residual-in_err-check_nullish_left in
-    let p = err_from_is_err_and failed.result failed.ensures.1 in rw (p.1, p.2)
-    (m.no_more
+    rw (err_is failed.ensures.1) (m.no_more
     (s.unheard_memory (s.forgoes_later c.in_ok-check_operands.ensures.checks.leads
     c.in_err-check_nullish_left.ensures.checks))
     c.bin_op-node.ensures.grows)

@@ -1,15 +1,15 @@
-use Rattle.std.proofs.{Common.◌≢◌, Common.arith, lemmas.Result.err_from_is_err_and}
+use Rattle.std.proofs.Common.{◌≢◌, arith}
 use Rattle.swc_context.specs.declared.error.SyntaxError.TheVariants.{OutOfMemory}
 use Rattle.swc_nodes.proofs.Standing.{grows-same}
+use Rattle.swc_steps.proofs.Refused.{err_is}
 use Rattle.swc_steps.proofs.Steps.{if_err, on_ok, tries_node}
 use Rattle.swc_steps.proofs.{Building.made_from, Making.not_recovered}
 use Rattle.swc_operators.proofs.ops.recover.Goals as goal
 
 pub returns-in_err-record_refusal : goal.returns-in_err-record_refusal
 returns-in_err-record_refusal g c =
-    let p = err_from_is_err_and c.from_residual.result c.from_residual.ensures.1 in
     let h = c.in_err-record_refusal.ensures.tries in
-    rw (p.1, p.2) (not_recovered h (λ n. absurd (n h.kind)) (grows-same _))
+    rw (err_is c.from_residual.ensures.1) (not_recovered h (λ n. absurd (n h.kind)) (grows-same _))
 
 pub returns : goal.returns
 returns g c =

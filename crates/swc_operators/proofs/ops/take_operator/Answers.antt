@@ -1,6 +1,6 @@
 use Rattle.std.proofs.Common.{sym, subst, arith, ap}
-use Rattle.std.proofs.lemmas.Result.{err_from_is_err_and}
 use Rattle.swc_input.specs.Buffer.{to_come}
+use Rattle.swc_steps.proofs.Refused.{err_is}
 use Rattle.swc_steps.specs.Parsing.{tree_of, Heard}
 use Rattle.swc_steps.proofs.Steps as s
 use Rattle.swc_operators.specs.Pending.{operator_taken}
@@ -9,8 +9,7 @@ use Rattle.swc_operators.proofs.ops.take_operator.Goals as goal
 
 pub returns-in_err-refuse_unary_in_exp-clause-reads : goal.returns-in_err-refuse_unary_in_exp-clause-reads
 returns-in_err-refuse_unary_in_exp-clause-reads g c =
-    let p = err_from_is_err_and c.from_residual.result c.from_residual.ensures.1 in
-    let refuses = c.in_err-refuse_unary_in_exp.ensures.refuses in rw (p.1, p.2)
+    let refuses = c.in_err-refuse_unary_in_exp.ensures.refuses in rw (err_is c.from_residual.ensures.1)
     (λ sure. s.unheard_none (λ x ts. taken_ill c.args.op (tree_of c.args.p.now.nodes c.args.left) x ts refuses.1)
     (s.refuses_later (s.took_leads g.met.I.Tokens.laws c.skip.ensures.took.1) refuses.0))
 

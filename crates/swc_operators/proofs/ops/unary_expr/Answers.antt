@@ -1,7 +1,8 @@
-use Rattle.std.proofs.{Common.arith, lemmas.Result.err_from_is_err_and}
+use Rattle.std.proofs.Common.{arith}
 use Rattle.swc_input.specs.Buffer.{context}
 use Rattle.swc_ast.specs.Trees.{delete_ok}
 use Rattle.swc_nodes.proofs.Standing.{grows-same}
+use Rattle.swc_steps.proofs.Refused.{err_is}
 use Rattle.swc_steps.specs.Parsing.{scope, tree_of}
 use Rattle.swc_steps.proofs.Making as m
 use Rattle.swc_steps.proofs.Rules as rule
@@ -15,8 +16,7 @@ returns-in_err-check_delete-clause-reads g c =
 
 pub returns-in_err-check_delete-clause-memory : goal.returns-in_err-check_delete-clause-memory
 returns-in_err-check_delete-clause-memory g c =
-    let p = err_from_is_err_and c.from_residual.result c.from_residual.ensures.1 in rw (p.1, p.2)
-    c.in_err-check_delete.ensures.checks.kind
+    rw (err_is c.from_residual.ensures.1) c.in_err-check_delete.ensures.checks.kind
 
 pub returns-clause-reads : goal.returns-clause-reads
 returns-clause-reads g c =

@@ -1,6 +1,7 @@
-use Rattle.std.proofs.{Common.◌≢◌, Common.arith, lemmas.Result.err_from_is_err_and}
+use Rattle.std.proofs.Common.{◌≢◌, arith}
 use Rattle.swc_context.specs.declared.error.SyntaxError.TheVariants.{OutOfMemory}
 use Rattle.swc_nodes.proofs.{Held.if_from, Standing.grows-then}
+use Rattle.swc_steps.proofs.Refused.{err_is}
 use Rattle.swc_steps.specs.{Parsing.tree_of, Readers.unary_op_node}
 use Rattle.swc_steps.proofs.Making as m
 use Rattle.swc_steps.proofs.Steps as s
@@ -8,8 +9,7 @@ use Rattle.swc_operators.proofs.ops.unary_expr_without_operand.Goals as goal
 
 pub returns-in_err-arg : goal.returns-in_err-arg
 returns-in_err-arg g c =
-    let p = err_from_is_err_and c.from_residual.result c.from_residual.ensures.1 in
-    let h = c.in_err-arg.ensures in rw (p.1, p.2) (m.not_recovered h.effect h.memory h.grows)
+    let h = c.in_err-arg.ensures in rw (err_is c.from_residual.ensures.1) (m.not_recovered h.effect h.memory h.grows)
 
 pub returns : goal.returns
 returns g c =

@@ -1,15 +1,14 @@
 use Rattle.std.proofs.Common.{sym, ap, ◌∙◌}
-use Rattle.std.proofs.lemmas.Result.{err_from_is_err_and}
 use Rattle.swc_input.specs.Kinds.{at_token}
 use Rattle.swc_grammar.specs.Tokens.{is_star}
+use Rattle.swc_steps.proofs.Refused.{err_is}
 use Rattle.swc_steps.proofs.Steps as s
 use Rattle.swc_operators.proofs.Prefixes as prefix
 use Rattle.swc_operators.proofs.prefix.is_await_name.Goals as goal
 
 pub returns-in_err-look-clause-names : goal.returns-in_err-look-clause-names
 returns-in_err-look-clause-names g c =
-    let p = err_from_is_err_and c.from_residual.result c.from_residual.ensures.1 in rw (p.1, p.2)
-    (λ sure. s.unheard_memory c.in_err-look.ensures.looks)
+    rw (err_is c.from_residual.ensures.1) (λ sure. s.unheard_memory c.in_err-look.ensures.looks)
 
 pub returns-then-is_sign-clause-names : goal.returns-then-is_sign-clause-names
 returns-then-is_sign-clause-names g c = λ sure.

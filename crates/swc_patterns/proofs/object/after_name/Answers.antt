@@ -1,8 +1,8 @@
 use Rattle.std.proofs.Common.{not, sym, ap}
-use Rattle.std.proofs.lemmas.Result.{err_from_is_err_and}
 use Rattle.swc_context.specs.Reserved.{is_reserved_word}
 use Rattle.swc_input.specs.Buffer.{context}
 use Rattle.swc_grammar.specs.Tokens.{is_equals}
+use Rattle.swc_steps.proofs.Refused.{err_is}
 use Rattle.swc_steps.specs.Parsing.{scope}
 use Rattle.swc_steps.proofs.Steps as s
 use Rattle.swc_patterns.specs.declared.object.AfterPatKey.TheVariants as after
@@ -11,7 +11,7 @@ use Rattle.swc_patterns.proofs.object.after_name.Goals as goal
 
 pub returns-in_err-eat-clause-after : goal.returns-in_err-eat-clause-after
 returns-in_err-eat-clause-after g c =
-    let p = err_from_is_err_and c.from_residual.result c.from_residual.ensures.1 in λ sure. rw (p.1, p.2)
+    λ sure. rw (err_is c.from_residual.ensures.1)
     (s.unheard_call _ (after_name_splits c.args.name) (c.in_err-eat.ensures.eats sure))
 
 pub returns-in-Some-clause-after : goal.returns-in-Some-clause-after
@@ -22,8 +22,7 @@ returns-in-Some-clause-after g c = λ sure.
 
 pub returns-in_err-check_name-in-None-clause-after : goal.returns-in_err-check_name-in-None-clause-after
 returns-in_err-check_name-in-None-clause-after g c =
-    let p = err_from_is_err_and c.from_residual-in_err-check_name-in-None.result
-    c.from_residual-in_err-check_name-in-None.ensures.1 in λ sure. rw (p.1, p.2)
+    λ sure. rw (err_is c.from_residual-in_err-check_name-in-None.ensures.1)
     (s.unheard_after (s.on_call _ (after_name_splits c.args.name)
     (s.eats_none sure is_equals _ _ _ c.in-None.is (c.in_ok-eat.ensures.eats sure)))
     (s.unheard_memory c.in_err-check_name-in-None.ensures.checks))

@@ -1,12 +1,12 @@
-use Rattle.std.proofs.lemmas.Result.{err_from_is_err_and}
 use Rattle.swc_grammar.specs.Tokens.{is_colon}
+use Rattle.swc_steps.proofs.Refused.{err_is}
 use Rattle.swc_steps.proofs.Steps as s
 use Rattle.swc_patterns.proofs.Objects.{after_pat_key_splits, bare_keeps, no_colon_name, no_colon_other}
 use Rattle.swc_patterns.proofs.object.after_pat_key.Goals as goal
 
 pub returns-in_err-eat-clause-after : goal.returns-in_err-eat-clause-after
 returns-in_err-eat-clause-after g c =
-    let p = err_from_is_err_and c.from_residual.result c.from_residual.ensures.1 in λ sure. rw (p.1, p.2)
+    λ sure. rw (err_is c.from_residual.ensures.1)
     (s.unheard_call _ (after_pat_key_splits c.args.key) (c.in_err-eat.ensures.eats sure))
 
 pub returns-in-Some-clause-after : goal.returns-in-Some-clause-after

@@ -1,5 +1,6 @@
-use Rattle.std.proofs.{Common.arith, lemmas.Result.err_from_is_err_and}
+use Rattle.std.proofs.Common.{arith}
 use Rattle.swc_nodes.specs.NodeParts.{pat_prop_parts}
+use Rattle.swc_steps.proofs.Refused.{err_is}
 use Rattle.swc_steps.proofs.Steps as s
 use Rattle.swc_patterns.specs.Answers.{pat_prop_at}
 use Rattle.swc_patterns.proofs.PropRests.{item_apart, seen_none, seen_more, seen_all}
@@ -11,7 +12,7 @@ loop-prop-init g c =
 
 pub returns-in_err-check_earlier_rest-clause-checks : goal.returns-in_err-check_earlier_rest-clause-checks
 returns-in_err-check_earlier_rest-clause-checks g c =
-    let p = err_from_is_err_and c.from_residual.result c.from_residual.ensures.1 in λ sure. rw (p.1, p.2)
+    λ sure. rw (err_is c.from_residual.ensures.1)
     (s.unheard_memory (s.forgoes_later c.loop-prop.invariant.0.checks.leads c.in_err-check_earlier_rest.ensures.checks))
 
 pub rest_of-last-requires : goal.rest_of-last-requires

@@ -1,7 +1,7 @@
 use Rattle.std.proofs.Common.{not, sym, ap, ◌∙◌}
-use Rattle.std.proofs.lemmas.Result.{err_from_is_err_and}
 use Rattle.swc_input.specs.Kinds.{at_token}
 use Rattle.swc_grammar.specs.Tokens.{is_rparen}
+use Rattle.swc_steps.proofs.Refused.{err_is}
 use Rattle.swc_steps.specs.Parsing.{seen_of}
 use Rattle.swc_steps.proofs.Steps as s
 use Rattle.swc_patterns.specs.Rests.{stage_of, has_comma}
@@ -23,8 +23,7 @@ returns-then-not-is_sign-clause-next g c = λ sure.
 
 pub returns-in_err-check_comma-clause-next : goal.returns-in_err-check_comma-clause-next
 returns-in_err-check_comma-clause-next g c =
-    let p = err_from_is_err_and c.from_residual-in_err-check_comma.result
-    c.from_residual-in_err-check_comma.ensures.1 in λ sure. rw (p.1, p.2)
+    λ sure. rw (err_is c.from_residual-in_err-check_comma.ensures.1)
     (s.unheard_memory (s.forgoes_later (s.here_leads c.in_ok-look.ensures.looks) c.in_err-check_comma.ensures.checks))
 
 pub returns-clause-next : goal.returns-clause-next

@@ -1,5 +1,5 @@
 use Rattle.std.proofs.Common.{Some, not, refl}
-use Rattle.std.proofs.lemmas.Result.{err_from_is_err_and}
+use Rattle.swc_steps.proofs.Refused.{err_is}
 use Rattle.swc_grammar.specs.Tokens.{is_dots}
 use Rattle.swc_steps.proofs.Steps as s
 use Rattle.swc_patterns.specs.{Rests.has_rest, declared.params.NextParam.NextParam as next}
@@ -8,8 +8,7 @@ use Rattle.swc_patterns.proofs.params.param_head.Goals as goal
 
 pub returns-in_err-dots-clause-next : goal.returns-in_err-dots-clause-next
 returns-in_err-dots-clause-next g c =
-    let p = err_from_is_err_and c.from_residual-in_err-dots.result c.from_residual-in_err-dots.ensures.1 in
-    λ sure. rw (p.1, p.2)
+    λ sure. rw (err_is c.from_residual-in_err-dots.ensures.1)
     (s.unheard_after (s.on_checked (not (has_rest c.args.rest)) c.in_ok-check_last.ensures.checks
     (λ x ts w. head_well c.args.rest x ts w) (λ x ts w. head_ill c.args.rest x ts w))
     (s.unheard_call (λ x p. Some (next.Item p.0, p.1)) (λ x ts. refl) (c.in_err-dots.ensures.eats sure)))

@@ -1,7 +1,7 @@
 use Rattle.std.proofs.Common.{Some, not, refl, ap, ◌∙◌}
-use Rattle.std.proofs.lemmas.Result.{err_from_is_err_and}
 use Rattle.swc_input.specs.Buffer.{current}
 use Rattle.swc_grammar.specs.Tokens.{is_comma, is_dots}
+use Rattle.swc_steps.proofs.Refused.{err_is}
 use Rattle.swc_steps.specs.Parsing.{seen_of}
 use Rattle.swc_steps.proofs.Steps as s
 use Rattle.swc_patterns.specs.{Rests.has_rest, Rests.stage_of, Arrays.head_by, declared.pat.NextElement.NextElement as next}
@@ -17,20 +17,16 @@ returns-then-not-branch-clause-next g c =
 
 pub returns-in_err-check_last-clause-next : goal.returns-in_err-check_last-clause-next
 returns-in_err-check_last-clause-next g c =
-    let p = err_from_is_err_and c.from_residual-in_err-check_last.result
-    c.from_residual-in_err-check_last.ensures.1 in
     let some = c.in_ok-look.ensures.token c.if-not-branch.false in
-    λ sure. rw (p.1, p.2)
+    λ sure. rw (err_is c.from_residual-in_err-check_last.ensures.1)
     (s.unheard_after (s.on_seen {g = head_of c.args.rest} c.in_ok-look.ensures.looks
     (λ x ts same e. head_here c.args.rest x ts (current c.look.new.input) e some))
     (s.unheard_memory c.in_err-check_last.ensures.checks))
 
 pub returns-in_err-eat-clause-next : goal.returns-in_err-eat-clause-next
 returns-in_err-eat-clause-next g c =
-    let p = err_from_is_err_and c.from_residual-in_err-eat.result
-    c.from_residual-in_err-eat.ensures.1 in
     let some = c.in_ok-look.ensures.token c.if-not-branch.false in
-    λ sure. rw (p.1, p.2)
+    λ sure. rw (err_is c.from_residual-in_err-eat.ensures.1)
     (s.unheard_after (s.on_then (s.on_seen {g = head_of c.args.rest} c.in_ok-look.ensures.looks
     (λ x ts same e. head_here c.args.rest x ts (current c.look.new.input) e some))
     (s.on_checked (not (has_rest c.args.rest)) c.in_ok-check_last.ensures.checks
@@ -50,10 +46,8 @@ returns-in-Some-clause-next g c =
 
 pub returns-in_err-dots-in-None-clause-next : goal.returns-in_err-dots-in-None-clause-next
 returns-in_err-dots-in-None-clause-next g c =
-    let p = err_from_is_err_and c.from_residual-in_err-dots-in-None.result
-    c.from_residual-in_err-dots-in-None.ensures.1 in
     let some = c.in_ok-look.ensures.token c.if-not-branch.false in
-    λ sure. rw (p.1, p.2)
+    λ sure. rw (err_is c.from_residual-in_err-dots-in-None.ensures.1)
     (s.unheard_after (s.on_then (s.on_then (s.on_seen {g = head_of c.args.rest} c.in_ok-look.ensures.looks
     (λ x ts same e. head_here c.args.rest x ts (current c.look.new.input) e some))
     (s.on_checked (not (has_rest c.args.rest)) c.in_ok-check_last.ensures.checks

@@ -1,7 +1,7 @@
 use Rattle.std.proofs.Common.{Some, not, refl, sym, ap, ◌∙◌}
-use Rattle.std.proofs.lemmas.Result.{err_from_is_err_and}
 use Rattle.swc_input.specs.Kinds.{at_token}
 use Rattle.swc_grammar.specs.Tokens.{is_rbracket}
+use Rattle.swc_steps.proofs.Refused.{err_is}
 use Rattle.swc_steps.proofs.Making as m
 use Rattle.swc_steps.proofs.Steps as s
 use Rattle.swc_patterns.specs.{Rests.stage_of, Rests.has_comma, declared.pat.NextElement.NextElement as next}
@@ -10,8 +10,7 @@ use Rattle.swc_patterns.proofs.pat.next_element.Goals as goal
 
 pub returns-in_err-look-clause-next : goal.returns-in_err-look-clause-next
 returns-in_err-look-clause-next g c =
-    let p = err_from_is_err_and c.from_residual.result c.from_residual.ensures.1 in λ sure. rw (p.1, p.2)
-    (s.unheard_memory c.in_err-look.ensures.looks)
+    λ sure. rw (err_is c.from_residual.ensures.1) (s.unheard_memory c.in_err-look.ensures.looks)
 
 pub returns-then-not-is_sign-clause-next : goal.returns-then-not-is_sign-clause-next
 returns-then-not-is_sign-clause-next g c = λ sure.
@@ -22,16 +21,14 @@ returns-then-not-is_sign-clause-next g c = λ sure.
 
 pub returns-in_err-check_comma-clause-next : goal.returns-in_err-check_comma-clause-next
 returns-in_err-check_comma-clause-next g c =
-    let p = err_from_is_err_and c.from_residual-in_err-check_comma.result
-    c.from_residual-in_err-check_comma.ensures.1 in λ sure. rw (p.1, p.2)
+    λ sure. rw (err_is c.from_residual-in_err-check_comma.ensures.1)
     (s.unheard_after (s.on_seen c.in_ok-look.ensures.looks (λ x ts same e. next_ends (stage_of c.args.rest) x ts
     (ap (at_token is_rbracket) e ∙ sym c.is_sign.ensures.value ∙ c.if-not-is_sign.false)))
     (s.unheard_memory c.in_err-check_comma.ensures.checks))
 
 pub returns-in_err-end-clause-next : goal.returns-in_err-end-clause-next
 returns-in_err-end-clause-next g c =
-    let p = err_from_is_err_and c.from_residual-in_err-end.result
-    c.from_residual-in_err-end.ensures.1 in λ sure. rw (p.1, p.2)
+    λ sure. rw (err_is c.from_residual-in_err-end.ensures.1)
     (s.unheard_after (s.on_then
     (s.on_seen c.in_ok-look.ensures.looks (λ x ts same e. next_ends (stage_of c.args.rest) x ts
     (ap (at_token is_rbracket) e ∙ sym c.is_sign.ensures.value ∙ c.if-not-is_sign.false)))

@@ -1,6 +1,6 @@
 use Rattle.std.proofs.Common.{sym, ap, ◌∙◌}
-use Rattle.std.proofs.lemmas.Result.{err_from_is_err_and}
 use Rattle.std.specs.Option.{is_some}
+use Rattle.swc_steps.proofs.Refused.{err_is}
 use Rattle.swc_steps.specs.Lists.{is_sign_token}
 use Rattle.swc_steps.proofs.Steps as s
 use Rattle.swc_patterns.specs.Rests.{behind_by, stage_of}
@@ -9,8 +9,7 @@ use Rattle.swc_patterns.proofs.rest.separate_item.Goals as goal
 
 pub returns-in_err-comma-clause-separates : goal.returns-in_err-comma-clause-separates
 returns-in_err-comma-clause-separates g c =
-    let p = err_from_is_err_and c.from_residual.result c.from_residual.ensures.1 in λ sure. rw (p.1, p.2)
-    (s.unheard_call _
+    λ sure. rw (err_is c.from_residual.ensures.1) (s.unheard_call _
     (separated_item_splits (is_sign_token c.args.close) (is_some c.args.dots) (stage_of c.args.rest))
     (c.in_err-comma.ensures.separates sure))
 

@@ -1,12 +1,11 @@
-use Rattle.std.proofs.{Common.not, lemmas.Result.err_from_is_err_and}
+use Rattle.std.proofs.Common.{not}
+use Rattle.swc_steps.proofs.Refused.{err_is}
 use Rattle.swc_primary.specs.Methods.{just_one, begins_rest}
 use Rattle.swc_steps.proofs.Steps.{check_later}
 use Rattle.swc_primary.proofs.methods.check_setter.Goals as goal
 
 pub returns-in_err-check_count-clause-checks : goal.returns-in_err-check_count-clause-checks
-returns-in_err-check_count-clause-checks g c =
-    let p = err_from_is_err_and c.from_residual.result c.from_residual.ensures.1 in
-    rw (p.1, p.2) c.in_err-check_count.ensures.checks
+returns-in_err-check_count-clause-checks g c = rw (err_is c.from_residual.ensures.1) c.in_err-check_count.ensures.checks
 
 pub returns-clause-checks : goal.returns-clause-checks
 returns-clause-checks g c =

@@ -1,7 +1,7 @@
 use Rattle.std.proofs.Common.{refl, sym, ap, ◌∙◌}
-use Rattle.std.proofs.lemmas.Result.{err_from_is_err_and}
 use Rattle.swc_input.specs.{Kinds.at_token, Buffer.current}
 use Rattle.swc_bodies.specs.Readings.{is_brace}
+use Rattle.swc_steps.proofs.Refused.{err_is}
 use Rattle.swc_steps.specs.{Parsing.by_hook, declared.tokens.Sign.TheVariants.LBrace}
 use Rattle.swc_steps.proofs.Hearing as hearing
 use Rattle.swc_steps.proofs.{Naming.parses_lower, Signs.sign_here}
@@ -11,8 +11,7 @@ use Rattle.swc_primary.proofs.methods.parse_block.Goals as goal
 
 pub returns-in_err-look-clause-reads : goal.returns-in_err-look-clause-reads
 returns-in_err-look-clause-reads g c =
-    let p = err_from_is_err_and c.from_residual.result c.from_residual.ensures.1 in rw (p.1, p.2)
-    (s.unheard_memory c.in_err-look.ensures.looks)
+    rw (err_is c.from_residual.ensures.1) (s.unheard_memory c.in_err-look.ensures.looks)
 
 pub returns-then-not-is_sign-clause-reads : goal.returns-then-not-is_sign-clause-reads
 returns-then-not-is_sign-clause-reads g c =

@@ -1,19 +1,17 @@
-use Rattle.std.proofs.{Common.Some, Common.refl, lemmas.Result.err_from_is_err_and}
+use Rattle.std.proofs.Common.{Some, refl}
+use Rattle.swc_steps.proofs.Refused.{err_is}
 use Rattle.swc_primary.proofs.Keyed.{async_star_splits}
 use Rattle.swc_steps.proofs.Steps as s
 use Rattle.swc_primary.proofs.modifiers.parse_async_star.Goals as goal
 
 pub returns-in_err-start-clause-parses : goal.returns-in_err-start-clause-parses
 returns-in_err-start-clause-parses g c =
-    let p = err_from_is_err_and c.from_residual.result c.from_residual.ensures.1 in λ sure. rw (p.1, p.2)
-    (s.unheard_call _ async_star_splits
+    λ sure. rw (err_is c.from_residual.ensures.1) (s.unheard_call _ async_star_splits
     (c.in_err-start.ensures.expects sure))
 
 pub returns-in_err-expect-clause-parses : goal.returns-in_err-expect-clause-parses
 returns-in_err-expect-clause-parses g c =
-    let p = err_from_is_err_and c.from_residual-in_err-expect.result c.from_residual-in_err-expect.ensures.1 in
-    λ sure. rw (p.1, p.2)
-    (s.unheard_after
+    λ sure. rw (err_is c.from_residual-in_err-expect.ensures.1) (s.unheard_after
     (s.on_call _ async_star_splits
     (c.in_ok-start.ensures.expects sure).on)
     (s.unheard_call (λ x r. Some (c.in_ok-start.start, r.1)) (λ x ts. refl) (c.in_err-expect.ensures.expects sure)))

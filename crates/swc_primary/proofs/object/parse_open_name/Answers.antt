@@ -1,6 +1,7 @@
-use Rattle.std.proofs.{Common.not, Common.true, lemmas.Result.err_from_is_err_and}
+use Rattle.std.proofs.Common.{not, true}
 use Rattle.swc_context.specs.Reserved.{is_reserved_word}
 use Rattle.swc_input.specs.Buffer.{context}
+use Rattle.swc_steps.proofs.Refused.{err_is}
 use Rattle.swc_steps.specs.Parsing.{scope, name_spelling}
 use Rattle.swc_primary.proofs.Properties.{open_name_splits, open_by_well, open_by_ill}
 use Rattle.swc_steps.proofs.Naming.{name_read, name_unread}
@@ -9,13 +10,12 @@ use Rattle.swc_primary.proofs.object.parse_open_name.Goals as goal
 
 pub returns-in_err-name-clause-parses : goal.returns-in_err-name-clause-parses
 returns-in_err-name-clause-parses g c =
-    let p = err_from_is_err_and c.from_residual.result c.from_residual.ensures.1 in λ sure. rw (p.1, p.2)
+    λ sure. rw (err_is c.from_residual.ensures.1)
     (s.unheard_call _ open_name_splits (name_unread g.met.I.Tokens.laws c.in_err-name.ensures.names))
 
 pub returns-in_err-check_open_name-clause-parses : goal.returns-in_err-check_open_name-clause-parses
 returns-in_err-check_open_name-clause-parses g c =
-    let p = err_from_is_err_and c.from_residual-in_err-check_open_name.result
-    c.from_residual-in_err-check_open_name.ensures.1 in λ sure. rw (p.1, p.2)
+    λ sure. rw (err_is c.from_residual-in_err-check_open_name.ensures.1)
     (s.unheard_memory (s.forgoes_later (name_read {sure = sure} g.met.I.Tokens.laws c.in_ok-name.ensures.names).on.leads
     c.in_err-check_open_name.ensures.checks))
 

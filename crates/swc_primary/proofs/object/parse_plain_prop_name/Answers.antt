@@ -1,7 +1,7 @@
 use Rattle.std.proofs.Common.{Some, true, refl, sym, ap, ◌∙◌}
-use Rattle.std.proofs.lemmas.Result.{err_from_is_err_and}
 use Rattle.swc_input.specs.{Plain.plain, Kinds.at_token}
 use Rattle.swc_grammar.specs.Tokens.{is_word}
+use Rattle.swc_steps.proofs.Refused.{err_is}
 use Rattle.swc_steps.specs.Keys.{named_key, name_key, literal_key, is_key_lit}
 use Rattle.swc_steps.proofs.Keys as key
 use Rattle.swc_steps.proofs.Naming.{name_read, name_unread}
@@ -10,13 +10,12 @@ use Rattle.swc_primary.proofs.object.parse_plain_prop_name.Goals as goal
 
 pub returns-in_err-require_cur-clause-parses : goal.returns-in_err-require_cur-clause-parses
 returns-in_err-require_cur-clause-parses g c =
-    let p = err_from_is_err_and c.from_residual.result c.from_residual.ensures.1 in λ sure. rw (p.1, p.2)
+    λ sure. rw (err_is c.from_residual.ensures.1)
     (s.unheard_unfit g.met.I.Tokens.laws (λ x ts h. key.plain_key_unfit x ts h) c.in_err-require_cur.ensures.fits)
 
 pub returns-in_err-name-clause-parses : goal.returns-in_err-name-clause-parses
 returns-in_err-name-clause-parses g c =
-    let p = err_from_is_err_and c.from_residual-in_err-name.result c.from_residual-in_err-name.ensures.1 in
-    λ sure. rw (p.1, p.2) (s.unheard_after
+    λ sure. rw (err_is c.from_residual-in_err-name.ensures.1) (s.unheard_after
     (s.on_seen {g = name_key} c.in_ok-require_cur.ensures.fits (λ x ts same e. key.name_key_here x ts
     (ap (at_token is_word) e ∙ sym c.is_word.ensures.value ∙ c.if-is_word.true)))
     (s.unheard_call (λ x p. Some (named_key p.0, p.1)) (λ x ts. refl)

@@ -1,4 +1,5 @@
-use Rattle.std.proofs.{Common.refl, Common.◌∙◌, lemmas.Result.err_from_is_err_and}
+use Rattle.std.proofs.Common.{refl, ◌∙◌}
+use Rattle.swc_steps.proofs.Refused.{err_is}
 use Rattle.swc_primary.specs.{Methods.method_tail, Properties.spread_prop_tail}
 use Rattle.swc_primary.proofs.Begins.{begins_faulty}
 use Rattle.swc_primary.proofs.Properties as props
@@ -7,22 +8,18 @@ use Rattle.swc_primary.proofs.object.parse_prop_head.Goals as goal
 
 pub returns-in_err-look-clause-reads : goal.returns-in_err-look-clause-reads
 returns-in_err-look-clause-reads g c =
-    let p = err_from_is_err_and c.from_residual.result c.from_residual.ensures.1 in rw (p.1, p.2)
-    (s.unheard_memory c.in_err-look.ensures.looks)
+    rw (err_is c.from_residual.ensures.1) (s.unheard_memory c.in_err-look.ensures.looks)
 
 pub returns-in_err-prop_kind-clause-reads : goal.returns-in_err-prop_kind-clause-reads
 returns-in_err-prop_kind-clause-reads g c =
-    let p = err_from_is_err_and c.from_residual-in_err-prop_kind.result c.from_residual-in_err-prop_kind.ensures.1 in
-    rw (p.1, p.2)
+    rw (err_is c.from_residual-in_err-prop_kind.ensures.1)
     (s.unheard_memory (s.forgoes_later (s.here_leads c.in_ok-look.ensures.looks) c.in_err-prop_kind.ensures.tells))
 
 pub returns-in_err-name-in-Shorthand-clause-reads : goal.returns-in_err-name-in-Shorthand-clause-reads
 returns-in_err-name-in-Shorthand-clause-reads g c =
     let told = s.on_told c.in_ok-look.ensures.looks c.in_ok-prop_kind.ensures.tells
     (λ x ts same e told. props.short_picked g.B.BodyForms.forms x ts (told ∙ c.in-Shorthand.is)) in
-    let p = err_from_is_err_and c.from_residual-in_err-name-in-Shorthand.result
-    c.from_residual-in_err-name-in-Shorthand.ensures.1 in
-    rw (p.1, p.2)
+    rw (err_is c.from_residual-in_err-name-in-Shorthand.ensures.1)
     (s.unheard_after told (s.unheard_call _ (props.short_splits _)
     (c.in_err-name-in-Shorthand.ensures.parses g.B.Bodies.is_faithful)))
 
@@ -37,9 +34,7 @@ pub returns-in_err-dots-in-Spread-clause-reads : goal.returns-in_err-dots-in-Spr
 returns-in_err-dots-in-Spread-clause-reads g c =
     let told = s.on_told c.in_ok-look.ensures.looks c.in_ok-prop_kind.ensures.tells
     (λ x ts same e told. props.spread_picked g.B.BodyForms.forms x ts (told ∙ c.in-Spread.is)) in
-    let p = err_from_is_err_and c.from_residual-in_err-dots-in-Spread.result
-    c.from_residual-in_err-dots-in-Spread.ensures.1 in
-    rw (p.1, p.2)
+    rw (err_is c.from_residual-in_err-dots-in-Spread.ensures.1)
     (s.unheard_after told (s.unheard_call (λ x p. spread_prop_tail _ p.0 x p.1) (λ x ts. refl)
     (c.in_err-dots-in-Spread.ensures.expects g.B.Bodies.is_faithful)))
 
@@ -54,9 +49,7 @@ pub returns-in_err-name-in-Cover-clause-reads : goal.returns-in_err-name-in-Cove
 returns-in_err-name-in-Cover-clause-reads g c =
     let told = s.on_told c.in_ok-look.ensures.looks c.in_ok-prop_kind.ensures.tells
     (λ x ts same e told. props.cover_picked g.B.BodyForms.forms x ts (told ∙ c.in-Cover.is)) in
-    let p = err_from_is_err_and c.from_residual-in_err-name-in-Cover.result
-    c.from_residual-in_err-name-in-Cover.ensures.1 in
-    rw (p.1, p.2)
+    rw (err_is c.from_residual-in_err-name-in-Cover.ensures.1)
     (s.unheard_after told (s.unheard_call _ (props.cover_splits _)
     (c.in_err-name-in-Cover.ensures.parses g.B.Bodies.is_faithful)))
 
@@ -76,9 +69,7 @@ pub returns-in_err-start-in-Method-clause-reads : goal.returns-in_err-start-in-M
 returns-in_err-start-in-Method-clause-reads g c =
     let told = s.on_told c.in_ok-look.ensures.looks c.in_ok-prop_kind.ensures.tells
     (λ x ts same e told. props.method_picked g.B.BodyForms.forms c.in-Method.kind x ts (told ∙ c.in-Method.is)) in
-    let p = err_from_is_err_and c.from_residual-in_err-start-in-Method.result
-    c.from_residual-in_err-start-in-Method.ensures.1 in
-    rw (p.1, p.2)
+    rw (err_is c.from_residual-in_err-start-in-Method.ensures.1)
     (s.unheard_after told (s.unheard_call (λ x p. method_tail _ c.in-Method.kind p.0 x p.1) (λ x ts. refl)
     (c.in_err-start-in-Method.ensures.parses g.B.Bodies.is_faithful)))
 

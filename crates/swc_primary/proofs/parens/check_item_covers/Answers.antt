@@ -1,7 +1,7 @@
 use Rattle.std.proofs.Common.{true, ◌||◌, refl, sym, ap, subst, ◌∙◌, arith}
-use Rattle.std.proofs.lemmas.Result.{err_from_is_err_and}
 use Rattle.swc_ast.specs.{Parts.item_trees, Trees.no_covers}
 use Rattle.swc_input.specs.Calls.{Checks}
+use Rattle.swc_steps.proofs.Refused.{err_is}
 use Rattle.swc_steps.specs.Parsing.{tree_of}
 use Rattle.swc_primary.proofs.ParenItems.{whole_item, item_from, item_checked, items_checked}
 use Rattle.swc_steps.proofs.Steps.{check_passes, forgoes_later}
@@ -24,7 +24,7 @@ check_cover_names-requires g c =
 
 pub returns-in_err-check_cover_names-clause-checks : goal.returns-in_err-check_cover_names-clause-checks
 returns-in_err-check_cover_names-clause-checks g c =
-    let p = err_from_is_err_and c.from_residual.result c.from_residual.ensures.1 in rw (p.1, p.2)
+    rw (err_is c.from_residual.ensures.1)
     (forgoes_later c.loop-item.invariant.0.leads c.in_err-check_cover_names.ensures.checks)
 
 pub loop-item-preserved : goal.loop-item-preserved

@@ -1,5 +1,6 @@
 use Rattle.std.proofs.Common.{sym, ◌∙◌, arith}
-use Rattle.std.proofs.{lemmas.Bool.eqb-true, lemmas.Grind.common_steps, lemmas.Result.err_from_is_err_and}
+use Rattle.std.proofs.{lemmas.Bool.eqb-true, lemmas.Grind.common_steps}
+use Rattle.swc_steps.proofs.Refused.{err_is}
 use Rattle.swc_steps.specs.Parsing.{tree_of}
 use Rattle.swc_primary.proofs.ParenItems.{paren_none, paren_checked, paren_refused}
 use Rattle.swc_steps.proofs.Steps as s
@@ -7,8 +8,8 @@ use Rattle.swc_primary.proofs.parens.check_paren_items.Goals as goal
 
 pub returns-in_err-check_item_covers-clause-refuses : goal.returns-in_err-check_item_covers-clause-refuses
 returns-in_err-check_item_covers-clause-refuses g c =
-    let p = err_from_is_err_and c.from_residual.result c.from_residual.ensures.1 in
-    let h = c.in_err-check_item_covers.ensures.checks in rw (p.1, p.2) (s.forgoes_refuses h, λ n. absurd (n h.kind))
+    let h = c.in_err-check_item_covers.ensures.checks in
+    rw (err_is c.from_residual.ensures.1) (s.forgoes_refuses h, λ n. absurd (n h.kind))
 
 pub returns-then-is_empty-clause-refuses : goal.returns-then-is_empty-clause-refuses
 returns-then-is_empty-clause-refuses g c = (
@@ -20,10 +21,8 @@ returns-then-is_empty-clause-refuses g c = (
 
 pub returns-in_err-check_last_comma-clause-refuses : goal.returns-in_err-check_last_comma-clause-refuses
 returns-in_err-check_last_comma-clause-refuses g c =
-    let p = err_from_is_err_and c.from_residual-in_err-check_last_comma.result
-    c.from_residual-in_err-check_last_comma.ensures.1 in
     let h = s.forgoes_later c.in_ok-check_item_covers.ensures.checks.leads c.in_err-check_last_comma.ensures.checks in
-    rw (p.1, p.2) (s.forgoes_refuses h, λ n. absurd (n h.kind))
+    rw (err_is c.from_residual-in_err-check_last_comma.ensures.1) (s.forgoes_refuses h, λ n. absurd (n h.kind))
 
 pub returns-clause-checks : goal.returns-clause-checks
 returns-clause-checks g c =

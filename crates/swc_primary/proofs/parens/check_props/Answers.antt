@@ -1,5 +1,5 @@
 use Rattle.std.proofs.Common.{true, refl, arith}
-use Rattle.std.proofs.lemmas.Result.{err_from_is_err_and}
+use Rattle.swc_steps.proofs.Refused.{err_is}
 use Rattle.swc_primary.proofs.Covers.{checks-more, checks-all}
 use Rattle.swc_steps.proofs.Steps.{check_passes, forgoes_later}
 use Rattle.swc_primary.proofs.parens.check_props.Goals as goal
@@ -9,7 +9,7 @@ loop-prop-init g c = (check_passes true g.met.I.Tokens.laws _ refl, omega arith)
 
 pub returns-in_err-check_prop-clause-checks : goal.returns-in_err-check_prop-clause-checks
 returns-in_err-check_prop-clause-checks g c =
-    let p = err_from_is_err_and c.from_residual.result c.from_residual.ensures.1 in rw (p.1, p.2)
+    rw (err_is c.from_residual.ensures.1)
     (forgoes_later c.loop-prop.invariant.0.leads c.in_err-check_prop.ensures.checks)
 
 pub loop-prop-preserved : goal.loop-prop-preserved

@@ -1,15 +1,14 @@
 use Rattle.std.proofs.Common.{rules, sym, ap, ◌∙◌}
-use Rattle.std.proofs.lemmas.Result.{err_from_is_err_and}
 use Rattle.swc_input.specs.Kinds.{at_token}
 use Rattle.swc_grammar.specs.Arrows.{is_arrow}
+use Rattle.swc_steps.proofs.Refused.{err_is}
 use Rattle.swc_steps.proofs.Args.{arrow_stops, arrow_passes}
 use Rattle.swc_steps.proofs.Steps as s
 use Rattle.swc_primary.proofs.parens.refuse_arrow.Goals as goal
 
 pub returns-in_err-breaks-clause-free : goal.returns-in_err-breaks-clause-free
 returns-in_err-breaks-clause-free g c =
-    let p = err_from_is_err_and c.from_residual.result c.from_residual.ensures.1 in λ sure. rw (p.1, p.2)
-    (s.unheard_memory c.in_err-breaks.ensures.looks)
+    λ sure. rw (err_is c.from_residual.ensures.1) (s.unheard_memory c.in_err-breaks.ensures.looks)
 
 pub returns-then-not-is_sign-clause-free : goal.returns-then-not-is_sign-clause-free
 returns-then-not-is_sign-clause-free g c = λ sure.

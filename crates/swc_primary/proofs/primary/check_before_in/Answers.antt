@@ -1,12 +1,12 @@
-use Rattle.std.proofs.{Common.sym, Common.◌∙◌, lemmas.Result.err_from_is_err_and}
+use Rattle.std.proofs.Common.{sym, ◌∙◌}
+use Rattle.swc_steps.proofs.Refused.{err_is}
 use Rattle.swc_steps.proofs.Steps as s
 use Rattle.swc_primary.proofs.PrivateNames.{in_goes, in_of, in_stops, not_in}
 use Rattle.swc_primary.proofs.primary.check_before_in.Goals as goal
 
 pub returns-in_err-look-clause-checks : goal.returns-in_err-look-clause-checks
 returns-in_err-look-clause-checks g c =
-    let p = err_from_is_err_and c.from_residual.result c.from_residual.ensures.1 in λ sure. rw (p.1, p.2)
-    (s.unheard_memory c.in_err-look.ensures.looks)
+    λ sure. rw (err_is c.from_residual.ensures.1) (s.unheard_memory c.in_err-look.ensures.looks)
 
 pub returns-then-is_in_operator-clause-checks : goal.returns-then-is_in_operator-clause-checks
 returns-then-is_in_operator-clause-checks g c = λ sure.

@@ -1,5 +1,6 @@
-use Rattle.std.proofs.{Common.not, Common.◌&&◌, lemmas.Result.err_from_is_err_and}
+use Rattle.std.proofs.Common.{not, ◌&&◌}
 use Rattle.swc_input.specs.Buffer.{context}
+use Rattle.swc_steps.proofs.Refused.{err_is}
 use Rattle.swc_steps.proofs.Steps.{and_true, not_and, check_passes, forgoes_here}
 use Rattle.swc_primary.proofs.primary.check_strict_word.Goals as goal
 
@@ -10,8 +11,7 @@ returns-then-not-is_strict-clause-checks g c =
 
 pub returns-in_err-sym-clause-checks : goal.returns-in_err-sym-clause-checks
 returns-in_err-sym-clause-checks g c =
-    let p = err_from_is_err_and c.from_residual.result c.from_residual.ensures.1 in rw (p.1, p.2)
-    (forgoes_here g.met.I.Tokens.laws _ _ _ c.in_err-sym.ensures.refused)
+    rw (err_is c.from_residual.ensures.1) (forgoes_here g.met.I.Tokens.laws _ _ _ c.in_err-sym.ensures.refused)
 
 pub returns-clause-checks : goal.returns-clause-checks
 returns-clause-checks g c = rw (c.if-not-is_strict.false, and_true (context g.I.Tokens.model c.args.input.now).module)

@@ -1,7 +1,7 @@
 use Rattle.std.proofs.Common.{refl, sym, ap, ◌∙◌}
-use Rattle.std.proofs.lemmas.Result.{err_from_is_err_and}
 use Rattle.swc_input.specs.Kinds.{at_token}
 use Rattle.swc_bodies.specs.Readings.{is_function}
+use Rattle.swc_steps.proofs.Refused.{err_is}
 use Rattle.swc_steps.specs.Parsing.{by_hook, seen_of}
 use Rattle.swc_steps.proofs.Keys as key
 use Rattle.swc_steps.proofs.Rules as rule
@@ -10,8 +10,7 @@ use Rattle.swc_primary.proofs.primary.parse_function.Goals as goal
 
 pub returns-in_err-look-clause-reads : goal.returns-in_err-look-clause-reads
 returns-in_err-look-clause-reads g c =
-    let p = err_from_is_err_and c.from_residual.result c.from_residual.ensures.1 in rw (p.1, p.2)
-    (s.unheard_memory c.in_err-look.ensures.looks)
+    rw (err_is c.from_residual.ensures.1) (s.unheard_memory c.in_err-look.ensures.looks)
 
 pub returns-then-is_sign-clause-reads : goal.returns-then-is_sign-clause-reads
 returns-then-is_sign-clause-reads g c =
@@ -22,8 +21,7 @@ returns-then-is_sign-clause-reads g c =
 pub returns-in_err-is_async_function-clause-reads : goal.returns-in_err-is_async_function-clause-reads
 returns-in_err-is_async_function-clause-reads g c =
     let r = c.from_residual-in_err-is_async_function in
-    let p = err_from_is_err_and r.result r.ensures.1 in rw (p.1, p.2)
-    (s.unheard_memory (s.forgoes_later (s.here_leads c.in_ok-look.ensures.looks)
+    rw (err_is r.ensures.1) (s.unheard_memory (s.forgoes_later (s.here_leads c.in_ok-look.ensures.looks)
     c.in_err-is_async_function.ensures.tells))
 
 pub returns-then-branch-clause-reads : goal.returns-then-branch-clause-reads

@@ -1,7 +1,7 @@
 use Rattle.std.proofs.Common.{sym, ap, refl, ◌∙◌}
-use Rattle.std.proofs.lemmas.Result.{err_from_is_err_and}
 use Rattle.swc_input.specs.{Plain.plain, Kinds.at_token}
 use Rattle.swc_grammar.specs.{Parts.lit_of, Clean.is_lit}
+use Rattle.swc_steps.proofs.Refused.{err_is}
 use Rattle.swc_steps.specs.Parsing.{lit_in}
 use Rattle.swc_steps.proofs.Steps as s
 use Rattle.swc_steps.proofs.Rules as rule
@@ -10,7 +10,7 @@ use Rattle.swc_primary.proofs.primary.parse_lit.Goals as goal
 
 pub returns-in_err-require_cur-clause-parses : goal.returns-in_err-require_cur-clause-parses
 returns-in_err-require_cur-clause-parses g c =
-    let p = err_from_is_err_and c.from_residual.result c.from_residual.ensures.1 in λ sure. rw (p.1, p.2)
+    λ sure. rw (err_is c.from_residual.ensures.1)
     (s.unheard_unfit g.met.I.Tokens.laws (λ x ts h. rule.lit_unfit _ x ts h) c.in_err-require_cur.ensures.fits)
 
 pub returns-then-not-is_lit-clause-parses : goal.returns-then-not-is_lit-clause-parses

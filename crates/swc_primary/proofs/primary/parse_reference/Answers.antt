@@ -1,7 +1,7 @@
 use Rattle.std.proofs.Common.{◌≡◌, Some, None, true, Ok, ◌&&◌, refl, sym, ap, ◌∙◌}
-use Rattle.std.proofs.lemmas.Result.{err_from_is_err_and}
 use Rattle.swc_input.specs.{Buffer.context, Kinds.at_token}
 use Rattle.swc_grammar.specs.{Clean.Out, Names.may_refer, Tokens.may_be_reference, Words.◌>>=◌, Words.word}
+use Rattle.swc_steps.proofs.Refused.{err_is}
 use Rattle.swc_steps.specs.Parsing.{ident_spelling, scope, seen, is_strict}
 use Rattle.swc_steps.proofs.Naming.{parses_lower, ref_read, ref_unread}
 use Rattle.swc_steps.proofs.Rules as rule
@@ -14,14 +14,13 @@ all_of (Some p) = refl
 
 pub returns-in_err-ident-clause-parses : goal.returns-in_err-ident-clause-parses
 returns-in_err-ident-clause-parses g c =
-    let p = err_from_is_err_and c.from_residual.result c.from_residual.ensures.1 in λ sure. rw (p.1, p.2)
+    λ sure. rw (err_is c.from_residual.ensures.1)
     (ref_unread g.met.I.Tokens.laws c.requires c.in_err-ident.ensures.names)
 
 pub returns-in_err-check_strict_word-clause-parses : goal.returns-in_err-check_strict_word-clause-parses
 returns-in_err-check_strict_word-clause-parses g c =
     let r = c.from_residual-in_err-check_strict_word in
-    let p = err_from_is_err_and r.result r.ensures.1 in λ sure. rw (p.1, p.2)
-    (s.unheard_memory (s.forgoes_later
+    λ sure. rw (err_is r.ensures.1) (s.unheard_memory (s.forgoes_later
     (ref_read {sure = sure} g.met.I.Tokens.laws c.requires c.in_ok-ident.ensures.names).on.leads
     c.in_err-check_strict_word.ensures.checks))
 

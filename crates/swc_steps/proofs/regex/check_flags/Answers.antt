@@ -1,15 +1,13 @@
 use Rattle.std.proofs.Common.{ℕ, List, MatchResult, subst, ◌∙◌}
-use Rattle.std.proofs.lemmas.Result.{err_from_is_err_and}
 use Rattle.swc_input.specs.Recording.{is_some}
 use Rattle.swc_input.specs.Calls.{Checks, Forgoes}
 use Rattle.swc_grammar.specs.Parts.{has_unknown, repeated, flags_ok}
+use Rattle.swc_steps.proofs.Refused.{err_is}
 use Rattle.swc_steps.proofs.Steps.{check_later}
 use Rattle.swc_steps.proofs.regex.check_flags.Goals as goal
 
 pub returns-in_err-check_known-clause-checks : goal.returns-in_err-check_known-clause-checks
-returns-in_err-check_known-clause-checks g c =
-    let p = err_from_is_err_and c.from_residual.result c.from_residual.ensures.1 in
-    rw (p.1, p.2) c.in_err-check_known.ensures.checks
+returns-in_err-check_known-clause-checks g c = rw (err_is c.from_residual.ensures.1) c.in_err-check_known.ensures.checks
 
 pub returns-clause-checks : goal.returns-clause-checks
 returns-clause-checks g c =

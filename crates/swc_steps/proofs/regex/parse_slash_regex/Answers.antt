@@ -1,6 +1,6 @@
 use Rattle.std.proofs.Common.{refl, ap, sym, ◌∙◌}
-use Rattle.std.proofs.lemmas.Result.{err_from_is_err_and}
 use Rattle.swc_input.specs.{Plain.plain, Kinds.at_token}
+use Rattle.swc_steps.proofs.Refused.{err_is}
 use Rattle.swc_steps.specs.Regexes.{regex_tail}
 use Rattle.swc_grammar.specs.Tokens.{is_slash, is_regex}
 use Rattle.swc_steps.proofs.Regexes.{on_slash, on_still, slash_was, text_opens, tail_not, tail_splits}
@@ -11,8 +11,7 @@ use Rattle.swc_steps.proofs.regex.parse_slash_regex.Goals as goal
 pub returns-in_err-look-clause-parses : goal.returns-in_err-look-clause-parses
 returns-in_err-look-clause-parses g c =
     let slash = c.skip_slash.ensures.skips in
-    let p = err_from_is_err_and c.from_residual.result c.from_residual.ensures.1 in λ sure. rw (p.1, p.2)
-    (s.unheard_after
+    λ sure. rw (err_is c.from_residual.ensures.1) (s.unheard_after
     (on_slash {g = regex_tail slash.was.span} g.met.I.Tokens.laws slash
     (λ x ts. text_opens (plain slash.was) x ts (passes_plain is_slash _ slash.was slash.current c.requires)))
     (s.unheard_memory c.in_err-look.ensures.looks))

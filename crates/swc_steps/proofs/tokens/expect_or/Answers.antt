@@ -1,4 +1,5 @@
-use Rattle.std.proofs.{Common.true, Common.refl, lemmas.Result.err_from_is_err_and}
+use Rattle.std.proofs.Common.{true, refl}
+use Rattle.swc_steps.proofs.Refused.{err_is}
 use Rattle.swc_steps.specs.Lists.{is_sign_token}
 use Rattle.swc_steps.proofs.Keys.{expected_splits}
 use Rattle.swc_steps.proofs.Steps as s
@@ -6,8 +7,7 @@ use Rattle.swc_steps.proofs.tokens.expect_or.Goals as goal
 
 pub returns-in_err-span-clause-expects : goal.returns-in_err-span-clause-expects
 returns-in_err-span-clause-expects g c =
-    let p = err_from_is_err_and c.from_residual.result c.from_residual.ensures.1 in λ sure. rw (p.1, p.2)
-    (s.unheard_call _ (expected_splits (is_sign_token c.args.sign))
+    λ sure. rw (err_is c.from_residual.ensures.1) (s.unheard_call _ (expected_splits (is_sign_token c.args.sign))
     (c.in_err-span.ensures.eats sure))
 
 pub returns-in-Some-clause-expects : goal.returns-in-Some-clause-expects

@@ -1,5 +1,5 @@
-use Rattle.std.proofs.lemmas.Result.{err_from_is_err_and}
 use Rattle.std.proofs.Common.{true, ap, sym}
+use Rattle.swc_steps.proofs.Refused.{err_is}
 use Rattle.swc_steps.specs.Parsing.{private_spelling}
 use Rattle.swc_steps.proofs.PrivateNames.{heard_private, unheard_private}
 use Rattle.swc_steps.proofs.Steps as s
@@ -7,8 +7,7 @@ use Rattle.swc_steps.proofs.tokens.parse_private_name.Goals as goal
 
 pub returns-in_err-name-clause-parses : goal.returns-in_err-name-clause-parses
 returns-in_err-name-clause-parses g c =
-    let p = err_from_is_err_and c.from_residual.result c.from_residual.ensures.1 in λ sure. rw (p.1, p.2)
-    (unheard_private g.met.I.Tokens.laws c.in_err-name.ensures.private)
+    λ sure. rw (err_is c.from_residual.ensures.1) (unheard_private g.met.I.Tokens.laws c.in_err-name.ensures.private)
 
 pub returns-clause-parses : goal.returns-clause-parses
 returns-clause-parses g c = λ sure.

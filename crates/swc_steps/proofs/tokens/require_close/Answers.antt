@@ -1,6 +1,6 @@
 use Rattle.std.proofs.Common.{sym, ap, ◌∙◌}
-use Rattle.std.proofs.lemmas.Result.{err_from_is_err_and}
 use Rattle.swc_input.specs.Kinds.{at_token}
+use Rattle.swc_steps.proofs.Refused.{err_is}
 use Rattle.swc_steps.specs.Lists.{is_sign_token}
 use Rattle.swc_steps.proofs.Lists.{closed_not, closed_here}
 use Rattle.swc_steps.proofs.Steps as s
@@ -8,8 +8,7 @@ use Rattle.swc_steps.proofs.tokens.require_close.Goals as goal
 
 pub returns-in_err-look-clause-closes : goal.returns-in_err-look-clause-closes
 returns-in_err-look-clause-closes g c =
-    let p = err_from_is_err_and c.from_residual.result c.from_residual.ensures.1 in λ sure. rw (p.1, p.2)
-    (s.unheard_memory c.in_err-look.ensures.looks)
+    λ sure. rw (err_is c.from_residual.ensures.1) (s.unheard_memory c.in_err-look.ensures.looks)
 
 pub returns-then-not-is_sign-clause-closes : goal.returns-then-not-is_sign-clause-closes
 returns-then-not-is_sign-clause-closes g c = λ sure.

@@ -1,10 +1,11 @@
-use Rattle.std.proofs.{Common.refl, Common.◌∙◌, lemmas.Result.err_from_is_err_and}
+use Rattle.std.proofs.Common.{refl, ◌∙◌}
+use Rattle.swc_steps.proofs.Refused.{err_is}
 use Rattle.swc_ecma_parser.proofs.{Calling.called, Calling.called-again, Ending.sees_end}
 use Rattle.swc_ecma_parser.proofs.parser.Parser.at_end.Goals as goal
 
 pub returns-in_err-begin : goal.returns-in_err-begin
-returns-in_err-begin g c = let p = err_from_is_err_and c.from_residual.result c.from_residual.ensures.1 in
-    rw (p.1, p.2) (called-again c.in_err-begin.ensures.again)
+returns-in_err-begin g c = 
+    rw (err_is c.from_residual.ensures.1) (called-again c.in_err-begin.ensures.again)
 
 pub returns : goal.returns
 returns g c =

@@ -1,7 +1,8 @@
-use Rattle.std.proofs.{Common.refl, Common.sym, lemmas.Result.err_from_is_err_and}
+use Rattle.std.proofs.Common.{refl, sym}
 use Rattle.swc_grammar.specs.{Symbols.Arguments, Clean.sym as at, Clean.run}
 use Rattle.swc_ast.specs.Parts.{args_tree}
 use Rattle.swc_nodes.specs.{GrowingNodes.tree_at, GrowingNodes.bare_at, NodeParts.args_parts}
+use Rattle.swc_steps.proofs.Refused.{err_is}
 use Rattle.swc_steps.specs.Parsing.{args_at}
 use Rattle.swc_nodes.proofs.Remembered.{args-commas}
 use Rattle.swc_ecma_parser.specs.Calls.{nodes_of, commas_of, tree_by}
@@ -12,8 +13,8 @@ use Rattle.swc_ecma_parser.proofs.{Placed.arguments-placed, Calling.promised, Ca
 use Rattle.swc_ecma_parser.proofs.parser.Parser.parse_args.Goals as goal
 
 pub returns-in_err-start : goal.returns-in_err-start
-returns-in_err-start g c = let p = err_from_is_err_and c.from_residual.result c.from_residual.ensures.1 in
-    rw (p.1, p.2) (record { promised = promised-again c.in_err-start.ensures.again refl })
+returns-in_err-start g c = 
+    rw (err_is c.from_residual.ensures.1) (record { promised = promised-again c.in_err-start.ensures.again refl })
 
 pub returns : goal.returns
 returns g c =

@@ -1,6 +1,6 @@
 use Rattle.std.proofs.Common.{false, refl, sym, ◌∙◌}
-use Rattle.std.proofs.lemmas.Result.{err_from_is_err_and}
 use Rattle.swc_grammar.specs.{Symbols.Arguments, Clean.sym as at, Clean.run}
+use Rattle.swc_steps.proofs.Refused.{err_is}
 use Rattle.swc_steps.specs.Parsing.{args_at}
 use Rattle.swc_nodes.specs.{NodeParts.args_parts, GrowingNodes.tree_at}
 use Rattle.swc_nodes.proofs.Remembered.{args-commas}
@@ -11,8 +11,8 @@ use Rattle.swc_ecma_parser.proofs.{Placed.list-placed, Calling.promised, Calling
 use Rattle.swc_ecma_parser.proofs.parser.Parser.parse_args_or_pats.Goals as goal
 
 pub returns-in_err-start : goal.returns-in_err-start
-returns-in_err-start g c = let p = err_from_is_err_and c.from_residual.result c.from_residual.ensures.1 in
-    rw (p.1, p.2) (record { promised = promised-again c.in_err-start.ensures.again refl })
+returns-in_err-start g c = 
+    rw (err_is c.from_residual.ensures.1) (record { promised = promised-again c.in_err-start.ensures.again refl })
 
 pub returns : goal.returns
 returns g c =

@@ -1,5 +1,6 @@
-use Rattle.std.proofs.{Common.refl, Common.sym, lemmas.Result.err_from_is_err_and}
+use Rattle.std.proofs.Common.{refl, sym}
 use Rattle.swc_nodes.specs.{GrowingNodes.Apart, Lists.pats_parts}
+use Rattle.swc_steps.proofs.Refused.{err_is}
 use Rattle.swc_steps.specs.Params.{pat_at}
 use Rattle.swc_ecma_parser.specs.Calls.{buffer_of, nodes_of, commas_of, pats_tree}
 use Rattle.swc_ecma_parser.specs.ArrowParams.{params_items}
@@ -9,8 +10,7 @@ use Rattle.swc_ecma_parser.proofs.parser.Parser.parse_arrow_params_id.Goals as g
 
 pub returns-in_err-start-clause-promised : goal.returns-in_err-start-clause-promised
 returns-in_err-start-clause-promised g c =
-    let p = err_from_is_err_and c.from_residual.result c.from_residual.ensures.1 in
-    rw (p.1, p.2) (promised-again c.in_err-start.ensures.again refl)
+    rw (err_is c.from_residual.ensures.1) (promised-again c.in_err-start.ensures.again refl)
 
 pub returns-in_err-start-clause-binds : goal.returns-in_err-start-clause-binds
 returns-in_err-start-clause-binds g c = λ runs. bound-kept g.I.Tokens.model g.B.BodyForms.forms

@@ -1,5 +1,6 @@
-use Rattle.std.proofs.{Common.refl, lemmas.Result.err_from_is_err_and}
+use Rattle.std.proofs.Common.{refl}
 use Rattle.swc_nodes.specs.GrowingNodes.{tree_at}
+use Rattle.swc_steps.proofs.Refused.{err_is}
 use Rattle.swc_steps.specs.Params.{pat_at}
 use Rattle.swc_ecma_parser.specs.Calls.{buffer_of, nodes_of}
 use Rattle.swc_ecma_parser.proofs.{Calling.promised-again, Left.pat-left, Patterns.bound-marked-element, Top.element-stops, Wholes.promised-numbered}
@@ -7,8 +8,7 @@ use Rattle.swc_ecma_parser.proofs.parser.Parser.parse_binding_element_id.Goals a
 
 pub returns-in_err-start-clause-promised : goal.returns-in_err-start-clause-promised
 returns-in_err-start-clause-promised g c =
-    let p = err_from_is_err_and c.from_residual.result c.from_residual.ensures.1 in
-    rw (p.1, p.2) (promised-again c.in_err-start.ensures.again refl)
+    rw (err_is c.from_residual.ensures.1) (promised-again c.in_err-start.ensures.again refl)
 
 pub returns-in_err-start-clause-binds : goal.returns-in_err-start-clause-binds
 returns-in_err-start-clause-binds g c = λ runs. bound-marked-element g.I.Tokens.model g.B.BodyForms.forms

@@ -1,13 +1,12 @@
-use Rattle.std.proofs.{Common.refl, Common.sym, lemmas.Result.err_from_is_err_and}
+use Rattle.std.proofs.Common.{refl, sym}
+use Rattle.swc_steps.proofs.Refused.{err_is}
 use Rattle.swc_ecma_parser.specs.Calls.{nodes_of, commas_of}
 use Rattle.swc_ecma_parser.proofs.ForHeads.{head-again, head-bare, head-boxes-checked, head-moved, head-promised, head-recalled, head-told, promised-head}
 use Rattle.swc_ecma_parser.proofs.Moving.{cut-back}
 use Rattle.swc_ecma_parser.proofs.parser.Parser.parse_for_head.Goals as goal
 
 pub returns-in_err-start : goal.returns-in_err-start
-returns-in_err-start g c =
-    let p = err_from_is_err_and c.from_residual.result c.from_residual.ensures.1 in
-    rw (p.1, p.2) (head-again c.in_err-start.ensures.again refl)
+returns-in_err-start g c = rw (err_is c.from_residual.ensures.1) (head-again c.in_err-start.ensures.again refl)
 
 pub returns : goal.returns
 returns g c =

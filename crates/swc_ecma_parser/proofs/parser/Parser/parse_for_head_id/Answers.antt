@@ -1,14 +1,13 @@
-use Rattle.std.proofs.{Common.refl, Common.sym, lemmas.Result.err_from_is_err_and}
+use Rattle.std.proofs.Common.{refl, sym}
 use Rattle.swc_nodes.specs.{GrowingNodes.Apart, NodeParts.for_head_parts}
+use Rattle.swc_steps.proofs.Refused.{err_is}
 use Rattle.swc_ecma_parser.specs.{Calls.nodes_of, Calls.commas_of, ForHeads.for_head_at}
 use Rattle.swc_ecma_parser.proofs.ForHeads.{head-again, head-checked, head-kept, head-marked, head-promised, head-recalled, head-told, promised-head}
 use Rattle.swc_ecma_parser.proofs.{Finished.checked-holds, Moving.kept-parts}
 use Rattle.swc_ecma_parser.proofs.parser.Parser.parse_for_head_id.Goals as goal
 
 pub returns-in_err-start : goal.returns-in_err-start
-returns-in_err-start g c =
-    let p = err_from_is_err_and c.from_residual.result c.from_residual.ensures.1 in
-    rw (p.1, p.2) (head-again c.in_err-start.ensures.again refl)
+returns-in_err-start g c = rw (err_is c.from_residual.ensures.1) (head-again c.in_err-start.ensures.again refl)
 
 pub returns : goal.returns
 returns g c =

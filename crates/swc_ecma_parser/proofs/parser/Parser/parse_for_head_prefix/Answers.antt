@@ -1,6 +1,6 @@
 use Rattle.std.proofs.Common.{refl, sym, ap}
-use Rattle.std.proofs.lemmas.Result.{err_from_is_err_and}
 use Rattle.swc_nodes.specs.{GrowingNodes.bare_at, NodeParts.one_expr, declared.node.ExprId.ExprId}
+use Rattle.swc_steps.proofs.Refused.{err_is}
 use Rattle.swc_steps.specs.Parsing.{tree_of}
 use Rattle.swc_ast.specs.Trees.{unmarked}
 use Rattle.swc_ecma_parser.specs.Calls.{nodes_of, commas_of, tree_by}
@@ -11,9 +11,7 @@ use Rattle.swc_ecma_parser.proofs.{Calling.promised, Finished.expr-boxes-checked
 use Rattle.swc_ecma_parser.proofs.parser.Parser.parse_for_head_prefix.Goals as goal
 
 pub returns-in_err-start : goal.returns-in_err-start
-returns-in_err-start g c =
-    let p = err_from_is_err_and c.from_residual.result c.from_residual.ensures.1 in
-    rw (p.1, p.2) (prefix-again c.in_err-start.ensures.again refl)
+returns-in_err-start g c = rw (err_is c.from_residual.ensures.1) (prefix-again c.in_err-start.ensures.again refl)
 
 pub returns : goal.returns
 returns g c =

@@ -1,14 +1,13 @@
-use Rattle.std.proofs.{Common.refl, Common.sym, lemmas.Result.err_from_is_err_and}
+use Rattle.std.proofs.Common.{refl, sym}
 use Rattle.swc_nodes.specs.{GrowingNodes.Apart, NodeParts.flat, NodeParts.param_parts}
+use Rattle.swc_steps.proofs.Refused.{err_is}
 use Rattle.swc_ecma_parser.specs.Calls.{nodes_of, commas_of}
 use Rattle.swc_ecma_parser.proofs.FormalParams.{derives-marked, meets-params, params-again, params-alone, params-apart, params-checked, params-kept, promised-params}
 use Rattle.swc_ecma_parser.proofs.{Finished.checked-holds, Moving.kept-parts}
 use Rattle.swc_ecma_parser.proofs.parser.Parser.parse_formal_params_id.Goals as goal
 
 pub returns-in_err-start : goal.returns-in_err-start
-returns-in_err-start g c =
-    let p = err_from_is_err_and c.from_residual.result c.from_residual.ensures.1 in
-    rw (p.1, p.2) (params-again c.in_err-start.ensures.again refl)
+returns-in_err-start g c = rw (err_is c.from_residual.ensures.1) (params-again c.in_err-start.ensures.again refl)
 
 pub returns : goal.returns
 returns g c =

@@ -1,7 +1,8 @@
 use Rattle.std.specs.Prelude.{true}
-use Rattle.std.proofs.{Common.refl, lemmas.Result.err_from_is_err_and}
+use Rattle.std.proofs.Common.{refl}
 use Rattle.swc_grammar.specs.Names.{ReadsName, Name}
 use Rattle.swc_ident.specs.Verdicts.{name_of_any}
+use Rattle.swc_steps.proofs.Refused.{err_is}
 use Rattle.swc_steps.specs.Parsing.{name_spelling}
 use Rattle.swc_ecma_parser.specs.Promise.{Anywhere}
 use Rattle.swc_steps.proofs.Naming.{honest-name, parses_name, word_of}
@@ -10,8 +11,8 @@ use Rattle.swc_ecma_parser.proofs.Top as top
 use Rattle.swc_ecma_parser.proofs.parser.Parser.parse_ident_name.Goals as goal
 
 pub returns-in_err-begin : goal.returns-in_err-begin
-returns-in_err-begin g c = let p = err_from_is_err_and c.from_residual.result c.from_residual.ensures.1 in
-    rw (p.1, p.2) (called-again c.in_err-begin.ensures.again)
+returns-in_err-begin g c = 
+    rw (err_is c.from_residual.ensures.1) (called-again c.in_err-begin.ensures.again)
 
 pub returns : goal.returns
 returns g c =

@@ -1,7 +1,7 @@
 use Rattle.std.proofs.Common.{◌≡◌, map, refl, sym, ◌∙◌}
-use Rattle.std.proofs.lemmas.Result.{err_from_is_err_and}
 use Rattle.swc_input.specs.{Buffer.last_position, Recording.no_memory}
 use Rattle.swc_ast.specs.{Tree.trees, TreeOf.pat_tree, Trees.are_valid, Trees.all_unmarked}
+use Rattle.swc_steps.proofs.Refused.{err_is}
 use Rattle.swc_cover.specs.{Items.want_items, Refining.pats_at}
 use Rattle.swc_nodes.specs.{GrowingNodes.count, GrowingNodes.tree_at, Lists.pats_parts}
 use Rattle.swc_ecma_parser.specs.Calls.{buffer_of, nodes_of, commas_of}
@@ -14,9 +14,7 @@ lift_out-answer-requires g c = rw (c.in_ok-start.ensures.start)
     (of-answer _ _ _ c.recast_items-answer.result c.recast_items-answer.ensures.recasts (λ x w. w.apart))
 
 pub returns-in_err-start : goal.returns-in_err-start
-returns-in_err-start g c =
-    let p = err_from_is_err_and c.from_residual.result c.from_residual.ensures.1 in
-    rw (p.1, p.2) (refinement-again refl c.in_err-start.ensures.again)
+returns-in_err-start g c = rw (err_is c.from_residual.ensures.1) (refinement-again refl c.in_err-start.ensures.again)
 
 pub returns : goal.returns
 returns g c =

@@ -1,14 +1,14 @@
-use Rattle.std.proofs.{Common.refl, lemmas.Result.err_from_is_err_and}
+use Rattle.std.proofs.Common.{refl}
 use Rattle.swc_ast.specs.TreeOf.{pat_tree}
 use Rattle.swc_nodes.specs.GrowingNodes.{tree_at}
+use Rattle.swc_steps.proofs.Refused.{err_is}
 use Rattle.swc_ecma_parser.specs.Calls.{buffer_of}
 use Rattle.swc_ecma_parser.proofs.{Calling.promised-again, Left.pat-left, Patterns.bound-pat, Top.pat-stops, Wholes.promised-boxed}
 use Rattle.swc_ecma_parser.proofs.parser.Parser.parse_pat.Goals as goal
 
 pub returns-in_err-start-clause-promised : goal.returns-in_err-start-clause-promised
 returns-in_err-start-clause-promised g c =
-    let p = err_from_is_err_and c.from_residual.result c.from_residual.ensures.1 in
-    rw (p.1, p.2) (promised-again c.in_err-start.ensures.again refl)
+    rw (err_is c.from_residual.ensures.1) (promised-again c.in_err-start.ensures.again refl)
 
 pub returns-in_err-start-clause-binds : goal.returns-in_err-start-clause-binds
 returns-in_err-start-clause-binds g c = λ runs. bound-pat g.I.Tokens.model g.B.BodyForms.forms

@@ -1,8 +1,8 @@
 use Rattle.std.proofs.Common.{refl, sym, ◌∙◌}
-use Rattle.std.proofs.lemmas.Result.{err_from_is_err_and}
 use Rattle.swc_grammar.specs.{Symbols.Key, Clean.sym as at, Clean.run}
 use Rattle.swc_nodes.specs.{GrowingNodes.tree_at, NodeParts.key_parts}
 use Rattle.swc_nodes.proofs.Remembered.{key-commas}
+use Rattle.swc_steps.proofs.Refused.{err_is}
 use Rattle.swc_steps.specs.Parsing.{key_at}
 use Rattle.swc_ecma_parser.specs.Calls.{nodes_of, commas_of}
 use Rattle.swc_ecma_parser.proofs.Moving.{kept-moved, kept-parses, kept-parts, recalled}
@@ -11,8 +11,7 @@ use Rattle.swc_ecma_parser.proofs.parser.Parser.parse_prop_name_id.Goals as goal
 
 pub returns-in_err-start : goal.returns-in_err-start
 returns-in_err-start g c =
-    let p = err_from_is_err_and c.from_residual.result c.from_residual.ensures.1 in
-    rw (p.1, p.2) (record { promised = promised-again c.in_err-start.ensures.again refl })
+    rw (err_is c.from_residual.ensures.1) (record { promised = promised-again c.in_err-start.ensures.again refl })
 
 pub returns : goal.returns
 returns g c =

@@ -1,6 +1,6 @@
 use Rattle.std.proofs.Common.{refl, sym, ◌∙◌}
-use Rattle.std.proofs.lemmas.Result.{err_from_is_err_and}
 use Rattle.swc_ast.specs.{TreeOf.pat_tree, Trees.is_valid, Trees.unmarked}
+use Rattle.swc_steps.proofs.Refused.{err_is}
 use Rattle.swc_cover.specs.PatTypes.{want_as}
 use Rattle.swc_nodes.specs.{GrowingNodes.count, NodeParts.one_pat}
 use Rattle.swc_steps.specs.Params.{pat_at}
@@ -14,9 +14,7 @@ lift_out-answer-requires g c = rw (c.in_ok-start.ensures.start)
     (of-answer _ _ _ c.recast_expr-answer.result c.recast_expr-answer.ensures.recasts (λ x w. w.apart))
 
 pub returns-in_err-start : goal.returns-in_err-start
-returns-in_err-start g c =
-    let p = err_from_is_err_and c.from_residual.result c.from_residual.ensures.1 in
-    rw (p.1, p.2) (refinement-again refl c.in_err-start.ensures.again)
+returns-in_err-start g c = rw (err_is c.from_residual.ensures.1) (refinement-again refl c.in_err-start.ensures.again)
 
 pub returns : goal.returns
 returns g c =

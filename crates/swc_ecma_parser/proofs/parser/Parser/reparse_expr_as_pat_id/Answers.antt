@@ -1,7 +1,7 @@
 use Rattle.std.proofs.Common.{◌≡◌, refl, sym, subst}
-use Rattle.std.proofs.lemmas.Result.{err_from_is_err_and}
 use Rattle.swc_input.specs.{Buffer.context, Buffer.last_position, Recording.no_memory}
 use Rattle.swc_ast.specs.Trees.{is_valid}
+use Rattle.swc_steps.proofs.Refused.{err_is}
 use Rattle.swc_cover.specs.{Moving.KeptTo, Noting.JudgesBy, PatTypes.pattern_as, PatTypes.verdict_as, PatTypes.want_as}
 use Rattle.swc_cover.specs.Refining.{Refined}
 use Rattle.swc_cover.proofs.Kept.{none-kept}
@@ -14,8 +14,7 @@ use Rattle.swc_ecma_parser.proofs.parser.Parser.reparse_expr_as_pat_id.Goals as 
 
 pub returns-in_err-begin-clause-promised : goal.returns-in_err-begin-clause-promised
 returns-in_err-begin-clause-promised g c =
-    let p = err_from_is_err_and c.from_residual.result c.from_residual.ensures.1 in
-    rw (p.1, p.2) (refinement-again (none-kept c.requires) c.in_err-begin.ensures.again)
+    rw (err_is c.from_residual.ensures.1) (refinement-again (none-kept c.requires) c.in_err-begin.ensures.again)
 
 pub returns-clause-promised : goal.returns-clause-promised
 returns-clause-promised g c =

@@ -1,16 +1,14 @@
 use Rattle.std.proofs.Common.{sym, ◌∙◌}
-use Rattle.std.proofs.lemmas.Result.{err_from_is_err_and}
 use Rattle.swc_input.specs.Buffer.{last_position}
 use Rattle.swc_nodes.specs.GrowingNodes.{count}
+use Rattle.swc_steps.proofs.Refused.{err_is}
 use Rattle.swc_ecma_parser.specs.Calls.{buffer_of, nodes_of, commas_of, tree_by}
 use Rattle.swc_ecma_parser.proofs.Verified.{meets-verification, moved-given, promised-verification, verification-again}
 use Rattle.swc_ecma_parser.proofs.{Bare.bare-boxed, Moving.cut-back}
 use Rattle.swc_ecma_parser.proofs.parser.Parser.verify_expr.Goals as goal
 
 pub returns-in_err-start : goal.returns-in_err-start
-returns-in_err-start g c =
-    let p = err_from_is_err_and c.from_residual.result c.from_residual.ensures.1 in
-    rw (p.1, p.2) (verification-again c.in_err-start.ensures.again)
+returns-in_err-start g c = rw (err_is c.from_residual.ensures.1) (verification-again c.in_err-start.ensures.again)
 
 pub returns : goal.returns
 returns g c =

@@ -1,5 +1,6 @@
-use Rattle.std.proofs.{Common.arith, lemmas.Result.err_from_is_err_and}
+use Rattle.std.proofs.Common.{arith}
 use Rattle.swc_ast.specs.TreeOf.{pat_prop_tree}
+use Rattle.swc_steps.proofs.Refused.{err_is}
 use Rattle.swc_patterns.proofs.PropRests.{seen_none, seen_more, seen_all}
 use Rattle.swc_steps.proofs.Steps.{forgoes_later, unheard_memory}
 use Rattle.swc_ecma_parser.proofs.RestsNoted.{noted-all, noted-more, noted-none}
@@ -15,14 +16,12 @@ loop-prop-init g c = (
 
 pub returns-in_err-check_earlier_rest-clause-checks : goal.returns-in_err-check_earlier_rest-clause-checks
 returns-in_err-check_earlier_rest-clause-checks g c =
-    let p = err_from_is_err_and c.from_residual.result c.from_residual.ensures.1 in rw (p.1, p.2)
-    (λ sure. unheard_memory (forgoes_later c.loop-prop.invariant.0.checks.leads
+    rw (err_is c.from_residual.ensures.1) (λ sure. unheard_memory (forgoes_later c.loop-prop.invariant.0.checks.leads
     c.in_err-check_earlier_rest.ensures.checks))
 
 pub returns-in_err-check_earlier_rest-clause-judges : goal.returns-in_err-check_earlier_rest-clause-judges
 returns-in_err-check_earlier_rest-clause-judges g c =
-    let p = err_from_is_err_and c.from_residual.result c.from_residual.ensures.1 in rw (p.1, p.2)
-    (λ n. absurd (n c.in_err-check_earlier_rest.ensures.checks.kind))
+    rw (err_is c.from_residual.ensures.1) (λ n. absurd (n c.in_err-check_earlier_rest.ensures.checks.kind))
 
 pub loop-prop-preserved : goal.loop-prop-preserved
 loop-prop-preserved g c = (

@@ -1,10 +1,11 @@
-use Rattle.std.proofs.{Common.Ok, Common.Err, lemmas.Result.err_from_is_err_and}
+use Rattle.std.proofs.Common.{Ok, Err}
+use Rattle.swc_steps.proofs.Refused.{err_is}
 use Rattle.swc_steps.proofs.Steps.{looks}
 use Rattle.swc_steps.proofs.productions.Productions.is_end.Goals as goal
 
 pub returns-in_err-has_cur-clause-looks : goal.returns-in_err-has_cur-clause-looks
 returns-in_err-has_cur-clause-looks g c =
-    let p = err_from_is_err_and c.from_residual.result c.from_residual.ensures.1 in rw (p.1, p.2)
+    rw (err_is c.from_residual.ensures.1)
     (looks g.met.I.Tokens.laws _ _ (Err c.in_err-has_cur.field-0.0) c.in_err-has_cur.ensures.looked tt
     c.in_err-has_cur.ensures.refused)
 

@@ -1,13 +1,12 @@
 use Rattle.std.proofs.Common.{Err, refl, ap, ◌∙◌}
-use Rattle.std.proofs.lemmas.Result.{err_from_is_err_and}
+use Rattle.swc_steps.proofs.Refused.{err_is}
 use Rattle.swc_ecma_parser.proofs.Calling.{failing, not_both}
 use Rattle.swc_ecma_parser.proofs.parser.object.ParserParseObjectPatOf.make_object.Goals as goal
 
 pub returns-in_err-begin : goal.returns-in_err-begin
 returns-in_err-begin g c =
-    let p = err_from_is_err_and c.from_residual.result c.from_residual.ensures.1 in
     let h = c.in_err-begin.ensures.again in
-    rw (p.1, p.2) (record {
+    rw (err_is c.from_residual.ensures.1) (record {
       again = λ failed. (refl, ap (λ x. Err x) h.1);
       makes = λ runs. absurd (not_both h.0 runs);
       nodes = refl;

@@ -1,8 +1,9 @@
-use Rattle.std.proofs.{Common.refl, Common.sym, lemmas.Result.err_from_is_err_and}
+use Rattle.std.proofs.Common.{refl, sym}
 use Rattle.swc_ast.specs.{TreeOf.pat_prop_tree, Trees.unmarked}
 use Rattle.swc_grammar.specs.Reads.{Reads}
 use Rattle.swc_nodes.specs.{GrowingNodes.tree_at, GrowingNodes.bare_at, NodeParts.pat_prop_parts, NodeTree.pat_prop_of, declared.node.PatPropNode.PatPropNode}
 use Rattle.swc_nodes.proofs.{Remembered.pat-prop-commas, Unmarked.unmarked-pat-prop}
+use Rattle.swc_steps.proofs.Refused.{err_is}
 use Rattle.swc_patterns.specs.{Answers.pat_prop_at, Objects.pat_prop_item}
 use Rattle.swc_ecma_parser.specs.{Calls.nodes_of, Calls.commas_of, Promise.PropOrRest}
 use Rattle.swc_ecma_parser.proofs.Calling.{promised}
@@ -11,9 +12,7 @@ use Rattle.swc_ecma_parser.proofs.Patterns.{either-sound, meets-pat-prop, rest-a
 use Rattle.swc_ecma_parser.proofs.parser.object.ParserParseObjectPatOf.parse_object_prop.Goals as goal
 
 pub returns-in_err-start : goal.returns-in_err-start
-returns-in_err-start g c =
-    let p = err_from_is_err_and c.from_residual.result c.from_residual.ensures.1 in
-    rw (p.1, p.2) (pat-prop-again c.in_err-start.ensures.again refl)
+returns-in_err-start g c = rw (err_is c.from_residual.ensures.1) (pat-prop-again c.in_err-start.ensures.again refl)
 
 pub returns : goal.returns
 returns g c =
