@@ -17,7 +17,7 @@ use Rattle.swc_patterns.proofs.PartlyRead.{left}
 use Rattle.swc_input.specs.Calls.{Here}
 use Rattle.swc_steps.specs.Parsing.{breaks_at, scope, seen, seen_of, Tells, On, Unheard}
 use Rattle.swc_steps.specs.{Keys.expected, declared.productions.Productions.Productions}
-use Rattle.swc_steps.proofs.Steps.{Reader, give, less, read_scope, here_leads, forgoes_later, forgoes_here, on_told, unheard_after, unheard_memory}
+use Rattle.swc_steps.proofs.Steps.{Reader, give, less, read_scope, here_leads, forgoes_later, forgoes_here, on_told, unheard_after, unheard_memory, and_false}
 use Rattle.swc_steps.proofs.{Lists.binds, Steps.Consumed.here, Steps.Tokens.on_then}
 use Rattle.swc_arrows.specs.Answers.{beginning_of, beginning_behind, OneParam, Opens}
 use Rattle.swc_arrows.specs.Readers.{arrow_behind, name_behind, name_arrow, async_of, async_param, async_behind, async_arrow, arrow_on_line, is_of_alone, of_alone}
@@ -40,10 +40,6 @@ ok_strict true s o h k = rw (h, k) refl
 ok_strict false s o h k = refl
 
 -- ---- `=>` after a parameter
-
-and_false : (a : Bool) → (a && false) ≡ false
-and_false true = refl
-and_false false = refl
 
 pub line_unasked : (x : Scope) (ts : List TokenAndSpan) → x.syntax.pedantic ≡ false → arrow_on_line x ts ≡ Some (tt, ts)
 line_unasked x ts h = rw (h, and_false (at_token is_arrow (first ts))) refl

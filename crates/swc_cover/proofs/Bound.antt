@@ -9,14 +9,7 @@ use Rattle.swc_grammar.specs.Patterns.{binds_names, all_bind_names, prop_binds_n
 use Rattle.swc_grammar.proofs.Meets.{all-meet}
 use Rattle.swc_cover.specs.ReservedNames.{reserved_spans, all_reserved, prop_reserved, props_reserved, has_none, names_ok}
 use Rattle.swc_cover.specs.{Fits.Binding, Fits.elems_fit, Refining.takes_arrow_params, Refining.params_ok}
-
-both-left : (a b : Bool) → (a && b) ≡ true → a ≡ true
-both-left true b h = refl
-both-left false b h = cc
-
-both-right : (a b : Bool) → (a && b) ≡ true → b ≡ true
-both-right true b h = h
-both-right false b h = cc
+use Rattle.swc_steps.proofs.Steps.{both_left, both_right}
 
 none-both : {A : Type 0} (xs ys : List A) → has_none (xs ++ ys) ≡ (has_none xs && has_none ys)
 none-both [] ys = refl
@@ -47,24 +40,24 @@ module _ {F C K : Type 0} where
     all-free : (ps : Trees F C K) → all_bind_names any ps ≡ true → all_bind_names free ps ≡ has_none (all_reserved ps)
     all-free nil h = refl
     all-free (cons p ps) h =
-        both-same (free-is p (both-left (binds_names any p) (all_bind_names any ps) h))
-        (all-free ps (both-right (binds_names any p) (all_bind_names any ps) h))
+        both-same (free-is p (both_left (binds_names any p) (all_bind_names any ps) h))
+        (all-free ps (both_right (binds_names any p) (all_bind_names any ps) h))
         ∙ sym (none-both (reserved_spans p) (all_reserved ps))
 
     prop-free : (p : Tree F C K) → prop_binds_names any p ≡ true → prop_binds_names free p ≡ has_none (prop_reserved p)
     prop-free (node key_value s (cons k (cons p ts))) h = free-is p h
     prop-free (node binding_prop s (cons n ts)) h = free-is n h
     prop-free (node rest s (cons d (cons p ts))) h =
-        ap (λ b. b && binds_names free p) (both-left (is_ident p) (binds_names any p) h)
-        ∙ free-is p (both-right (is_ident p) (binds_names any p) h)
+        ap (λ b. b && binds_names free p) (both_left (is_ident p) (binds_names any p) h)
+        ∙ free-is p (both_right (is_ident p) (binds_names any p) h)
     prop-free p h = cc
 
     props-free : (ps : Trees F C K) → props_bind_names any ps ≡ true →
         props_bind_names free ps ≡ has_none (props_reserved ps)
     props-free nil h = refl
     props-free (cons p ps) h =
-        both-same (prop-free p (both-left (prop_binds_names any p) (props_bind_names any ps) h))
-        (props-free ps (both-right (prop_binds_names any p) (props_bind_names any ps) h))
+        both-same (prop-free p (both_left (prop_binds_names any p) (props_bind_names any ps) h))
+        (props-free ps (both_right (prop_binds_names any p) (props_bind_names any ps) h))
         ∙ sym (none-both (prop_reserved p) (props_reserved ps))
 
   params-by : (m : Bool) (ps : Trees F C K) → all_bind_names any ps ≡ true →

@@ -6,7 +6,7 @@ use Rattle.swc_input.specs.{Buffer.context, Recording.no_memory, Source.Model, S
 use Rattle.swc_cover.proofs.Quiet.{kept-clean}
 use Rattle.swc_cover.specs.Faults.{Verdict, clean, Recorded}
 use Rattle.swc_cover.specs.{ReservedNames.has_none, Refining.ChecksWhole, Refining.Unfitting, declared.faults.Fault.Fault}
-use Rattle.swc_steps.proofs.Steps.{check_passes, checks_and, forgoes_here, forgoes_refuses, refuses_later, more_recorded, loud_after}
+use Rattle.swc_steps.proofs.Steps.{check_passes, checks_and, forgoes_here, forgoes_refuses, refuses_later, more_recorded, loud_after, and_false}
 use Rattle.swc_steps.proofs.{Ahead.is_some_none, Steps.Consumed.leads_then}
 use Rattle.swc_input.specs.Calls.{Checks, Forgoes, Leads, Loud, Refuses, recorded}
 
@@ -27,10 +27,6 @@ none-all xs ys i same h = taken xs i h ∙ ap has_none same
     taken [] (suc i) h = refl
     taken (x ∷ xs) zero h = absurd (omega (arith, h))
     taken (x ∷ xs) (suc i) h = refl
-
-and-false : (a : Bool) → (a && false) ≡ false
-and-false true = refl
-and-false false = refl
 
 waits-more : (m x : Bool) → ((not m || x) && not m) ≡ (not m || false)
 waits-more true true = refl
@@ -53,7 +49,7 @@ module _ {S : Type 0} {model : Model S} where
       Leads model c d → (Loud model c → recorded model c < recorded model d) →
       Checks model (has_none (take (i + 1) xs)) b d
   faults-more xs i {b} {c} {d} lt h p n =
-      subst (λ v. Checks model v b d) (and-false (has_none (take i xs)) ∙ sym (none-more xs i lt))
+      subst (λ v. Checks model v b d) (and_false (has_none (take i xs)) ∙ sym (none-more xs i lt))
       (checks_and (has_none (take i xs)) false h (record { leads = p; passes = λ w. cc; notes = λ w l. n l }))
 
   -- one more name that may not be bound, in a module or not

@@ -10,15 +10,11 @@ use Rattle.swc_cover.specs.Faults.{Verdict, Recorded, clean, params_verdict}
 use Rattle.swc_cover.specs.{Clear.is_clear, Fits.Binding, Fits.elems_fit, ReservedNames.has_none, ReservedNames.names_ok, PatTypes.fits_as, PatTypes.verdict_as, declared.faults.Fault.Fault, declared.pat_type.PatType.PatType}
 use Rattle.swc_input.specs.Calls.{Checks}
 use Rattle.swc_steps.specs.Parsing.{seen_of}
-use Rattle.swc_steps.proofs.Steps.{checks_and}
+use Rattle.swc_steps.proofs.Steps.{checks_and, and_false}
 
 and-true : (a : Bool) → (a && true) ≡ a
 and-true true = refl
 and-true false = refl
-
-and-false : (a : Bool) → (a && false) ≡ false
-and-false true = refl
-and-false false = refl
 
 none-of : {A : Type 0} (o : Option A) → IsSome o → is_none o ≡ false
 none-of None h = absurd cc
@@ -66,7 +62,7 @@ params-then {model = model} {ok = ok} {b} {c} {d} ps h k =
 pub found-unclear : {v : Verdict} {now : List Fault} {r : Option Span} → Recorded [] v now r → IsSome r
     → is_clear v ≡ false
 found-unclear {v} x h =
-    ap (λ k. has_none v.faults && k) (none-of v.refused (subst IsSome x.refused h)) ∙ and-false (has_none v.faults)
+    ap (λ k. has_none v.faults && k) (none-of v.refused (subst IsSome x.refused h)) ∙ and_false (has_none v.faults)
 
 by-both : (a b : Bool) → (a ≡ true → b ≡ true) → (b ≡ true → a ≡ true) → a ≡ b
 by-both true b h k = sym (h refl)

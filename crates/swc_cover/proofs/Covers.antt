@@ -6,16 +6,9 @@ use Rattle.swc_ast.specs.Trees.{is_ident}
 use Rattle.swc_grammar.specs.Cover.{is_hole}
 use Rattle.swc_cover.specs.Fits.{binds, all_bind, prop_binds, props_bind}
 use Rattle.swc_cover.specs.Wanted.{Role, Keep, Rebind, Becomes, Same, Held, Ident, Array, Object, Objects, Default, Nothing, all_holes, rest_ok, rest_of, put_prop, pat_props, shallow_as, want, want_parts, part_as, Inside, Holder}
+use Rattle.swc_steps.proofs.Steps.{both_left, both_right}
 
 -- ---- tests, and what is answered by them
-
-both-left : (a b : Bool) → (a && b) ≡ true → a ≡ true
-both-left true b h = refl
-both-left false b h = cc
-
-both-right : (a b : Bool) → (a && b) ≡ true → b ≡ true
-both-right true b h = h
-both-right false b h = cc
 
 module _ {F C K : Type 0} where
   span-shallow : (b : Becomes) (r : Role) (k : Kind F C K) (s : Span) (ts : Trees F C K) →
@@ -92,15 +85,15 @@ module _ {F C K : Type 0} where
     all-same nil h = refl
     all-same (cons t ts) h =
         ap (λ v. cons v (want_parts Same Rebind (array_with None) ts))
-        (binds-same t (both-left (binds t) (all_bind ts) h))
-        ∙ ap (cons t) (all-same ts (both-right (binds t) (all_bind ts) h))
+        (binds-same t (both_left (binds t) (all_bind ts) h))
+        ∙ ap (cons t) (all-same ts (both_right (binds t) (all_bind ts) h))
 
     props-same : (k : Kind F C K) (ts : Trees F C K) → props_bind ts ≡ true →
         pat_props Rebind (want_parts Objects Rebind k ts) ≡ ts
     props-same k nil h = refl
     props-same k (cons (node j s us) ts) h =
-        prop-same k j s us ts (both-left (prop_binds (node j s us)) (props_bind ts) h)
-        (props-same k ts (both-right (prop_binds (node j s us)) (props_bind ts) h))
+        prop-same k j s us ts (both_left (prop_binds (node j s us)) (props_bind ts) h)
+        (props-same k ts (both_right (prop_binds (node j s us)) (props_bind ts) h))
 
     prop-same : (k j : Kind F C K) (s : Span) (us ts : Trees F C K) → prop_binds (node j s us) ≡ true →
         pat_props Rebind (want_parts Objects Rebind k ts) ≡ ts →

@@ -9,14 +9,7 @@ use Rattle.swc_grammar.specs.Cover.{is_assign, is_pattern}
 use Rattle.swc_cover.specs.Fits.{Way, Binding, Target, fits, elems_fit, props_fit, left_fits, rest_held, binds, all_bind, prop_binds, props_bind}
 use Rattle.swc_cover.specs.Faults.{param_faults, params_verdict, Verdict, clean, recorded, goes_on, also, one_if, spread_faults, comma_faults, rest_faults, held_verdict, plain_assignment, own_faults, left_faults, may_rest, verdict, elems_verdict, props_verdict, again, all_again, prop_again, props_again, Recorded}
 use Rattle.swc_cover.specs.{declared.faults.Fault.Fault, declared.faults.FaultKind.FaultKind as fault}
-
-both-left : (a b : Bool) → (a && b) ≡ true → a ≡ true
-both-left true b h = refl
-both-left false b h = cc
-
-both-right : (a b : Bool) → (a && b) ≡ true → b ≡ true
-both-right true b h = h
-both-right false b h = cc
+use Rattle.swc_steps.proofs.Steps.{both_left, both_right}
 
 none-both : (fs gs : List Fault) → fs ≡ [] → gs ≡ [] → fs ++ gs ≡ []
 none-both fs gs e f = rw (e, f) refl
@@ -90,8 +83,8 @@ module _ {F C K : Type 0} where
 
     all-quiet : (ts : Trees F C K) → all_bind ts ≡ true → all_again ts ≡ []
     all-quiet nil h = refl
-    all-quiet (cons t ts) h = none-both (again t) (all_again ts) (binds-quiet t (both-left (binds t) (all_bind ts) h))
-        (all-quiet ts (both-right (binds t) (all_bind ts) h))
+    all-quiet (cons t ts) h = none-both (again t) (all_again ts) (binds-quiet t (both_left (binds t) (all_bind ts) h))
+        (all-quiet ts (both_right (binds t) (all_bind ts) h))
 
     prop-quiet : (t : Tree F C K) → prop_binds t ≡ true → prop_again t ≡ []
     prop-quiet (node key_value s (cons k (cons v nil))) h = binds-quiet v h
@@ -107,8 +100,8 @@ module _ {F C K : Type 0} where
     props-quiet : (ts : Trees F C K) → props_bind ts ≡ true → props_again ts ≡ []
     props-quiet nil h = refl
     props-quiet (cons t ts) h = none-both (prop_again t) (props_again ts)
-        (prop-quiet t (both-left (prop_binds t) (props_bind ts) h))
-        (props-quiet ts (both-right (prop_binds t) (props_bind ts) h))
+        (prop-quiet t (both_left (prop_binds t) (props_bind ts) h))
+        (props-quiet ts (both_right (prop_binds t) (props_bind ts) h))
 
   -- ---- an expression that is a pattern
 
@@ -183,8 +176,8 @@ module _ {F C K : Type 0} where
     elems-quiet w c nil h = refl
     elems-quiet w c (cons (node hole s nil) es) h = elems-quiet w c es h
     elems-quiet w c (cons (node item s (cons t nil)) es) h =
-        also-both (verdict w t) (elems_verdict w c es) (fits-quiet w t (both-left (fits w t) (elems_fit w c es) h))
-        (elems-quiet w c es (both-right (fits w t) (elems_fit w c es) h))
+        also-both (verdict w t) (elems_verdict w c es) (fits-quiet w t (both_left (fits w t) (elems_fit w c es) h))
+        (elems-quiet w c es (both_right (fits w t) (elems_fit w c es) h))
     elems-quiet w c (cons (node spread s (cons (node k d us) (cons t nil))) nil) h = also-both
         (goes_on (spread_faults true c d t) None (verdict w t)) clean (spread-quiet w c d t (fits-quiet w t) h) refl
     elems-quiet w c (cons (node spread s (cons (node k d us) (cons t nil))) (cons e es)) h = cc
@@ -195,8 +188,8 @@ module _ {F C K : Type 0} where
     objs-quiet w c (cons (node shorthand s (cons i nil)) es) h = objs-quiet w c es h
     objs-quiet w c (cons (node cover s (cons i (cons e nil))) es) h = objs-quiet w c es h
     objs-quiet w c (cons (node key_value s (cons k (cons v nil))) es) h =
-        also-both (verdict w v) (props_verdict w c es) (fits-quiet w v (both-left (fits w v) (props_fit w c es) h))
-        (objs-quiet w c es (both-right (fits w v) (props_fit w c es) h))
+        also-both (verdict w v) (props_verdict w c es) (fits-quiet w v (both_left (fits w v) (props_fit w c es) h))
+        (objs-quiet w c es (both_right (fits w v) (props_fit w c es) h))
     objs-quiet w c (cons (node spread s (cons d (cons t nil))) nil) h = also-both
         (goes_on (rest_faults true c s) None (held_verdict w s t (verdict w t))) clean
         (rest-quiet w c s t (fits-quiet w t) h) refl
@@ -213,24 +206,24 @@ module _ {F C K : Type 0} where
     again-binds (node (array_with None) s ts) v h = all-binds ts v h
     again-binds (node (object_with None) s ts) v h = props-binds ts v h
     again-binds (node default s (cons l (cons r nil))) v h = again-binds l
-        (both-left (is_valid l) (are_valid (cons r nil)) v) h
+        (both_left (is_valid l) (are_valid (cons r nil)) v) h
     again-binds (node rest s (cons d (cons p nil))) v h = again-binds p
-        (both-left (is_valid p) true (both-right (is_valid d) (are_valid (cons p nil)) v)) h
+        (both_left (is_valid p) true (both_right (is_valid d) (are_valid (cons p nil)) v)) h
     again-binds (node k s ts) v h = cc
 
     all-binds : (ts : Trees F C K) → are_valid ts ≡ true → all_again ts ≡ [] → all_bind ts ≡ true
     all-binds nil v h = refl
     all-binds (cons t ts) v h =
-        both-are (binds t) (all_bind ts) (again-binds t (both-left (is_valid t) (are_valid ts) v)
+        both-are (binds t) (all_bind ts) (again-binds t (both_left (is_valid t) (are_valid ts) v)
         (none-left (again t) (all_again ts) h))
-        (all-binds ts (both-right (is_valid t) (are_valid ts) v) (none-right (again t) (all_again ts) h))
+        (all-binds ts (both_right (is_valid t) (are_valid ts) v) (none-right (again t) (all_again ts) h))
 
     prop-binds : (t : Tree F C K) → is_valid t ≡ true → prop_again t ≡ [] → prop_binds t ≡ true
     prop-binds (node key_value s (cons k (cons x nil))) v h = again-binds x
-        (both-left (is_valid x) true (both-right (is_valid k) (are_valid (cons x nil)) v)) h
+        (both_left (is_valid x) true (both_right (is_valid k) (are_valid (cons x nil)) v)) h
     prop-binds (node binding_prop s ts) v h = refl
     prop-binds (node rest s (cons d (cons p nil))) v h = rest-binds s p
-        (both-left (is_valid p) true (both-right (is_valid d) (are_valid (cons p nil)) v)) h
+        (both_left (is_valid p) true (both_right (is_valid d) (are_valid (cons p nil)) v)) h
     prop-binds (node k s ts) v h = cc
 
     rest-binds : (s : Span) (p : Tree F C K) → is_valid p ≡ true →
@@ -242,9 +235,9 @@ module _ {F C K : Type 0} where
     props-binds : (ts : Trees F C K) → are_valid ts ≡ true → props_again ts ≡ [] → props_bind ts ≡ true
     props-binds nil v h = refl
     props-binds (cons t ts) v h =
-        both-are (prop_binds t) (props_bind ts) (prop-binds t (both-left (is_valid t) (are_valid ts) v)
+        both-are (prop_binds t) (props_bind ts) (prop-binds t (both_left (is_valid t) (are_valid ts) v)
         (none-left (prop_again t) (props_again ts) h))
-        (props-binds ts (both-right (is_valid t) (are_valid ts) v) (none-right (prop_again t) (props_again ts) h))
+        (props-binds ts (both_right (is_valid t) (are_valid ts) v) (none-right (prop_again t) (props_again ts) h))
 
   -- the last spread
   spread-fits : (w : Way) (c : Option Span) (d : Span) (t : Tree F C K) → spread_faults true c d t ≡ [] →
@@ -321,9 +314,9 @@ module _ {F C K : Type 0} where
     quiet-fits Binding (node (object_with c) s ts) v h = quiet-props Binding c ts v h
     quiet-fits (Target strict) (node (object_with c) s ts) v h = quiet-props (Target strict) c ts v h
     quiet-fits Binding (node (assign op.Assign) s (cons l (cons r nil))) v h = left-fits Binding l (is_pattern l)
-        (both-left (is_valid l) (are_valid (cons r nil)) v) (quiet-fits Binding l) h
+        (both_left (is_valid l) (are_valid (cons r nil)) v) (quiet-fits Binding l) h
     quiet-fits (Target strict) (node (assign op.Assign) s (cons l (cons r nil))) v h = left-fits (Target strict) l
-        (is_pattern l) (both-left (is_valid l) (are_valid (cons r nil)) v) (quiet-fits (Target strict) l) h
+        (is_pattern l) (both_left (is_valid l) (are_valid (cons r nil)) v) (quiet-fits (Target strict) l) h
     quiet-fits Binding (node k s ts) v h = let e = own-none Binding (node k s ts) h in cc
     quiet-fits (Target strict) (node k s ts) v h = let e = own-none (Target strict) (node k s ts) h in cc
 
@@ -333,14 +326,14 @@ module _ {F C K : Type 0} where
     quiet-elems w c (cons (node hole s nil) es) v h = quiet-elems w c es v h
     quiet-elems w c (cons (node item s (cons t nil)) es) v h =
         both-are (fits w t) (elems_fit w c es)
-        (quiet-fits w t (both-left (is_valid t) true (both-left (is_valid t && true) (are_valid es) v))
+        (quiet-fits w t (both_left (is_valid t) true (both_left (is_valid t && true) (are_valid es) v))
         (also-first (verdict w t) (elems_verdict w c es) h))
-        (quiet-elems w c es (both-right (is_valid t && true) (are_valid es) v)
+        (quiet-elems w c es (both_right (is_valid t && true) (are_valid es) v)
         (also-second (verdict w t) (elems_verdict w c es) h))
     quiet-elems w c (cons (node spread s (cons (node k d us) (cons t nil))) nil) v h =
         let g = also-first (goes_on (spread_faults true c d t) None (verdict w t)) clean h in
-        let ok = both-left (is_valid t) true (both-right (is_valid (node k d us)) (is_valid t && true)
-        (both-left (is_valid (node k d us) && (is_valid t && true)) true v)) in
+        let ok = both_left (is_valid t) true (both_right (is_valid (node k d us)) (is_valid t && true)
+        (both_left (is_valid (node k d us) && (is_valid t && true)) true v)) in
         spread-fits w c d t (goes-left (spread_faults true c d t) (verdict w t) g)
         (quiet-fits w t ok (goes-right (spread_faults true c d t) (verdict w t) g))
     quiet-elems w c (cons (node spread s (cons (node k d us) (cons t nil))) (cons e es)) v h =
@@ -352,19 +345,19 @@ module _ {F C K : Type 0} where
         props_fit w c ts ≡ true
     quiet-props w c nil v h = refl
     quiet-props w c (cons (node shorthand s (cons i nil)) es) v h = quiet-props w c es
-        (both-right (is_valid i && true) (are_valid es) v) h
+        (both_right (is_valid i && true) (are_valid es) v) h
     quiet-props w c (cons (node cover s (cons i (cons e nil))) es) v h = quiet-props w c es
-        (both-right (is_valid i && (is_valid e && true)) (are_valid es) v) h
+        (both_right (is_valid i && (is_valid e && true)) (are_valid es) v) h
     quiet-props w c (cons (node key_value s (cons k (cons x nil))) es) v h =
         both-are (fits w x) (props_fit w c es)
-        (quiet-fits w x (both-left (is_valid x) true (both-right (is_valid k) (is_valid x && true)
-        (both-left (is_valid k && (is_valid x && true)) (are_valid es) v)))
+        (quiet-fits w x (both_left (is_valid x) true (both_right (is_valid k) (is_valid x && true)
+        (both_left (is_valid k && (is_valid x && true)) (are_valid es) v)))
         (also-first (verdict w x) (props_verdict w c es) h))
-        (quiet-props w c es (both-right (is_valid k && (is_valid x && true)) (are_valid es) v)
+        (quiet-props w c es (both_right (is_valid k && (is_valid x && true)) (are_valid es) v)
         (also-second (verdict w x) (props_verdict w c es) h))
     quiet-props w c (cons (node spread s (cons d (cons t nil))) nil) v h =
-        quiet-rest w c s t (both-left (is_valid t) true (both-right (is_valid d) (is_valid t && true)
-        (both-left (is_valid d && (is_valid t && true)) true v))) (quiet-fits w t)
+        quiet-rest w c s t (both_left (is_valid t) true (both_right (is_valid d) (is_valid t && true)
+        (both_left (is_valid d && (is_valid t && true)) true v))) (quiet-fits w t)
         (also-first (goes_on (rest_faults true c s) None (held_verdict w s t (verdict w t))) clean h)
     quiet-props w c (cons (node spread s (cons d (cons t nil))) (cons e es)) v h =
         let g = goes-left (rest_faults false c s) (held_verdict w s t (verdict w t))
@@ -380,8 +373,8 @@ module _ {F C K : Type 0} where
   params-quiet c (cons (node hole s nil) es) h = params-quiet c es h
   params-quiet c (cons (node item s (cons t nil)) es) h =
       also-both (verdict Binding t) (params_verdict c es) (fits-quiet Binding t
-      (both-left (fits Binding t) (elems_fit Binding c es) h))
-      (params-quiet c es (both-right (fits Binding t) (elems_fit Binding c es) h))
+      (both_left (fits Binding t) (elems_fit Binding c es) h))
+      (params-quiet c es (both_right (fits Binding t) (elems_fit Binding c es) h))
   params-quiet c (cons (node spread s (cons (node k d us) (cons t nil))) nil) h = also-both
       (goes_on (spread_faults true c d t) None (verdict Binding t)) clean
       (spread-quiet Binding c d t (fits-quiet Binding t) h) refl
@@ -394,14 +387,14 @@ module _ {F C K : Type 0} where
   quiet-params c (cons (node hole s nil) es) v h = quiet-params c es v h
   quiet-params c (cons (node item s (cons t nil)) es) v h =
       both-are (fits Binding t) (elems_fit Binding c es)
-      (quiet-fits Binding t (both-left (is_valid t) true (both-left (is_valid t && true) (are_valid es) v))
+      (quiet-fits Binding t (both_left (is_valid t) true (both_left (is_valid t && true) (are_valid es) v))
       (also-first (verdict Binding t) (params_verdict c es) h))
-      (quiet-params c es (both-right (is_valid t && true) (are_valid es) v)
+      (quiet-params c es (both_right (is_valid t && true) (are_valid es) v)
       (also-second (verdict Binding t) (params_verdict c es) h))
   quiet-params c (cons (node spread s (cons (node k d us) (cons t nil))) nil) v h =
       let g = also-first (goes_on (spread_faults true c d t) None (verdict Binding t)) clean h in
-      let ok = both-left (is_valid t) true (both-right (is_valid (node k d us)) (is_valid t && true)
-      (both-left (is_valid (node k d us) && (is_valid t && true)) true v)) in
+      let ok = both_left (is_valid t) true (both_right (is_valid (node k d us)) (is_valid t && true)
+      (both_left (is_valid (node k d us) && (is_valid t && true)) true v)) in
       spread-fits Binding c d t (goes-left (spread_faults true c d t) (verdict Binding t) g)
       (quiet-fits Binding t ok (goes-right (spread_faults true c d t) (verdict Binding t) g))
   quiet-params c (cons (node spread s (cons (node k d us) (cons t nil))) (cons e es)) v h =

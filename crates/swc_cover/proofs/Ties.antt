@@ -18,14 +18,6 @@ use Rattle.swc_cover.specs.declared.pat_type.PatType.TheVariants.{BindingPat, Bi
 
 -- ---- what is answered by tests
 
-both-left : (a b : Bool) → (a && b) ≡ true → a ≡ true
-both-left true b h = refl
-both-left false b h = cc
-
-both-right : (a b : Bool) → (a && b) ≡ true → b ≡ true
-both-right true b h = h
-both-right false b h = cc
-
 abbrev answer : {A : Type 0} → Bool → A → Option A
 answer b a = if b then Some a else None
 

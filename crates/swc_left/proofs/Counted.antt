@@ -7,10 +7,7 @@ use Rattle.swc_ast.specs.Trees.{listed, is_spread, no_spread, is_few}
 use Rattle.swc_ast.specs.{Tree.Tree, declared.expr.ExprOrSpread.ExprOrSpread}
 use Rattle.swc_grammar.specs.{Parts.import_args_ok, Scope.Scope}
 use Rattle.swc_left.specs.Counted.{is_plain, few_items, counted_ok}
-
-and_true : (a : Bool) → (a && true) ≡ a
-and_true true = refl
-and_true false = refl
+use Rattle.swc_steps.proofs.Steps.{and_true}
 
 none_left : (a b : Bool) → (a && (b && false)) ≡ false
 none_left true true = refl

@@ -1,5 +1,5 @@
 -- Which primary expression the current token begins, and what is left of a literal after the token that opens it.
-use Rattle.std.proofs.Common.{◌≡◌, Bool, true, false, not, codes, ◌&&◌, List, [], ◌∷◌, ◌++◌, if◌then◌else◌, Option, refl, ◌∙◌, Some, None, ap, sym, subst}
+use Rattle.std.proofs.Common.{◌≡◌, Bool, true, false, not, codes, List, [], ◌∷◌, ◌++◌, if◌then◌else◌, Option, refl, ◌∙◌, Some, None, ap, sym, subst}
 use Rattle.swc_input.specs.{declared.buffer.Buffer.Buffer, declared.token.TokenAndSpan.TokenAndSpan, declared.token.Token.Token, declared.token.Token.Token as token, Plain.plain, Source.Model, Buffer.held, Buffer.context, Buffer.Bumped, Laws.Read-same, Kinds.at_token}
 use Rattle.swc_context.specs.{declared.atom.Atom.Atom, declared.word.Word.Word as word, Texts.is_text, Reserved.reserved_name, declared.context.Context.Context, declared.span.BytePos.BytePos, declared.span.Span.Span}
 use Rattle.swc_grammar.specs.Symbols.{Primary, Props}
@@ -9,6 +9,7 @@ use Rattle.swc_grammar.specs.{Scope.Scope, Scope.inner, Parts.lit_of, Words.◌>
 use Rattle.swc_ast.specs.{Parts.lit_tree, Tree.Tree, declared.lit.Lit.Lit}
 use Rattle.swc_bodies.specs.Readings.{Hook, is_async, is_brace}
 use Rattle.swc_input.specs.Calls.{Here}
+use Rattle.swc_steps.proofs.Steps.{and_false}
 use Rattle.swc_steps.specs.Parsing.{On, seen, begins_async}
 use Rattle.swc_steps.specs.Lists.{elements_inside}
 use Rattle.swc_steps.proofs.Lists as list
@@ -127,10 +128,6 @@ pub kind_first : (k : PlainKind) (ts : List TokenAndSpan) {x y : Scope} {o : Opt
 kind_first k ts {x} {y} {o} same e h =
     subst (λ v. BeginsPlain v.context (λ f. at_token f (first ts)) k) (sym same)
     (subst (λ v. BeginsPlain y.context (λ f. at_token f v) k) (sym e) h)
-
-and_false : (a : Bool) → (a && false) ≡ false
-and_false true = refl
-and_false false = refl
 
 no_async : (ts : List TokenAndSpan) → at_token is_async (first ts) ≡ false → begins_async ts ≡ false
 no_async ts h = rw h refl

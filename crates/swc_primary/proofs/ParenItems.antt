@@ -15,15 +15,7 @@ use Rattle.swc_steps.specs.Args.{arrow_free, paren_closed}
 use Rattle.swc_input.specs.Calls.{Checks, Refuses}
 use Rattle.swc_steps.specs.Parsing.{On, Unheard}
 use Rattle.swc_steps.proofs.Args.{paren_closed_splits}
-use Rattle.swc_steps.proofs.Steps.{checks_and, give, on_call, refuses_later, unheard_call}
-
-and_true : (a : Bool) → (a && true) ≡ a
-and_true true = refl
-and_true false = refl
-
-and_false : (a : Bool) → (a && false) ≡ false
-and_false true = refl
-and_false false = refl
+use Rattle.swc_steps.proofs.Steps.{checks_and, give, on_call, refuses_later, unheard_call, and_false, and_true}
 
 and_assoc : (a b c : Bool) → (a && (b && c)) ≡ ((a && b) && c)
 and_assoc true b c = refl

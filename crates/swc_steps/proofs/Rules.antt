@@ -21,7 +21,7 @@ use Rattle.swc_grammar.proofs.Bodies.{hears, hears-place, hears-run}
 use Rattle.swc_grammar.proofs.Complete.{last, lit-picks, fn-picks, class-picks, private-refused}
 use Rattle.swc_grammar.proofs.Only.{backquote-is, hash-is, lparen-is, this-is}
 use Rattle.swc_grammar.proofs.{Answers.both, Knot.knot, Levels.right-low, Rules.exec-bind, Rules.run_picked}
-use Rattle.swc_steps.proofs.{Lists.calls, Steps.Inner.inner_is}
+use Rattle.swc_steps.proofs.{Lists.calls, Steps.Booleans.and_false, Steps.Booleans.and_true, Steps.Inner.inner_is}
 use Rattle.swc_steps.specs.Args.{hash_by, hash_name}
 use Rattle.swc_steps.specs.Parsing.{is_strict, is_strict_in, begins_async, seen_of}
 use Rattle.swc_steps.specs.Readers.{reading, by_production, by_production_apart, named_expr, inside, private_expr_tail, unary_op_tail, unary_op_node, unary_op, turn, bin_op, bin_op_node, turned, go_on, operand, private_operand, before_in, behind_operand, is_private_here}
@@ -75,10 +75,6 @@ pub function_not : (ts : List TokenAndSpan) → at_token is_function (first ts) 
 function_not [] h k = refl
 function_not (t ∷ ts) h k = rw (h, k) refl
 
-and_true : (b : Bool) → (b && true) ≡ b
-and_true true = refl
-and_true false = refl
-
 -- in a module a word of strict code is none
 strict_in_module : (m : Bool) (w : Word) → m && is_strict_in m w ≡ true → m && is_strict_word w ≡ true
 strict_in_module true (written.Keyword keyword.Await) h = refl
@@ -125,10 +121,6 @@ if_on b x y h = rw h refl
 
 if_off : {A : Type 0} (b : Bool) (x y : A) → b ≡ false → (if b then x else y) ≡ y
 if_off b x y h = rw h refl
-
-and_false : (b : Bool) → (b && false) ≡ false
-and_false true = refl
-and_false false = refl
 
 -- where no `#` is that is free
 not_private : (f p h i : Bool) → (f && (p && h)) ≡ false → (h && (f && (p && i))) ≡ false

@@ -9,7 +9,7 @@ pub mod Looks
 pub mod Refusals
 pub mod Results
 pub mod Tokens
-pub use Rattle.swc_steps.proofs.Steps.Booleans.{not_true, not_false, on_ok, if_err, memory_is, memory_not, and_true, not_and}
+pub use Rattle.swc_steps.proofs.Steps.Booleans.{not_true, not_false, on_ok, if_err, memory_is, memory_not, and_true, and_false, both_left, both_right, not_and}
 pub use Rattle.swc_steps.proofs.Steps.Consumed.{Reader, give, read_scope, here, leads_then, spent, served_later, took_leads, leads_refused, onward_then, onward_later, onward_one, longer, refuses_later, forgoes_later, forgoes_refuses, forgoes_here, forgoes_on, less, lower, more_recorded, loud_after, same_leads, place_was, last_was, acts_later, tries_node, acts_after, notes_after, falls_after, consumes_falls}
 pub use Rattle.swc_steps.proofs.Steps.Looks.{seen_some, here_now, looks, at_was, unfit_seen, literal_took, here_leads, here_refused, told_leads}
 pub use Rattle.swc_steps.proofs.Steps.Tokens.{on_here, on_by, on_seen, on_told, on_took, on_then, on_looked, on_same, heard_after, heard_then, on_to, heard_took, heard_first, on_none, on_answer, heard_answer}

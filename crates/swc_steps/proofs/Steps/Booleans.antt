@@ -30,6 +30,18 @@ pub and_true : (m : Bool) → (m && true) ≡ m
 and_true true = refl
 and_true false = refl
 
+pub and_false : (m : Bool) → (m && false) ≡ false
+and_false true = refl
+and_false false = refl
+
+pub both_left : (a b : Bool) → (a && b) ≡ true → a ≡ true
+both_left true b h = refl
+both_left false b h = cc
+
+pub both_right : (a b : Bool) → (a && b) ≡ true → b ≡ true
+both_right true b h = h
+both_right false b h = cc
+
 pub not_and : (m b : Bool) → b ≡ false → not (m && b) ≡ true
 not_and true b h = rw h refl
 not_and false b h = refl
