@@ -6,7 +6,7 @@
 They are tried by hand: the gate tries those of crates/NAME/must-fail alone. Edits that change different functions are made together in a copy of
 their crate, since each function is proved by itself. These functions are checked then, over the proved libraries below and what earlier checks of the
 crate kept. An edit is refused if the check says so of its function. Otherwise it is made alone, and the whole crate is checked. N checks run at a time,
-by default one a processor. An edit of a macro changes each function of the file that calls the macro.
+by default one a processor. An edit of a macro changes each function that calls the macro.
 
 The productions are proved one by one (tests/alone.py), each over the contracts of the others: nothing else of the crate is checked then.
 
@@ -74,19 +74,24 @@ def edited(text, crate):
         elif word in ('new', 'new:'):
             if texts[path].count(old) != 1:
                 raise BadEdit('its old text is in %s %d times' % (path, texts[path].count(old)))
-            found = functions_at(texts[path], texts[path].index(old)) if path.startswith('src/') else []
-            functions += [(path, function) for function in found or [None]]
+            found = functions_at(crate, path, texts[path], texts[path].index(old)) if path.startswith('src/') else []
+            functions += found or [(path, None)]
             texts[path] = texts[path].replace(old, rest)
     return texts, [] if any(function is None for _, function in functions) else [*dict.fromkeys(functions)]
 
 
-def functions_at(text, place):
-    """The function around a place, or those that call the macro around it."""
+def functions_at(crate, path, text, place):
+    """The function around a place, or those that call the macro around it, each after its file: all of the crate that call one of its first file."""
     macros = [found for found in MACRO.finditer(text) if found.start() <= place < found.end()]
     if not macros:
-        return [function_at(text, place)]
-    calls = [found.start() for found in re.finditer(r'\b%s!' % macros[0][1], text)]
-    return [*dict.fromkeys(function for function in (function_at(text, call) for call in calls) if function)]
+        return [(path, function_at(text, place))]
+    files = sorted((crate / 'src').rglob('*.rt')) if path in ('src/lib.rt', 'src/main.rt') else [crate / path]
+    found = []
+    for file in files:
+        text = file.read_text(encoding='utf-8')
+        calls = [call.start() for call in re.finditer(r'\b%s!' % macros[0][1], text)]
+        found += [(str(file.relative_to(crate)), function_at(text, call)) for call in calls]
+    return [*dict.fromkeys((path, function) for path, function in found if function)]
 
 
 def function_at(text, place):

@@ -3,5 +3,7 @@ pub mod ArrowBodies
 pub mod ArrowOrAssign
 pub mod ByThemselves
 pub mod InnerCalls
+pub mod Methods
 pub mod PlainKinds
+pub mod PlainMembers
 pub mod Recovered

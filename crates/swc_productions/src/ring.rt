@@ -5,7 +5,7 @@ ghost use Rattle.swc_arrows.specs.Readers.{arrow_behind, body_by};
 ghost use Rattle.swc_nodes.specs.Lists.{pats_parts, pat_trees};
 ghost use Rattle.swc_cover.specs.Rewriting.{Rewrites};
 ghost use Rattle.swc_grammar.specs.Clean.{sym, links, run, no_error};
-ghost use Rattle.swc_grammar.specs.Symbols.{Args, ArrowBody, Lhs, Primary, Elements, Item, Props, Prop, Key, Parts, Level, Unary, Expr, Assign, Pat, Element, PatElements, PatProps};
+ghost use Rattle.swc_grammar.specs.Symbols.{Args, Lhs, Primary, Elements, Item, Props, Prop, Key, Parts, Level, Unary, Expr, Assign, Pat, Element, PatElements, PatProps};
 ghost use Rattle.swc_grammar.specs.Tokens.{is_yield};
 ghost use Rattle.swc_input.specs.Buffer.{context, current};
 ghost use Rattle.swc_input.specs.Kinds.{at_token};
@@ -22,8 +22,7 @@ ghost use Rattle.swc_operators.specs.Assignments.{assigns_from, yield_expr};
 ghost use Rattle.swc_operators.specs.Operands.{is_plain};
 ghost use Rattle.swc_operators.specs.Pending.{pending_reads};
 ghost use Rattle.swc_operators.specs.Updates.{await_tail};
-ghost use Rattle.swc_primary.specs.Methods.{method_function, method_inside, method_shell};
-ghost use Rattle.swc_steps.specs.Args.{args_inside};
+ghost use Rattle.swc_primary.specs.Methods.{method_inside, method_shell};
 ghost use Rattle.swc_steps.specs.Readers.{operand};
 ghost use Rattle.swc_input.specs.Calls.{Here};
 ghost use Rattle.swc_steps.specs.Parsing.{seen, Produces, GoesOn, itself, tree_of, item_of, item_at, elems_of, elems_at, key_of, key_at, prop_of, prop_at, props_of, props_at, args_of, args_at, shell_at, Consumes, Recovers};
@@ -99,17 +98,6 @@ macro_rules! listed {
     }};
 }
 
-/// What is read in a context of its own; after it the context is that from before, also after a refusal.
-macro_rules! within {
-    ($p:ident, $ctx:expr, $read:expr) => {{
-        let ctx = $ctx;
-        let before = tokens::replace_ctx(&mut $p.input, ctx);
-        let read = $read;
-        let _ = tokens::replace_ctx(&mut $p.input, before);
-        read
-    }};
-}
-
 // ---- Expressions (ECMA-262, 13)
 
 /// A primary expression (ECMA-262, 13.2): expressions in parentheses (13.2.9), as a list like that of arguments has
@@ -129,7 +117,7 @@ pub fn parse_primary_expr<I: Tokens, B: Bodies<I>>(
         PrimaryKind::Paren => {
             let start = p.cur_span();
             tokens::skip(&mut p.input);
-            let list = parse_args(p, room, false)?;
+            let list = within!(p, items_context(p.get_ctx()), parse_args(p, room, false))?;
             primary::paren_items(p, start, list)
         }
         PrimaryKind::Array => {
@@ -146,7 +134,11 @@ pub fn parse_primary_expr<I: Tokens, B: Bodies<I>>(
         }
         PrimaryKind::Template => {
             let start = tokens::expect(&mut p.input, Sign::BackQuote)?;
-            let parts = parse_tpl_elements(p, room, false)?;
+            let parts = within!(
+                p,
+                without_colon(p.get_ctx()),
+                parse_tpl_elements(p, room, false)
+            )?;
             let end = parts.end.hi;
             let node = p.nodes.tpl(start.lo, end, parts.quasis, parts.exprs);
             p.made(node)
@@ -252,7 +244,7 @@ fn parse_member_expr<I: Tokens, B: Bodies<I>>(
     left::refuse_opt_chain::<I, B>(&mut p.input, &p.nodes, callee)?;
     match tokens::eat(&mut p.input, Sign::LParen)? {
         Some(_) => {
-            let list = parse_args(p, room, false)?;
+            let list = within!(p, items_context(p.get_ctx()), parse_args(p, room, false))?;
             let base = left::new_expr(p, start, callee, list)?;
             parse_subscripts(p, room, base, true)
         }
@@ -290,11 +282,15 @@ fn parse_subscripts<I: Tokens, B: Bodies<I>>(
                 obj = left::computed_member(p, obj, start, expr, optional)?;
             }
             LinkHead::Call { optional } => {
-                let list = parse_args(p, room, false)?;
+                let list = within!(p, items_context(p.get_ctx()), parse_args(p, room, false))?;
                 obj = left::call_expr(p, obj, list, optional)?;
             }
             LinkHead::Template { start } => {
-                let parts = parse_tpl_elements(p, room, true)?;
+                let parts = within!(
+                    p,
+                    without_colon(p.get_ctx()),
+                    parse_tpl_elements(p, room, true)
+                )?;
                 obj = tagged_tpl(p, obj, start, parts)?;
             }
         }
@@ -349,7 +345,7 @@ pub fn parse_object_prop<I: Tokens, B: Bodies<I>>(
             Ok(cover_prop(&p.nodes, name, value))
         }
         PropHead::Key => {
-            let key = parse_prop_name(p, room)?;
+            let key = within!(p, prop_name_context(p.get_ctx()), parse_prop_name(p, room))?;
             match tokens::eat(&mut p.input, Sign::Colon)? {
                 Some(_) => {
                     let value = within!(
@@ -361,43 +357,27 @@ pub fn parse_object_prop<I: Tokens, B: Bodies<I>>(
                 }
                 None => {
                     let start = key.span();
-                    let function = parse_method(p, room, None, start)?;
+                    let ctx = method_params(None, p.get_ctx());
+                    let function = within!(p, ctx, parse_method(p, room, None, start))?;
                     Ok(method_of(None, start, key, function))
                 }
             }
         }
         PropHead::Method(kind, start) => {
-            let key = parse_prop_name(p, room)?;
-            let function = parse_method(p, room, Some(kind), key.span())?;
+            let key = within!(p, prop_name_context(p.get_ctx()), parse_prop_name(p, room))?;
+            let ctx = method_params(Some(kind), p.get_ctx());
+            let function = within!(p, ctx, parse_method(p, room, Some(kind), key.span()))?;
             Ok(method_of(Some(kind), start, key, function))
         }
     }
 }
 
-/// The function of a method (ECMA-262, 15.4 to 15.6 and 15.8), after its key at `key`: parameters, which are read in a
-/// context of their own, and a block. Nothing was before the key where the method is of no kind. The context is that
-/// from before, also after a refusal.
+/// The function of a method (ECMA-262, 15.4 to 15.6 and 15.8), after its key at `key`, in the context of its parameters
+/// (these and a block). Nothing was before the key where the method is of no kind. Where the parameters begin, another
+/// token is refused as `Expected`, and where nothing is before the method's key as `Unexpected`, at that token; the end
+/// as `Eof`.
 #[cycle(productions)]
 fn parse_method<I: Tokens, B: Bodies<I>>(
-    p: &mut Productions<I, B>,
-    room: usize,
-    kind: Option<MethodKind>,
-    key: Span,
-) -> PResult<Function<PatId, B::Block>>
-    ensures { Produces I.model B.is_faithful (method_shell kind) shell_at (method_function B.forms kind)
-        (count p.old.nodes) p.old result p.new }
-{
-    within!(
-        p,
-        method_params(kind, p.get_ctx()),
-        parse_method_inside(p, room, kind, key)
-    )
-}
-
-/// The function of a method, in the context of its parameters. Where they begin, another token is refused as
-/// `Expected`, and where nothing is before the method's key as `Unexpected`, at that token; the end as `Eof`.
-#[cycle(productions)]
-fn parse_method_inside<I: Tokens, B: Bodies<I>>(
     p: &mut Productions<I, B>,
     room: usize,
     kind: Option<MethodKind>,
@@ -414,22 +394,9 @@ fn parse_method_inside<I: Tokens, B: Bodies<I>>(
 /// A property's key (ECMA-262, 13.2.5): any word, a string, a number, a big integer, or an expression in brackets, in
 /// which `in` counts as an operator.
 ///
-/// Another token is refused as `Unexpected`, at that token, and the end as `Eof`; a missing `]` as `Expected`. The
-/// context is that from before, also after a refusal.
+/// Another token is refused as `Unexpected`, at that token, and the end as `Eof`; a missing `]` as `Expected`.
 #[cycle(productions)]
 pub fn parse_prop_name<I: Tokens, B: Bodies<I>>(
-    p: &mut Productions<I, B>,
-    room: usize,
-) -> PResult<PropName<ExprId>>
-    ensures { Produces I.model B.is_faithful key_of key_at (run B.forms (sym Key))
-        (count p.old.nodes) p.old result p.new }
-{
-    within!(p, prop_name_context(p.get_ctx()), parse_key(p, room))
-}
-
-/// A property's key, in its context.
-#[cycle(productions)]
-fn parse_key<I: Tokens, B: Bodies<I>>(
     p: &mut Productions<I, B>,
     room: usize,
 ) -> PResult<PropName<ExprId>>
@@ -448,27 +415,9 @@ fn parse_key<I: Tokens, B: Bodies<I>>(
 // ---- Templates, with a tag and without (ECMA-262, 13.2.8 and 13.3.11)
 
 /// The texts of a template, after its backquote, between each two of them an expression in which `in` counts as an
-/// operator, in braces, and the backquote that closes the template. No colon of a conditional is expected in it. The
-/// context is that from before, also after a refusal.
+/// operator, in braces, and the backquote that closes the template.
 #[cycle(productions)]
 pub fn parse_tpl_elements<I: Tokens, B: Bodies<I>>(
-    p: &mut Productions<I, B>,
-    room: usize,
-    is_tagged: bool,
-) -> PResult<TplParts>
-    ensures { Produces I.model B.is_faithful tpl_parts_of tpl_parts_at (run B.forms (sym (Parts is_tagged)))
-        (count p.old.nodes) p.old result p.new }
-{
-    within!(
-        p,
-        without_colon(p.get_ctx()),
-        parse_tpl_parts(p, room, is_tagged)
-    )
-}
-
-/// The texts of a template and the expressions between them, in their context.
-#[cycle(productions)]
-fn parse_tpl_parts<I: Tokens, B: Bodies<I>>(
     p: &mut Productions<I, B>,
     room: usize,
     is_tagged: bool,
@@ -493,29 +442,11 @@ fn parse_tpl_parts<I: Tokens, B: Bodies<I>>(
 
 // ---- Arguments (ECMA-262, 13.3.8), and those of `import` (13.3.10)
 
-/// Arguments (ECMA-262, 13.3.8), after their parenthesis, in which `in` counts as an operator, and no colon of a
-/// conditional is expected, a comma after each, which may be missing after the last one, and the parenthesis that
-/// closes them. Those of `import`, where it `is_dynamic_import`, may have no comma after the last one, unless import
-/// attributes are read. The context is that from before, also after a refusal.
+/// Arguments (ECMA-262, 13.3.8), after their parenthesis, a comma after each, which may be missing after the last one,
+/// and the parenthesis that closes them. Those of `import`, where it `is_dynamic_import`, may have no comma after the
+/// last one, unless import attributes are read.
 #[cycle(productions)]
 pub fn parse_args<I: Tokens, B: Bodies<I>>(
-    p: &mut Productions<I, B>,
-    room: usize,
-    is_dynamic_import: bool,
-) -> PResult<Listed<ExprOrSpread<ExprId>>>
-    ensures { Produces I.model B.is_faithful args_of args_at (args_inside B.forms is_dynamic_import)
-        (count p.old.nodes) p.old result p.new }
-{
-    within!(
-        p,
-        items_context(p.get_ctx()),
-        parse_arg_items(p, room, is_dynamic_import)
-    )
-}
-
-/// Arguments, after their parenthesis, in their context.
-#[cycle(productions)]
-fn parse_arg_items<I: Tokens, B: Bodies<I>>(
     p: &mut Productions<I, B>,
     room: usize,
     is_dynamic_import: bool,
@@ -562,7 +493,7 @@ pub fn parse_base<I: Tokens, B: Bodies<I>>(
         ImportHead::Meta(span) => base::import_meta(p, span),
         ImportHead::Call(import) => {
             let open = p.prev_span().lo;
-            let list = parse_args(p, room, true)?;
+            let list = within!(p, items_context(p.get_ctx()), parse_args(p, room, true))?;
             base::import_call(p, start, import, open, list)
         }
     }
@@ -591,7 +522,7 @@ fn parse_super<I: Tokens, B: Bodies<I>>(
             return base::super_computed(p, start, bracket, expr);
         }
         SuperHead::Call => {
-            let list = parse_args(p, room, false)?;
+            let list = within!(p, items_context(p.get_ctx()), parse_args(p, room, false))?;
             return base::callee_call(p, start, Callee::Super(Super { span: start }), list);
         }
         SuperHead::Other => {}
@@ -603,7 +534,7 @@ fn parse_super<I: Tokens, B: Bodies<I>>(
             Err(base::refuse_super_brackets(&mut p.input, no_call))
         }
         SuperChain::Call => {
-            parse_args(p, room, false)?;
+            within!(p, items_context(p.get_ctx()), parse_args(p, room, false))?;
             Err(base::refuse_super_args(&mut p.input))
         }
     }
@@ -788,29 +719,20 @@ fn parse_plain_operand<I: Tokens, B: Bodies<I>>(
     ensures { Produces I.model B.is_faithful itself tree_of (run B.forms (sym Unary))
         (count p.old.nodes) p.old result p.new }
 {
-    let callee = within!(p, member_context(p.get_ctx()), parse_plain_member(p, room))?;
+    let callee = within!(
+        p,
+        member_context(p.get_ctx()),
+        match primary::parse_plain_primary(p) {
+            Ok(base) => parse_subscripts(p, room, base, true),
+            Err(error) => Err(error),
+        }
+    )?;
     tokens::look(&mut p.input)?;
     if !may_go_on(&p.input) {
         return Ok(callee);
     }
     let expr = parse_subscripts(p, room, callee, false)?;
     ops::parse_update_postfix(p, expr)
-}
-
-/// A member expression (ECMA-262, 13.3) that begins with a name, a literal or `this`: a primary expression, and the
-/// links after it, but for calls.
-#[cycle(productions)]
-fn parse_plain_member<I: Tokens, B: Bodies<I>>(
-    p: &mut Productions<I, B>,
-    room: usize,
-) -> PResult<ExprId>
-    requires looked { Here I.model p.old.input p.old.input }
-    requires plain { at_token is_plain (seen p.old.input) ≡ true }
-    ensures { Produces I.model B.is_faithful itself tree_of (run B.forms (sym (Lhs false)))
-        (count p.old.nodes) p.old result p.new }
-{
-    let base = primary::parse_plain_primary(p)?;
-    parse_subscripts(p, room, base, true)
 }
 
 // ---- Expressions with commas between them, assignment expressions, conditionals and `yield` (ECMA-262, 13.14 to 13.16
@@ -999,7 +921,7 @@ fn parse_arrow_or_base<I: Tokens, B: Bodies<I>>(
         },
         StartKind::List { is_async } => {
             let start = open_list(p, is_async)?;
-            let list = parse_args(p, room, false)?;
+            let list = within!(p, items_context(p.get_ctx()), parse_args(p, room, false))?;
             match close_list(p, start, list)? {
                 Beginning::Arrow(head) => parse_arrow_rest(p, room, head),
                 Beginning::Base(base) => Ok(ArrowOrBase::Base(base)),
@@ -1009,7 +931,8 @@ fn parse_arrow_or_base<I: Tokens, B: Bodies<I>>(
     }
 }
 
-/// An arrow function (ECMA-262, 15.3 and 15.9), after its `=>`: reads its body.
+/// An arrow function (ECMA-262, 15.3 and 15.9), after its `=>`: reads its body. The context is that from before, also
+/// after a refusal; whether `import.` was read in the body isn't told outside.
 #[cycle(productions)]
 fn parse_arrow_rest<I: Tokens, B: Bodies<I>>(
     p: &mut Productions<I, B>,
@@ -1017,38 +940,26 @@ fn parse_arrow_rest<I: Tokens, B: Bodies<I>>(
     head: ArrowHead,
 ) -> PResult<ArrowOrBase>
     requires { Apart 0 p.old.nodes (pats_parts head.params) }
-    ensures { (k : ℕ) → Apart k p.old.nodes (pats_parts head.params) → ReadsArrow I.model B.is_faithful
+    ensures reads { (k : ℕ) → Apart k p.old.nodes (pats_parts head.params) → ReadsArrow I.model B.is_faithful
         (arrow_behind B.forms head.start head.is_async head.in_parens (pat_trees (tree_at p.old.nodes) head.params))
         k p.old result p.new }
-{
-    match parse_arrow_body(p, room, head.is_async) {
-        Ok(body) => arrow_function(p, head, body),
-        Err(error) => Err(error),
-    }
-}
-
-/// The body of an arrow function (ECMA-262, 15.3 and 15.9), after its `=>`: a block, which the hook reads, or an
-/// assignment expression. The context is that from before, also after a refusal; whether `import.` was read in it isn't
-/// told outside.
-#[cycle(productions)]
-fn parse_arrow_body<I: Tokens, B: Bodies<I>>(
-    p: &mut Productions<I, B>,
-    room: usize,
-    is_async: bool,
-) -> PResult<BlockStmtOrExpr<ExprId, B::Block>>
-    ensures reads { Produces I.model B.is_faithful body_of body_at (run B.forms (sym (ArrowBody is_async)))
-        (count p.old.nodes) p.old result p.new }
     ensures found { p.new.found_module_item ≡ p.old.found_module_item }
 {
     let found = p.found_module_item;
-    let body = within!(p, p.get_ctx().arrow_body(is_async), parse_body(p, room));
+    let ctx = p.get_ctx().arrow_body(head.is_async);
+    let body = within!(p, ctx, parse_arrow_body(p, room));
+    let arrow = match body {
+        Ok(body) => arrow_function(p, head, body),
+        Err(error) => Err(error),
+    };
     p.found_module_item = found;
-    body
+    arrow
 }
 
-/// The body of an arrow function, in its context.
+/// The body of an arrow function (ECMA-262, 15.3 and 15.9), in its context: a block, which the hook reads, or an
+/// assignment expression.
 #[cycle(productions)]
-fn parse_body<I: Tokens, B: Bodies<I>>(
+fn parse_arrow_body<I: Tokens, B: Bodies<I>>(
     p: &mut Productions<I, B>,
     room: usize,
 ) -> PResult<BlockStmtOrExpr<ExprId, B::Block>>
@@ -1225,7 +1136,7 @@ pub fn parse_object_pat_prop<I: Tokens, B: Bodies<I>>(
         }
         None => {}
     }
-    let key = parse_prop_name(p, room)?;
+    let key = within!(p, prop_name_context(p.get_ctx()), parse_prop_name(p, room))?;
     match after_pat_key(&mut p.input, key)? {
         AfterPatKey::Value(key) => {
             let value = parse_binding_element(p, room)?;

@@ -22,7 +22,8 @@ use swc_input::buffer::Buffer;
 use swc_input::tokens::Tokens;
 use swc_nodes::node::ExprId;
 use swc_patterns::object::{RestProp, check_earlier_rest, check_last_rest};
-use swc_productions::ring::{parse_object_pat_prop, parse_object_prop, parse_prop_name};
+use swc_productions::args::parse_key;
+use swc_productions::ring::{parse_object_pat_prop, parse_object_prop};
 use swc_trees::making::object_lit;
 
 /// What object literals and object patterns (ECMA-262, 13.2.5 and 14.3.3) are read as, a property at
@@ -58,7 +59,7 @@ impl<I: Tokens, B: Bodies<I>> Parser<I, B> {
         ensures promised { Promised I.model B.is_faithful B.forms key_by_number Key self.old result self.new }
     {
         let start = self.begin()?;
-        let answer = parse_prop_name(&mut self.productions, self.room);
+        let answer = parse_key(&mut self.productions, self.room);
         let answer = self.keep(start, answer);
         self.finish(answer)
     }
@@ -72,7 +73,7 @@ impl<I: Tokens, B: Bodies<I>> Parser<I, B> {
         ensures promised { Promised I.model B.is_faithful B.forms key_in_boxes Key self.old result self.new }
     {
         let start = self.begin()?;
-        let answer = parse_prop_name(&mut self.productions, self.room);
+        let answer = parse_key(&mut self.productions, self.room);
         self.hand_out(start, answer)
     }
 }

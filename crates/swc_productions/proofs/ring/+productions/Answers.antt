@@ -2,7 +2,6 @@
 use Rattle.std.proofs.Common.{rules, Ok, Err, map, length, length-append, ◌≤◌, [], ◌∷◌, ◌≢◌, ◌++◌, ◌&&◌, ◌||◌, true}
 use Rattle.std.proofs.Common.{false, not, Some, refl, sym, ap, subst, ◌∙◌, arith}
 use Rattle.std.specs.Prelude.{slice_index_or}
-use Rattle.swc_context.specs.Contexts.{method_params}
 use Rattle.swc_context.specs.Contexts.{view as deciding}
 use Rattle.swc_context.specs.Spans.{from_to}
 use Rattle.swc_context.specs.declared.error.SyntaxError.TheVariants.{OutOfMemory}
@@ -29,7 +28,7 @@ use Rattle.swc_nodes.proofs.Lists.{trees-both, trees-more, apart-later, apart-mo
 use Rattle.swc_nodes.proofs.Waiting.{operands-first, operands-joined, operands-last, operands-more, operands-top}
 use Rattle.swc_nodes.specs.Pending.{all_pending, first_operand}
 use Rattle.swc_nodes.specs.Rising.{waiting}
-use Rattle.swc_grammar.specs.Symbols.{Assign, Level, Unary, Lhs, Primary, Template}
+use Rattle.swc_grammar.specs.Symbols.{Assign, Level, Unary, Lhs, Template}
 use Rattle.swc_ast.specs.Trees.{trees_append, begins_in_invalid, cover_e, ident_e, to, await_e, cond_e, assign_e}
 use Rattle.swc_ast.specs.Trees.{yield_e, hole_e, seq_of}
 use Rattle.swc_ast.specs.Trees.{import_e, parts_e, tpl_e}
@@ -37,7 +36,7 @@ use Rattle.swc_input.specs.Recording.{is_some}
 use Rattle.swc_grammar.specs.Clean.{sym as at, run, first, links, updates, climb, assigns, prefix_at}
 use Rattle.swc_grammar.specs.Clean.{goes_on_yield_at}
 use Rattle.swc_grammar.specs.Words.{◌>>=◌}
-use Rattle.swc_steps.specs.Parsing.{scope, seen, seen_of, behind, tree_of, ident_spelling, key_at}
+use Rattle.swc_steps.specs.Parsing.{scope, seen, seen_of, behind, tree_of, itself, ident_spelling, key_at}
 use Rattle.swc_steps.specs.Args.{paren_expr_tail}
 use Rattle.swc_operators.specs.Assignments.{seqs_more, cond_tail, cond_close}
 use Rattle.swc_operators.specs.Assignments.{assign_at, assign_tail, yield_tail, yield_operand, yield_expr}
@@ -57,7 +56,7 @@ use Rattle.swc_steps.proofs.Emitted.{fit_here}
 use Rattle.swc_operators.specs.Operands.{is_plain, goes_on}
 use Rattle.swc_operators.specs.Pending.{pending_reads}
 use Rattle.swc_operators.proofs.Assignments as assign
-use Rattle.swc_operators.proofs.InContext.{args_within, as_set, aside, assign_within, elements_within, expr_within, within}
+use Rattle.swc_operators.proofs.InContext.{args_within, as_set, aside, assign_within, elements_within, expr_within}
 use Rattle.swc_operators.proofs.Sequences.{behind_comma}
 use Rattle.swc_operators.proofs.Operands as operand
 use Rattle.swc_operators.proofs.PlainOperands as plain_operand
@@ -101,9 +100,11 @@ use Rattle.swc_productions.proofs.ArrowOrAssign as way
 use Rattle.swc_productions.proofs.Recovered as again
 use Rattle.swc_productions.proofs.ArrowBodies as bodies
 use Rattle.swc_productions.proofs.InnerCalls as inside
+use Rattle.swc_productions.proofs.Methods as methods
 use Rattle.swc_productions.proofs.PlainKinds.{plain_kind}
+use Rattle.swc_productions.proofs.PlainMembers as plain_member
 use Rattle.swc_grammar.specs.Scope.{inner}
-use Rattle.swc_primary.specs.Methods.{async_in, generator_in, method_end}
+use Rattle.swc_primary.specs.Methods.{method_end}
 use Rattle.swc_primary.proofs.Functions as function
 use Rattle.swc_primary.proofs.Keyed as method
 use Rattle.swc_productions.proofs.ring.+productions.Goals as goal
@@ -141,6 +142,10 @@ use Rattle.swc_patterns.proofs.Beginnings as pat_begins
 use Rattle.swc_patterns.proofs.Initialisers as pat_init
 use Rattle.swc_productions.proofs.ring.+productions.Goals.{parse_pat_elements-in-Some+in_ok-arg-in-Some+in_ok-pat-in-Some}
 use Rattle.swc_productions.proofs.ring.+productions.Goals.{parse_pat_elements-in-None+in_ok-pat-in-None}
+use Rattle.swc_productions.proofs.ring.+productions.Goals.{parse_arrow_rest-in-Ok}
+use Rattle.swc_productions.proofs.ring.+productions.Goals.{parse_arrow_rest-in-Err}
+use Rattle.swc_productions.proofs.ring.+productions.Goals.{parse_plain_operand-in-Ok}
+use Rattle.swc_productions.proofs.ring.+productions.Goals.{parse_plain_operand-in-Err}
 use Rattle.swc_productions.proofs.ring.+productions.Goals.{parse_formal_params-in-Some+in_ok-arg-in-Some+in_ok-eat-in-Some+in-Some-2+in_ok-value-in-Some-2+in_ok-pat-in-Some-2}
 use Rattle.swc_productions.proofs.ring.+productions.Goals.{parse_formal_params-in-Some+in_ok-arg-in-Some+in_ok-eat-in-Some+in-None-2+in_ok-pat-in-None-2}
 use Rattle.swc_productions.proofs.ring.+productions.Goals.{parse_formal_params-in-None+in_ok-pat-in-None}
@@ -157,6 +162,9 @@ parse_primary_expr-returns-in_err-look g t c =
 
 pub parse_primary_expr-returns-in_err-list-in-Paren : goal.parse_primary_expr-returns-in_err-list-in-Paren
 parse_primary_expr-returns-in_err-list-in-Paren g t c =
+    let inner = args_within g.B.BodyForms.forms false c.get_ctx.ensures c.items_context-ctx.ensures.decides
+    c.replace_ctx-before.ensures.before c.replace_ctx-before.ensures.moves c.replace_ctx-before.ensures.context
+    c.parse_args-read.ensures c.in_err-list-in-Paren.was c.replace_ctx.ensures.moves c.replace_ctx.ensures.context in
     let sign = opening.is_paren _ (sym c.primary_kind.ensures ∙ c.in-Paren.is) in
     let first = c.skip.ensures.took.1 in
     let start = c.cur_span-start.result in
@@ -168,15 +176,20 @@ parse_primary_expr-returns-in_err-list-in-Paren g t c =
     (λ v. paren_expr_tail g.B.BodyForms.forms v x ts) (sym place))) in
     m.refused c.from_residual-in_err-list-in-Paren.ensures.1
     (s.unheard_after begun
-    (s.unheard_call _ (args.paren_expr_splits _ start) c.in_err-list-in-Paren.ensures.reads)) c.parse_args.ensures.grows
+    (s.unheard_call _ (args.paren_expr_splits _ start) inner.reads)) inner.grows
 
 pub parse_primary_expr-paren_items-requires : goal.parse_primary_expr-paren_items-requires
-parse_primary_expr-paren_items-requires g t c = record {
-  apart = apart-down (args_parts c.in_ok-list-in-Paren.list.items) c.in_ok-list-in-Paren.ensures.from;
-}
+parse_primary_expr-paren_items-requires g t c =
+    let inner = args_within g.B.BodyForms.forms false c.get_ctx.ensures c.items_context-ctx.ensures.decides
+    c.replace_ctx-before.ensures.before c.replace_ctx-before.ensures.moves c.replace_ctx-before.ensures.context
+    c.parse_args-read.ensures c.in_ok-list-in-Paren.was c.replace_ctx.ensures.moves c.replace_ctx.ensures.context in
+    record { apart = apart-down (args_parts c.in_ok-list-in-Paren.list.items) inner.from }
 
 pub parse_primary_expr-returns-in_ok-list-in-Paren : goal.parse_primary_expr-returns-in_ok-list-in-Paren
 parse_primary_expr-returns-in_ok-list-in-Paren g t c =
+    let inner = args_within g.B.BodyForms.forms false c.get_ctx.ensures c.items_context-ctx.ensures.decides
+    c.replace_ctx-before.ensures.before c.replace_ctx-before.ensures.moves c.replace_ctx-before.ensures.context
+    c.parse_args-read.ensures c.in_ok-list-in-Paren.was c.replace_ctx.ensures.moves c.replace_ctx.ensures.context in
     let sign = opening.is_paren _ (sym c.primary_kind.ensures ∙ c.in-Paren.is) in
     let first = c.skip.ensures.took.1 in
     let start = c.cur_span-start.result in
@@ -188,10 +201,10 @@ parse_primary_expr-returns-in_ok-list-in-Paren g t c =
     (λ v. paren_expr_tail g.B.BodyForms.forms v x ts) (sym place))) in
     m.after {m = record c.args.p.now { input = c.skip.new.input }} c.paren_items.result begun (grows-same _)
     (m.call_read c.paren_items.result _ (args.paren_expr_splits _ start)
-    c.in_ok-list-in-Paren.ensures.reads (λ x ts us h y ys.
+    inner.reads (λ x ts us h y ys.
     closed_clean _ g.met.B.Bodies.lawful start c.in_ok-list-in-Paren.list x ts us
-    c.in_ok-list-in-Paren.ensures.from h y ys) c.parse_args.ensures.grows (λ x h. h)
-    (c.paren_items.ensures (count c.args.p.now.nodes) c.in_ok-list-in-Paren.ensures.from))
+    inner.from h y ys) inner.grows (λ x h. h)
+    (c.paren_items.ensures (count c.args.p.now.nodes) inner.from))
 
 pub parse_primary_expr-returns-in_err-elems-in-Array : goal.parse_primary_expr-returns-in_err-elems-in-Array
 parse_primary_expr-returns-in_err-elems-in-Array g t c =
@@ -200,11 +213,11 @@ parse_primary_expr-returns-in_err-elems-in-Array g t c =
     let place = ap (λ v. v.lo) (sym (s.place_was took start c.cur_span.ensures)) in
     let begun = opening.array_begins g.B.Bodies.is_faithful g.B.BodyForms.forms c.in_ok-look.ensures.looks
     (sym c.primary_kind.ensures ∙ c.in-Array.is) took place in
-    let inner = elements_within g.B.BodyForms.forms c.get_ctx.ensures
-    c.items_context-ctx.ensures.decides c.replace_ctx-before.ensures.before
-    c.replace_ctx-before.ensures.moves c.replace_ctx-before.ensures.context
-    c.parse_elements-read.ensures c.in_err-elems-in-Array.was c.replace_ctx.ensures.moves
-    c.replace_ctx.ensures.context in
+    let inner = elements_within g.B.BodyForms.forms c.get_ctx-in-Array.ensures
+    c.items_context-ctx-in-Array.ensures.decides c.replace_ctx-before-in-Array.ensures.before
+    c.replace_ctx-before-in-Array.ensures.moves c.replace_ctx-before-in-Array.ensures.context
+    c.parse_elements-read.ensures c.in_err-elems-in-Array.was c.replace_ctx-in-Array.ensures.moves
+    c.replace_ctx-in-Array.ensures.context in
     m.refused c.from_residual-in_err-elems-in-Array.ensures.1
     (s.unheard_after begun
     (s.unheard_call (λ x p. Some (array_from start.lo p.0, p.1)) (λ x ts. refl) inner.reads))
@@ -212,11 +225,11 @@ parse_primary_expr-returns-in_err-elems-in-Array g t c =
 
 pub parse_primary_expr-array_lit-requires : goal.parse_primary_expr-array_lit-requires
 parse_primary_expr-array_lit-requires g t c =
-    let inner = elements_within g.B.BodyForms.forms c.get_ctx.ensures
-    c.items_context-ctx.ensures.decides c.replace_ctx-before.ensures.before
-    c.replace_ctx-before.ensures.moves c.replace_ctx-before.ensures.context
-    c.parse_elements-read.ensures c.in_ok-elems-in-Array.was c.replace_ctx.ensures.moves
-    c.replace_ctx.ensures.context in
+    let inner = elements_within g.B.BodyForms.forms c.get_ctx-in-Array.ensures
+    c.items_context-ctx-in-Array.ensures.decides c.replace_ctx-before-in-Array.ensures.before
+    c.replace_ctx-before-in-Array.ensures.moves c.replace_ctx-before-in-Array.ensures.context
+    c.parse_elements-read.ensures c.in_ok-elems-in-Array.was c.replace_ctx-in-Array.ensures.moves
+    c.replace_ctx-in-Array.ensures.context in
     record { apart = apart-down (elem_parts c.in_ok-elems-in-Array.elems.items) inner.from }
 
 pub parse_primary_expr-returns-in_ok-elems-in-Array : goal.parse_primary_expr-returns-in_ok-elems-in-Array
@@ -226,11 +239,11 @@ parse_primary_expr-returns-in_ok-elems-in-Array g t c =
     let place = ap (λ v. v.lo) (sym (s.place_was took start c.cur_span.ensures)) in
     let begun = opening.array_begins g.B.Bodies.is_faithful g.B.BodyForms.forms c.in_ok-look.ensures.looks
     (sym c.primary_kind.ensures ∙ c.in-Array.is) took place in
-    let inner = elements_within g.B.BodyForms.forms c.get_ctx.ensures
-    c.items_context-ctx.ensures.decides c.replace_ctx-before.ensures.before
-    c.replace_ctx-before.ensures.moves c.replace_ctx-before.ensures.context
-    c.parse_elements-read.ensures c.in_ok-elems-in-Array.was c.replace_ctx.ensures.moves
-    c.replace_ctx.ensures.context in
+    let inner = elements_within g.B.BodyForms.forms c.get_ctx-in-Array.ensures
+    c.items_context-ctx-in-Array.ensures.decides c.replace_ctx-before-in-Array.ensures.before
+    c.replace_ctx-before-in-Array.ensures.moves c.replace_ctx-before-in-Array.ensures.context
+    c.parse_elements-read.ensures c.in_ok-elems-in-Array.was c.replace_ctx-in-Array.ensures.moves
+    c.replace_ctx-in-Array.ensures.context in
     m.after {m = record c.args.p.now { input = c.skip-in-Array.new.input }} c.array_lit.result begun (grows-same _)
     (m.call c.array_lit.result (λ x p. Some (array_from start.lo p.0, p.1))
     (λ x ts. refl) inner.reads inner.grows (λ x h. h)
@@ -287,6 +300,10 @@ parse_primary_expr-returns-in_err-start-in-Template g t c =
 
 pub parse_primary_expr-returns-in_err-parts-in-Template : goal.parse_primary_expr-returns-in_err-parts-in-Template
 parse_primary_expr-returns-in_err-parts-in-Template g t c =
+    let inner = aside c.get_ctx-in-Template.ensures c.without_colon-ctx-in-Template.ensures.decides
+    c.replace_ctx-before-in-Template.ensures.before c.replace_ctx-before-in-Template.ensures.moves
+    c.replace_ctx-before-in-Template.ensures.context c.parse_tpl_elements-read.ensures c.in_err-parts-in-Template.was
+    c.replace_ctx-in-Template.ensures.moves c.replace_ctx-in-Template.ensures.context in
     let picked = s.on_seen {g = run g.B.BodyForms.forms (at (Template false))} c.in_ok-look.ensures.looks
     (λ x ts same e. rule.template_picked _ x ts (s.no_head same)
     (ap (at_token is_backquote) e ∙ opening.is_template _ (sym c.primary_kind.ensures ∙ c.in-Template.is))) in
@@ -295,31 +312,38 @@ parse_primary_expr-returns-in_err-parts-in-Template g t c =
     (s.unheard_after (s.on_then picked (s.on_call _ (tpl.template_splits _ false)
     (c.in_ok-start-in-Template.ensures.expects g.B.Bodies.is_faithful).on))
     (s.unheard_call (λ x p. Some (tpl_e (to start (span_of p.0)) p.0, p.1))
-    (λ x ts. refl) c.in_err-parts-in-Template.ensures.reads)) c.parse_tpl_elements.ensures.grows
+    (λ x ts. refl) inner.reads)) inner.grows
 
 pub parse_primary_expr-tpl-node-requires : goal.parse_primary_expr-tpl-node-requires
-parse_primary_expr-tpl-node-requires g t c = record {
-  apart = apart-down (exprs_parts c.in_ok-parts-in-Template.parts.exprs) c.in_ok-parts-in-Template.ensures.from;
-}
+parse_primary_expr-tpl-node-requires g t c =
+    let inner = aside c.get_ctx-in-Template.ensures c.without_colon-ctx-in-Template.ensures.decides
+    c.replace_ctx-before-in-Template.ensures.before c.replace_ctx-before-in-Template.ensures.moves
+    c.replace_ctx-before-in-Template.ensures.context c.parse_tpl_elements-read.ensures c.in_ok-parts-in-Template.was
+    c.replace_ctx-in-Template.ensures.moves c.replace_ctx-in-Template.ensures.context in
+    record { apart = apart-down (exprs_parts c.in_ok-parts-in-Template.parts.exprs) inner.from }
 
 pub parse_primary_expr-returns-in_ok-parts-in-Template : goal.parse_primary_expr-returns-in_ok-parts-in-Template
 parse_primary_expr-returns-in_ok-parts-in-Template g t c =
+    let inner = aside c.get_ctx-in-Template.ensures c.without_colon-ctx-in-Template.ensures.decides
+    c.replace_ctx-before-in-Template.ensures.before c.replace_ctx-before-in-Template.ensures.moves
+    c.replace_ctx-before-in-Template.ensures.context c.parse_tpl_elements-read.ensures c.in_ok-parts-in-Template.was
+    c.replace_ctx-in-Template.ensures.moves c.replace_ctx-in-Template.ensures.context in
     let picked = s.on_seen {g = run g.B.BodyForms.forms (at (Template false))} c.in_ok-look.ensures.looks
     (λ x ts same e. rule.template_picked _ x ts (s.no_head same)
     (ap (at_token is_backquote) e ∙ opening.is_template _ (sym c.primary_kind.ensures ∙ c.in-Template.is))) in
     let start = c.in_ok-start-in-Template.start in
     let parts = c.in_ok-parts-in-Template.parts in
-    let now = c.parse_tpl_elements.new.p.nodes in
+    let now = c.parse_tpl_elements-read.new.p.nodes in
     m.node _ c.tpl-node.result c.made.result (omega arith)
     (made_over _ _ _ (exprs_parts parts.exprs) _ c.tpl-node.result c.tpl-node.ensures.made
-    c.in_ok-parts-in-Template.ensures.from)
-    c.made.ensures.ok c.made.ensures.refused c.parse_tpl_elements.ensures.grows c.tpl-node.ensures.grows
+    inner.from)
+    c.made.ensures.ok c.made.ensures.refused inner.grows c.tpl-node.ensures.grows
     (s.heard_after picked
     (s.heard_answer (ap (λ v. node tpl_kind (to start parts.end) v)
     (sym (trees-both (map quasi_tree parts.quasis.items) (map (tree_of now) parts.exprs.items))))
     (s.heard_more _ (tpl.template_splits _ false) (c.in_ok-start-in-Template.ensures.expects g.B.Bodies.is_faithful)
     (s.on_call (λ x p. Some (tpl_e (to start (span_of p.0)) p.0, p.1))
-    (λ x ts. refl) c.in_ok-parts-in-Template.ensures.reads.on))))
+    (λ x ts. refl) inner.reads.on))))
 
 pub parse_primary_expr-parse_plain_primary-requires : goal.parse_primary_expr-parse_plain_primary-requires
 parse_primary_expr-parse_plain_primary-requires g t c =
@@ -551,78 +575,111 @@ parse_object_prop-returns-in_ok-value-in-Cover g t c =
 
 pub parse_object_prop-returns-in_err-key-in-Key : goal.parse_object_prop-returns-in_err-key-in-Key
 parse_object_prop-returns-in_err-key-in-Key g t c =
+    let keyed = aside c.get_ctx-in-Key.ensures c.prop_name_context-ctx.ensures.decides
+    c.replace_ctx-before-in-Key.ensures.before c.replace_ctx-before-in-Key.ensures.moves
+    c.replace_ctx-before-in-Key.ensures.context c.parse_prop_name-read.ensures c.in_err-key-in-Key.was
+    c.replace_ctx-in-Key.ensures.moves c.replace_ctx-in-Key.ensures.context in
     let left = begins.begun g.I.Tokens.model g.B.Bodies.is_faithful g.B.BodyForms.forms _ _ head.Key c.in-Key.is
     c.in_ok-name.ensures.reads in
     m.refused c.from_residual-in_err-key-in-Key.ensures.1
-    (s.unheard_after left (s.unheard_call _ (method.key_splits _) c.in_err-key-in-Key.ensures.reads))
-    c.parse_prop_name.ensures.grows
+    (s.unheard_after left (s.unheard_call _ (method.key_splits _) keyed.reads))
+    keyed.grows
 
 pub parse_object_prop-returns-in_err-key-in-Method : goal.parse_object_prop-returns-in_err-key-in-Method
 parse_object_prop-returns-in_err-key-in-Method g t c =
+    let keyed = aside c.get_ctx-in-Method.ensures c.prop_name_context-ctx-in-Method.ensures.decides
+    c.replace_ctx-before-in-Method.ensures.before c.replace_ctx-before-in-Method.ensures.moves
+    c.replace_ctx-before-in-Method.ensures.context c.parse_prop_name-read-in-Method.ensures c.in_err-key-in-Method.was
+    c.replace_ctx-in-Method.ensures.moves c.replace_ctx-in-Method.ensures.context in
     let kind = c.in-Method.kind in
     let start = c.in-Method.start in
     let left = begins.begun g.I.Tokens.model g.B.Bodies.is_faithful g.B.BodyForms.forms _ _
     (head.Method c.in-Method.kind c.in-Method.start) c.in-Method.is c.in_ok-name.ensures.reads in
     m.refused c.from_residual-in_err-key-in-Method.ensures.1
     (s.unheard_after left (s.unheard_call _ (method.method_tail_splits _ kind start)
-    c.in_err-key-in-Method.ensures.reads)) c.parse_prop_name-in-Method.ensures.grows
+    keyed.reads)) keyed.grows
 
 pub parse_object_prop-returns-in_err-function-in-Method : goal.parse_object_prop-returns-in_err-function-in-Method
 parse_object_prop-returns-in_err-function-in-Method g t c =
+    let keyed = aside c.get_ctx-in-Method.ensures c.prop_name_context-ctx-in-Method.ensures.decides
+    c.replace_ctx-before-in-Method.ensures.before c.replace_ctx-before-in-Method.ensures.moves
+    c.replace_ctx-before-in-Method.ensures.context c.parse_prop_name-read-in-Method.ensures c.in_ok-key-in-Method.was
+    c.replace_ctx-in-Method.ensures.moves c.replace_ctx-in-Method.ensures.context in
+    let inner = methods.method_within g.B.BodyForms.forms g.met.B.Bodies.lawful (Some c.in-Method.kind)
+    c.get_ctx-in-Method-2.ensures c.method_params-ctx-in-Method.ensures c.replace_ctx-before-in-Method-2.ensures.before
+    c.replace_ctx-before-in-Method-2.ensures.moves c.replace_ctx-before-in-Method-2.ensures.context
+    c.parse_method-read-in-Method.ensures c.in_err-function-in-Method.was c.replace_ctx-in-Method-2.ensures.moves
+    c.replace_ctx-in-Method-2.ensures.context in
     let kind = c.in-Method.kind in
     let start = c.in-Method.start in
-    let key = key_at c.parse_prop_name-in-Method.new.p.nodes c.in_ok-key-in-Method.key in
+    let key = key_at c.parse_prop_name-read-in-Method.new.p.nodes c.in_ok-key-in-Method.key in
     let left = begins.begun g.I.Tokens.model g.B.Bodies.is_faithful g.B.BodyForms.forms _ _
     (head.Method c.in-Method.kind c.in-Method.start) c.in-Method.is c.in_ok-name.ensures.reads in
     m.refused c.from_residual-in_err-function-in-Method.ensures.1
     (s.unheard_after (s.on_then left (s.on_call _ (method.method_tail_splits _ kind start)
-    c.in_ok-key-in-Method.ensures.reads.on))
-    (s.unheard_call _ (method.method_behind_splits _ (Some kind) start key) c.in_err-function-in-Method.ensures.reads))
-    (grows-then c.parse_prop_name-in-Method.ensures.grows c.parse_method-in-Method.ensures.grows)
+    keyed.reads.on))
+    (s.unheard_call _ (method.method_behind_splits _ (Some kind) start key) inner.reads))
+    (grows-then keyed.grows inner.grows)
 
 pub parse_object_prop-returns-in_ok-function-in-Method : goal.parse_object_prop-returns-in_ok-function-in-Method
 parse_object_prop-returns-in_ok-function-in-Method g t c =
+    let keyed = aside c.get_ctx-in-Method.ensures c.prop_name_context-ctx-in-Method.ensures.decides
+    c.replace_ctx-before-in-Method.ensures.before c.replace_ctx-before-in-Method.ensures.moves
+    c.replace_ctx-before-in-Method.ensures.context c.parse_prop_name-read-in-Method.ensures c.in_ok-key-in-Method.was
+    c.replace_ctx-in-Method.ensures.moves c.replace_ctx-in-Method.ensures.context in
+    let inner = methods.method_within g.B.BodyForms.forms g.met.B.Bodies.lawful (Some c.in-Method.kind)
+    c.get_ctx-in-Method-2.ensures c.method_params-ctx-in-Method.ensures c.replace_ctx-before-in-Method-2.ensures.before
+    c.replace_ctx-before-in-Method-2.ensures.moves c.replace_ctx-before-in-Method-2.ensures.context
+    c.parse_method-read-in-Method.ensures c.in_ok-function-in-Method.was c.replace_ctx-in-Method-2.ensures.moves
+    c.replace_ctx-in-Method-2.ensures.context in
     let kind = c.in-Method.kind in
     let start = c.in-Method.start in
     let name = c.in_ok-key-in-Method.key in
-    let key = key_at c.parse_prop_name-in-Method.new.p.nodes name in
+    let key = key_at c.parse_prop_name-read-in-Method.new.p.nodes name in
     let fun = c.in_ok-function-in-Method.function in
-    let read = c.in_ok-function-in-Method.ensures in
-    let grown = c.parse_method-in-Method.ensures.grows in
     let left = begins.begun g.I.Tokens.model g.B.Bodies.is_faithful g.B.BodyForms.forms _ _
     (head.Method c.in-Method.kind c.in-Method.start) c.in-Method.is c.in_ok-name.ensures.reads in
     m.yes (Ok _)
     (s.heard_after left
     (s.heard_answer (method.method_made (Some kind) start name fun c.method_of-in-Method.result
-    c.method_of-in-Method.ensures grown c.in_ok-key-in-Method.ensures.from read.from.1)
-    (s.heard_more _ (method.method_tail_splits _ kind start) c.in_ok-key-in-Method.ensures.reads
-    (s.on_call _ (method.method_behind_splits _ (Some kind) start key) read.reads.on))))
-    (grows-then c.parse_prop_name-in-Method.ensures.grows grown)
-    (method.method_apart (Some kind) start name fun c.method_of-in-Method.result c.method_of-in-Method.ensures grown
-    c.in_ok-key-in-Method.ensures.from read.from.0)
+    c.method_of-in-Method.ensures inner.grows keyed.from inner.from.1)
+    (s.heard_more _ (method.method_tail_splits _ kind start) keyed.reads
+    (s.on_call _ (method.method_behind_splits _ (Some kind) start key) inner.reads.on))))
+    (grows-then keyed.grows inner.grows)
+    (method.method_apart (Some kind) start name fun c.method_of-in-Method.result c.method_of-in-Method.ensures
+    inner.grows
+    keyed.from inner.from.0)
 
 pub parse_object_prop-returns-in_err-eat-in-Key : goal.parse_object_prop-returns-in_err-eat-in-Key
 parse_object_prop-returns-in_err-eat-in-Key g t c =
-    let key = key_at c.parse_prop_name.new.p.nodes c.in_ok-key-in-Key.key in
+    let keyed = aside c.get_ctx-in-Key.ensures c.prop_name_context-ctx.ensures.decides
+    c.replace_ctx-before-in-Key.ensures.before c.replace_ctx-before-in-Key.ensures.moves
+    c.replace_ctx-before-in-Key.ensures.context c.parse_prop_name-read.ensures c.in_ok-key-in-Key.was
+    c.replace_ctx-in-Key.ensures.moves c.replace_ctx-in-Key.ensures.context in
+    let key = key_at c.parse_prop_name-read.new.p.nodes c.in_ok-key-in-Key.key in
     let left = begins.begun g.I.Tokens.model g.B.Bodies.is_faithful g.B.BodyForms.forms _ _ head.Key c.in-Key.is
     c.in_ok-name.ensures.reads in
-    let named = s.on_then left (s.on_call _ (method.key_splits _) c.in_ok-key-in-Key.ensures.reads.on) in
+    let named = s.on_then left (s.on_call _ (method.key_splits _) keyed.reads.on) in
     m.refused c.from_residual-in_err-eat-in-Key.ensures.1
     (s.unheard_after named
     (s.unheard_call _ (method.behind_key_splits _ key)
     (s.unheard_call _ (method.after_splits _) (c.in_err-eat-in-Key.ensures.eats g.B.Bodies.is_faithful))))
-    c.parse_prop_name.ensures.grows
+    keyed.grows
 
 pub parse_object_prop-returns-in_err-value-in-Some : goal.parse_object_prop-returns-in_err-value-in-Some
 parse_object_prop-returns-in_err-value-in-Some g t c =
+    let keyed = aside c.get_ctx-in-Key.ensures c.prop_name_context-ctx.ensures.decides
+    c.replace_ctx-before-in-Key.ensures.before c.replace_ctx-before-in-Key.ensures.moves
+    c.replace_ctx-before-in-Key.ensures.context c.parse_prop_name-read.ensures c.in_ok-key-in-Key.was
+    c.replace_ctx-in-Key.ensures.moves c.replace_ctx-in-Key.ensures.context in
     let inner = assign_within g.B.BodyForms.forms c.get_ctx-in-Some.ensures c.include_in-ctx-in-Some.ensures.decides
     c.replace_ctx-before-in-Some.ensures.before c.replace_ctx-before-in-Some.ensures.moves
     c.replace_ctx-before-in-Some.ensures.context c.parse_assignment_expr-read-in-Some.ensures
     c.in_err-value-in-Some.was c.replace_ctx-in-Some.ensures.moves c.replace_ctx-in-Some.ensures.context in
-    let key = key_at c.parse_prop_name.new.p.nodes c.in_ok-key-in-Key.key in
+    let key = key_at c.parse_prop_name-read.new.p.nodes c.in_ok-key-in-Key.key in
     let left = begins.begun g.I.Tokens.model g.B.Bodies.is_faithful g.B.BodyForms.forms _ _ head.Key c.in-Key.is
     c.in_ok-name.ensures.reads in
-    let named = s.on_then left (s.on_call _ (method.key_splits _) c.in_ok-key-in-Key.ensures.reads.on) in
+    let named = s.on_then left (s.on_call _ (method.key_splits _) keyed.reads.on) in
     let some = s.on_call _ (method.after_splits g.B.BodyForms.forms)
     (s.eats_some g.B.Bodies.is_faithful is_colon _ c.in-Some.field-0 _ _ c.in-Some.is
     (c.in_ok-eat-in-Key.ensures.eats g.B.Bodies.is_faithful)).on in
@@ -631,15 +688,19 @@ parse_object_prop-returns-in_err-value-in-Some g t c =
     (s.unheard_call _ (method.behind_key_splits _ key)
     (s.unheard_after some
     (s.unheard_call _ (method.after_colon_splits _) inner.reads))))
-    (grows-then c.parse_prop_name.ensures.grows inner.grows)
+    (grows-then keyed.grows inner.grows)
 
 pub parse_object_prop-returns-in_ok-value-in-Some : goal.parse_object_prop-returns-in_ok-value-in-Some
 parse_object_prop-returns-in_ok-value-in-Some g t c =
+    let keyed = aside c.get_ctx-in-Key.ensures c.prop_name_context-ctx.ensures.decides
+    c.replace_ctx-before-in-Key.ensures.before c.replace_ctx-before-in-Key.ensures.moves
+    c.replace_ctx-before-in-Key.ensures.context c.parse_prop_name-read.ensures c.in_ok-key-in-Key.was
+    c.replace_ctx-in-Key.ensures.moves c.replace_ctx-in-Key.ensures.context in
     let inner = assign_within g.B.BodyForms.forms c.get_ctx-in-Some.ensures c.include_in-ctx-in-Some.ensures.decides
     c.replace_ctx-before-in-Some.ensures.before c.replace_ctx-before-in-Some.ensures.moves
     c.replace_ctx-before-in-Some.ensures.context c.parse_assignment_expr-read-in-Some.ensures c.in_ok-value-in-Some.was
     c.replace_ctx-in-Some.ensures.moves c.replace_ctx-in-Some.ensures.context in
-    let key = key_at c.parse_prop_name.new.p.nodes c.in_ok-key-in-Key.key in
+    let key = key_at c.parse_prop_name-read.new.p.nodes c.in_ok-key-in-Key.key in
     let left = begins.begun g.I.Tokens.model g.B.Bodies.is_faithful g.B.BodyForms.forms _ _ head.Key c.in-Key.is
     c.in_ok-name.ensures.reads in
     let some = s.on_call _ (method.after_splits g.B.BodyForms.forms)
@@ -647,19 +708,27 @@ parse_object_prop-returns-in_ok-value-in-Some g t c =
     (c.in_ok-eat-in-Key.ensures.eats g.B.Bodies.is_faithful)).on in
     let read = s.heard_after some (s.heard_call _ (method.after_colon_splits _) (λ x ts. refl) inner.reads) in
     let made = method.key_prop_made c.in_ok-key-in-Key.key c.in_ok-value-in-Some.value c.key_prop.result
-    c.key_prop.ensures inner.grows c.in_ok-key-in-Key.ensures.from inner.from in
+    c.key_prop.ensures inner.grows keyed.from inner.from in
     m.yes (Ok _)
     (s.heard_answer made.0 (s.heard_after left
-    (s.heard_more _ (method.key_splits _) c.in_ok-key-in-Key.ensures.reads
+    (s.heard_more _ (method.key_splits _) keyed.reads
     (s.on_call _ (method.behind_key_splits _ key) read.on))))
-    (grows-then c.parse_prop_name.ensures.grows inner.grows) made.1
+    (grows-then keyed.grows inner.grows) made.1
 
 pub parse_object_prop-returns-in_err-function-in-None : goal.parse_object_prop-returns-in_err-function-in-None
 parse_object_prop-returns-in_err-function-in-None g t c =
-    let key = key_at c.parse_prop_name.new.p.nodes c.in_ok-key-in-Key.key in
+    let keyed = aside c.get_ctx-in-Key.ensures c.prop_name_context-ctx.ensures.decides
+    c.replace_ctx-before-in-Key.ensures.before c.replace_ctx-before-in-Key.ensures.moves
+    c.replace_ctx-before-in-Key.ensures.context c.parse_prop_name-read.ensures c.in_ok-key-in-Key.was
+    c.replace_ctx-in-Key.ensures.moves c.replace_ctx-in-Key.ensures.context in
+    let inner = methods.method_within g.B.BodyForms.forms g.met.B.Bodies.lawful None c.get_ctx-in-None.ensures
+    c.method_params-ctx.ensures c.replace_ctx-before-in-None.ensures.before c.replace_ctx-before-in-None.ensures.moves
+    c.replace_ctx-before-in-None.ensures.context c.parse_method-read.ensures c.in_err-function-in-None.was
+    c.replace_ctx-in-None.ensures.moves c.replace_ctx-in-None.ensures.context in
+    let key = key_at c.parse_prop_name-read.new.p.nodes c.in_ok-key-in-Key.key in
     let left = begins.begun g.I.Tokens.model g.B.Bodies.is_faithful g.B.BodyForms.forms _ _ head.Key c.in-Key.is
     c.in_ok-name.ensures.reads in
-    let named = s.on_then left (s.on_call _ (method.key_splits _) c.in_ok-key-in-Key.ensures.reads.on) in
+    let named = s.on_then left (s.on_call _ (method.key_splits _) keyed.reads.on) in
     let none = s.on_call _ (method.after_splits g.B.BodyForms.forms)
     (s.eats_none g.B.Bodies.is_faithful is_colon _ _ _ c.in-None.is
     (c.in_ok-eat-in-Key.ensures.eats g.B.Bodies.is_faithful)) in
@@ -667,44 +736,41 @@ parse_object_prop-returns-in_err-function-in-None g t c =
     m.refused c.from_residual-in_err-function-in-None.ensures.1
     (s.unheard_after named
     (s.unheard_call _ (method.behind_key_splits _ key)
-    (s.unheard_after (s.on_then none same) c.in_err-function-in-None.ensures.reads)))
-    (grows-then c.parse_prop_name.ensures.grows c.parse_method.ensures.grows)
+    (s.unheard_after (s.on_then none same) inner.reads)))
+    (grows-then keyed.grows inner.grows)
 
 pub parse_object_prop-returns-in_ok-function-in-None : goal.parse_object_prop-returns-in_ok-function-in-None
 parse_object_prop-returns-in_ok-function-in-None g t c =
+    let keyed = aside c.get_ctx-in-Key.ensures c.prop_name_context-ctx.ensures.decides
+    c.replace_ctx-before-in-Key.ensures.before c.replace_ctx-before-in-Key.ensures.moves
+    c.replace_ctx-before-in-Key.ensures.context c.parse_prop_name-read.ensures c.in_ok-key-in-Key.was
+    c.replace_ctx-in-Key.ensures.moves c.replace_ctx-in-Key.ensures.context in
+    let inner = methods.method_within g.B.BodyForms.forms g.met.B.Bodies.lawful None c.get_ctx-in-None.ensures
+    c.method_params-ctx.ensures c.replace_ctx-before-in-None.ensures.before c.replace_ctx-before-in-None.ensures.moves
+    c.replace_ctx-before-in-None.ensures.context c.parse_method-read.ensures c.in_ok-function-in-None.was
+    c.replace_ctx-in-None.ensures.moves c.replace_ctx-in-None.ensures.context in
     let name = c.in_ok-key-in-Key.key in
-    let key = key_at c.parse_prop_name.new.p.nodes name in
+    let key = key_at c.parse_prop_name-read.new.p.nodes name in
     let fun = c.in_ok-function-in-None.function in
-    let answer = c.in_ok-function-in-None.ensures in
-    let grown = c.parse_method.ensures.grows in
     let left = begins.begun g.I.Tokens.model g.B.Bodies.is_faithful g.B.BodyForms.forms _ _ head.Key c.in-Key.is
     c.in_ok-name.ensures.reads in
     let none = s.on_call _ (method.after_splits g.B.BodyForms.forms)
     (s.eats_none g.B.Bodies.is_faithful is_colon _ _ _ c.in-None.is
     (c.in_ok-eat-in-Key.ensures.eats g.B.Bodies.is_faithful)) in
     let same = s.on_here g.met.I.Tokens.laws c.eat.new.input (function.plain_function g.B.BodyForms.forms) in
-    let read = s.heard_after (s.on_then none same) answer.reads in
+    let read = s.heard_after (s.on_then none same) inner.reads in
     m.yes (Ok _)
     (s.heard_answer (method.plain_made c.span-start.result name fun c.method_of.result c.span-start.ensures
-    c.method_of.ensures grown c.in_ok-key-in-Key.ensures.from)
+    c.method_of.ensures inner.grows keyed.from)
     (s.heard_after left
-    (s.heard_more _ (method.key_splits _) c.in_ok-key-in-Key.ensures.reads
+    (s.heard_more _ (method.key_splits _) keyed.reads
     (s.on_call _ (method.behind_key_splits _ key) read.on))))
-    (grows-then c.parse_prop_name.ensures.grows grown)
-    (method.method_apart None c.span-start.result name fun c.method_of.result c.method_of.ensures grown
-    c.in_ok-key-in-Key.ensures.from answer.from.0)
+    (grows-then keyed.grows inner.grows)
+    (method.method_apart None c.span-start.result name fun c.method_of.result c.method_of.ensures inner.grows
+    keyed.from inner.from.0)
 
-pub parse_method-returns : goal.parse_method-returns
-parse_method-returns g t c =
-    let kind = c.args.kind in
-    within (method_params (async_in kind) (generator_in kind)) (λ x. refl)
-    (function.function_inside g.B.BodyForms.forms g.met.B.Bodies.lawful kind) c.get_ctx.ensures (ap deciding
-    c.method_params-ctx.ensures) c.replace_ctx-before.ensures.before c.replace_ctx-before.ensures.moves
-    c.replace_ctx-before.ensures.context c.parse_method_inside-read.ensures refl c.replace_ctx.ensures.moves
-    c.replace_ctx.ensures.context
-
-pub parse_method_inside-returns-in_err-start : goal.parse_method_inside-returns-in_err-start
-parse_method_inside-returns-in_err-start g t c =
+pub parse_method-returns-in_err-start : goal.parse_method-returns-in_err-start
+parse_method-returns-in_err-start g t c =
     let hook = g.B.BodyForms.forms in
     let place = g.B.Block.Spanned.place in
     let kind = c.args.kind in
@@ -712,8 +778,8 @@ parse_method_inside-returns-in_err-start g t c =
     (s.unheard_call _ (function.inside_splits hook place kind)
     (c.in_err-start.ensures.expects g.B.Bodies.is_faithful)) (grows-same _)
 
-pub parse_method_inside-returns-in_err-params : goal.parse_method_inside-returns-in_err-params
-parse_method_inside-returns-in_err-params g t c =
+pub parse_method-returns-in_err-params : goal.parse_method-returns-in_err-params
+parse_method-returns-in_err-params g t c =
     let hook = g.B.BodyForms.forms in
     let place = g.B.Block.Spanned.place in
     let kind = c.args.kind in
@@ -724,8 +790,8 @@ parse_method_inside-returns-in_err-params g t c =
     (s.unheard_call _ (function.left_splits hook place kind start) c.in_err-params.ensures.reads))
     c.in_err-params.ensures.grows
 
-pub parse_method_inside-close_method-requires : goal.parse_method_inside-close_method-requires
-parse_method_inside-close_method-requires g t c =
+pub parse_method-close_method-requires : goal.parse_method-close_method-requires
+parse_method-close_method-requires g t c =
     record {
       params = (
         apart-down (flat param_parts c.in_ok-params.params.items) c.in_ok-params.ensures.from.0,
@@ -733,8 +799,8 @@ parse_method_inside-close_method-requires g t c =
       );
     }
 
-pub parse_method_inside-returns : goal.parse_method_inside-returns
-parse_method_inside-returns g t c =
+pub parse_method-returns : goal.parse_method-returns
+parse_method-returns g t c =
     let hook = g.B.BodyForms.forms in
     let place = g.B.Block.Spanned.place in
     let kind = c.args.kind in
@@ -990,6 +1056,9 @@ parse_member_expr-returns-in_err-eat-2 g t c =
 
 pub parse_member_expr-returns-in_err-list-in-Some-2 : goal.parse_member_expr-returns-in_err-list-in-Some-2
 parse_member_expr-returns-in_err-list-in-Some-2 g t c =
+    let inner = args_within g.B.BodyForms.forms false c.get_ctx.ensures c.items_context-ctx.ensures.decides
+    c.replace_ctx-before.ensures.before c.replace_ctx-before.ensures.moves c.replace_ctx-before.ensures.context
+    c.parse_args-read.ensures c.in_err-list-in-Some-2.was c.replace_ctx.ensures.moves c.replace_ctx.ensures.context in
     let first = c.skip.ensures.took.1 in
     let b = false in
     let start = c.cur_span-start.result in
@@ -1018,16 +1087,22 @@ parse_member_expr-returns-in_err-list-in-Some-2 g t c =
     (s.on_call (λ x q. construct_by g.B.BodyForms.forms b start l q.0 x q.1) (λ x ts. refl) some.on))) in
     m.refused c.from_residual-in_err-list-in-Some-2.ensures.1
     (s.unheard_after opened (s.unheard_call (λ x q. run _ (links b q.0) x q.1) (λ x ts. refl)
-    (s.unheard_call _ (link.new_args_splits _ start l) c.in_err-list-in-Some-2.ensures.reads)))
-    (grows-then c.parse_member_expr.ensures.grows c.parse_args.ensures.grows)
+    (s.unheard_call _ (link.new_args_splits _ start l) inner.reads)))
+    (grows-then c.parse_member_expr.ensures.grows inner.grows)
 
 pub parse_member_expr-new_expr-requires : goal.parse_member_expr-new_expr-requires
 parse_member_expr-new_expr-requires g t c =
+    let inner = args_within g.B.BodyForms.forms false c.get_ctx.ensures c.items_context-ctx.ensures.decides
+    c.replace_ctx-before.ensures.before c.replace_ctx-before.ensures.moves c.replace_ctx-before.ensures.context
+    c.parse_args-read.ensures c.in_ok-list-in-Some-2.was c.replace_ctx.ensures.moves c.replace_ctx.ensures.context in
     apart-down (one_expr c.in_ok-callee.callee ++ args_parts c.in_ok-list-in-Some-2.list.items)
-    (apart_behind c.parse_args.ensures.grows c.in_ok-callee.ensures.from c.in_ok-list-in-Some-2.ensures.from)
+    (apart_behind inner.grows c.in_ok-callee.ensures.from inner.from)
 
 pub parse_member_expr-returns-in_err-base-in-Some-2 : goal.parse_member_expr-returns-in_err-base-in-Some-2
 parse_member_expr-returns-in_err-base-in-Some-2 g t c =
+    let inner = args_within g.B.BodyForms.forms false c.get_ctx.ensures c.items_context-ctx.ensures.decides
+    c.replace_ctx-before.ensures.before c.replace_ctx-before.ensures.moves c.replace_ctx-before.ensures.context
+    c.parse_args-read.ensures c.in_ok-list-in-Some-2.was c.replace_ctx.ensures.moves c.replace_ctx.ensures.context in
     let first = c.skip.ensures.took.1 in
     let b = false in
     let start = c.cur_span-start.result in
@@ -1056,7 +1131,7 @@ parse_member_expr-returns-in_err-base-in-Some-2 g t c =
     (s.on_call (λ x q. construct_by g.B.BodyForms.forms b start l q.0 x q.1) (λ x ts. refl) some.on))) in
     let base = m.tail {p = record c.parse_member_expr.new.p { input = c.eat-2.new.input }} (Err _)
     (λ v x p. new_node start v p.0 x p.1)
-    (link.new_args_splits g.B.BodyForms.forms start l) c.in_ok-list-in-Some-2.ensures.reads c.parse_args.ensures.grows
+    (link.new_args_splits g.B.BodyForms.forms start l) inner.reads inner.grows
     c.in_ok-callee.ensures.from c.in_err-base-in-Some-2.ensures in
     m.refused c.from_residual-in_err-base-in-Some-2.ensures.1
     (s.unheard_after opened (s.unheard_call (λ x q. run _ (links b q.0) x q.1) (λ x ts. refl) base.reads))
@@ -1064,6 +1139,9 @@ parse_member_expr-returns-in_err-base-in-Some-2 g t c =
 
 pub parse_member_expr-returns-in_ok-base-in-Some-2 : goal.parse_member_expr-returns-in_ok-base-in-Some-2
 parse_member_expr-returns-in_ok-base-in-Some-2 g t c =
+    let inner = args_within g.B.BodyForms.forms false c.get_ctx.ensures c.items_context-ctx.ensures.decides
+    c.replace_ctx-before.ensures.before c.replace_ctx-before.ensures.moves c.replace_ctx-before.ensures.context
+    c.parse_args-read.ensures c.in_ok-list-in-Some-2.was c.replace_ctx.ensures.moves c.replace_ctx.ensures.context in
     let first = c.skip.ensures.took.1 in
     let b = false in
     let start = c.cur_span-start.result in
@@ -1092,7 +1170,7 @@ parse_member_expr-returns-in_ok-base-in-Some-2 g t c =
     (s.on_call (λ x q. construct_by g.B.BodyForms.forms b start l q.0 x q.1) (λ x ts. refl) some.on))) in
     let base = m.tail {p = record c.parse_member_expr.new.p { input = c.eat-2.new.input }}
     (Ok c.in_ok-base-in-Some-2.base) (λ v x p. new_node start v p.0 x p.1)
-    (link.new_args_splits g.B.BodyForms.forms start l) c.in_ok-list-in-Some-2.ensures.reads c.parse_args.ensures.grows
+    (link.new_args_splits g.B.BodyForms.forms start l) inner.reads inner.grows
     c.in_ok-callee.ensures.from c.in_ok-base-in-Some-2.ensures in
     m.after {m = record c.parse_member_expr.new.p { input = c.eat-2.new.input }} c.parse_subscripts-in-Some-2.result
     opened c.parse_member_expr.ensures.grows
@@ -1198,6 +1276,9 @@ parse_base-returns-in-Meta g t c =
 
 pub parse_base-returns-in_err-list-in-Call : goal.parse_base-returns-in_err-list-in-Call
 parse_base-returns-in_err-list-in-Call g t c =
+    let inner = args_within g.B.BodyForms.forms true c.get_ctx.ensures c.items_context-ctx.ensures.decides
+    c.replace_ctx-before.ensures.before c.replace_ctx-before.ensures.moves c.replace_ctx-before.ensures.context
+    c.parse_args-read.ensures c.in_err-list-in-Call.was c.replace_ctx.ensures.moves c.replace_ctx.ensures.context in
     let b = not c.args.no_call in
     let start = c.in-Some-2.start in
     let i = c.in-Call.import in
@@ -1211,15 +1292,21 @@ parse_base-returns-in_err-list-in-Call g t c =
     (s.unheard_after begun (s.unheard_after (s.on_call _ (base.import_splits _ b start)
     (s.heard_answer c.in-Call.is (c.in_ok-span.ensures.parses g.B.Bodies.is_faithful)).on)
     (s.unheard_call (λ x p. import_node start (import_e i.span i.phase) p.0 x p.1)
-    (λ x ts. refl) c.in_err-list-in-Call.ensures.reads)))
-    (grows-then (grows-kept c.import_head.ensures.nodes) c.parse_args.ensures.grows)
+    (λ x ts. refl) inner.reads)))
+    (grows-then (grows-kept c.import_head.ensures.nodes) inner.grows)
 
 pub parse_base-import_call-requires : goal.parse_base-import_call-requires
-parse_base-import_call-requires g t c = apart-down (args_parts c.in_ok-list-in-Call.list.items)
-    c.in_ok-list-in-Call.ensures.from
+parse_base-import_call-requires g t c =
+    let inner = args_within g.B.BodyForms.forms true c.get_ctx.ensures c.items_context-ctx.ensures.decides
+    c.replace_ctx-before.ensures.before c.replace_ctx-before.ensures.moves c.replace_ctx-before.ensures.context
+    c.parse_args-read.ensures c.in_ok-list-in-Call.was c.replace_ctx.ensures.moves c.replace_ctx.ensures.context in
+    apart-down (args_parts c.in_ok-list-in-Call.list.items) inner.from
 
 pub parse_base-returns-in_ok-list-in-Call : goal.parse_base-returns-in_ok-list-in-Call
 parse_base-returns-in_ok-list-in-Call g t c =
+    let inner = args_within g.B.BodyForms.forms true c.get_ctx.ensures c.items_context-ctx.ensures.decides
+    c.replace_ctx-before.ensures.before c.replace_ctx-before.ensures.moves c.replace_ctx-before.ensures.context
+    c.parse_args-read.ensures c.in_ok-list-in-Call.was c.replace_ctx.ensures.moves c.replace_ctx.ensures.context in
     let b = not c.args.no_call in
     let start = c.in-Some-2.start in
     let i = c.in-Call.import in
@@ -1234,8 +1321,8 @@ parse_base-returns-in_ok-list-in-Call g t c =
     (s.on_then begun (s.on_call _ (base.import_splits _ b start)
     (s.heard_answer c.in-Call.is (c.in_ok-span.ensures.parses g.B.Bodies.is_faithful)).on)) kept
     (m.call c.import_call.result (λ x p. import_node start (import_e i.span i.phase) p.0 x p.1) (λ x ts. refl)
-    c.in_ok-list-in-Call.ensures.reads c.parse_args.ensures.grows (λ x. from-down (grows-count kept))
-    (c.import_call.ensures _ c.in_ok-list-in-Call.ensures.from))
+    inner.reads inner.grows (λ x. from-down (grows-count kept))
+    (c.import_call.ensures _ inner.from))
 
 pub parse_super-returns-in_err-super_head : goal.parse_super-returns-in_err-super_head
 parse_super-returns-in_err-super_head g t c =
@@ -1275,23 +1362,35 @@ parse_super-returns-in-Computed g t c =
 
 pub parse_super-returns-in_err-list-in-Call : goal.parse_super-returns-in_err-list-in-Call
 parse_super-returns-in_err-list-in-Call g t c =
+    let inner = args_within g.B.BodyForms.forms false c.get_ctx-in-Call.ensures c.items_context-ctx.ensures.decides
+    c.replace_ctx-before-in-Call.ensures.before c.replace_ctx-before-in-Call.ensures.moves
+    c.replace_ctx-before-in-Call.ensures.context c.parse_args-read.ensures c.in_err-list-in-Call.was
+    c.replace_ctx-in-Call.ensures.moves c.replace_ctx-in-Call.ensures.context in
     m.refused c.from_residual-in_err-list-in-Call.ensures.1
     (s.unheard_after (s.on_call _ (base.super_splits _ (not c.args.no_call) c.args.start)
     (s.on_answer c.in-Call.is (c.in_ok-super_head.ensures.continues g.B.Bodies.is_faithful)))
-    (s.unheard_call _ (base.args_splits _ c.args.start) c.in_err-list-in-Call.ensures.reads)) c.parse_args.ensures.grows
+    (s.unheard_call _ (base.args_splits _ c.args.start) inner.reads)) inner.grows
 
 pub parse_super-callee_call-requires : goal.parse_super-callee_call-requires
-parse_super-callee_call-requires g t c = apart-down (args_parts c.in_ok-list-in-Call.list.items)
-    c.in_ok-list-in-Call.ensures.from
+parse_super-callee_call-requires g t c =
+    let inner = args_within g.B.BodyForms.forms false c.get_ctx-in-Call.ensures c.items_context-ctx.ensures.decides
+    c.replace_ctx-before-in-Call.ensures.before c.replace_ctx-before-in-Call.ensures.moves
+    c.replace_ctx-before-in-Call.ensures.context c.parse_args-read.ensures c.in_ok-list-in-Call.was
+    c.replace_ctx-in-Call.ensures.moves c.replace_ctx-in-Call.ensures.context in
+    apart-down (args_parts c.in_ok-list-in-Call.list.items) inner.from
 
 pub parse_super-returns-in-Call : goal.parse_super-returns-in-Call
 parse_super-returns-in-Call g t c =
+    let inner = args_within g.B.BodyForms.forms false c.get_ctx-in-Call.ensures c.items_context-ctx.ensures.decides
+    c.replace_ctx-before-in-Call.ensures.before c.replace_ctx-before-in-Call.ensures.moves
+    c.replace_ctx-before-in-Call.ensures.context c.parse_args-read.ensures c.in_ok-list-in-Call.was
+    c.replace_ctx-in-Call.ensures.moves c.replace_ctx-in-Call.ensures.context in
     m.after {m = record c.args.p.now { input = c.super_head.new.input }} c.callee_call.result
     (s.on_call _ (base.super_splits _ (not c.args.no_call) c.args.start)
     (s.on_answer c.in-Call.is (c.in_ok-super_head.ensures.continues g.B.Bodies.is_faithful))) (grows-same _)
     (m.call c.callee_call.result _ (base.args_splits _ c.args.start)
-    c.in_ok-list-in-Call.ensures.reads c.parse_args.ensures.grows (λ x h. h)
-    (c.callee_call.ensures _ c.in_ok-list-in-Call.ensures.from))
+    inner.reads inner.grows (λ x h. h)
+    (c.callee_call.ensures _ inner.from))
 
 -- neither a property nor a call: nothing is read
 pub parse_super-returns-in_err-super_chain : goal.parse_super-returns-in_err-super_chain
@@ -1335,23 +1434,33 @@ parse_super-returns-in_ok-read-in-Computed-2 g t c =
     (s.refuses_later (s.leads_then c.in_ok-super_chain.ensures.acts inner.reads.on.leads)
     c.refuse_super_brackets.ensures))) inner.grows
 
-pub parse_super-returns-in_err-parse_args-in-Call-2 : goal.parse_super-returns-in_err-parse_args-in-Call-2
-parse_super-returns-in_err-parse_args-in-Call-2 g t c =
+pub parse_super-returns-in_err-read-in-Call-2 : goal.parse_super-returns-in_err-read-in-Call-2
+parse_super-returns-in_err-read-in-Call-2 g t c =
+    let inner = args_within g.B.BodyForms.forms false c.get_ctx-in-Call-2.ensures
+    c.items_context-ctx-in-Call-2.ensures.decides c.replace_ctx-before-in-Call-2.ensures.before
+    c.replace_ctx-before-in-Call-2.ensures.moves c.replace_ctx-before-in-Call-2.ensures.context
+    c.parse_args-read-in-Call-2.ensures c.in_err-read-in-Call-2.was c.replace_ctx-in-Call-2.ensures.moves
+    c.replace_ctx-in-Call-2.ensures.context in
     let other = s.on_call _ (base.super_splits g.B.BodyForms.forms (not c.args.no_call) c.args.start)
     (s.on_answer c.in-Other.is (c.in_ok-super_head.ensures.continues g.B.Bodies.is_faithful)) in
-    m.refused c.from_residual-in_err-parse_args-in-Call-2.ensures.1
+    m.refused c.from_residual-in_err-read-in-Call-2.ensures.1
     (s.unheard_after other (s.unheard_none (λ x ts. refl)
-    (s.refuses_later c.in_ok-super_chain.ensures.acts c.in_err-parse_args-in-Call-2.ensures.reads.refuses)))
-    c.parse_args-in-Call-2.ensures.grows
+    (s.refuses_later c.in_ok-super_chain.ensures.acts inner.reads.refuses)))
+    inner.grows
 
-pub parse_super-returns-in_ok-parse_args-in-Call-2 : goal.parse_super-returns-in_ok-parse_args-in-Call-2
-parse_super-returns-in_ok-parse_args-in-Call-2 g t c =
+pub parse_super-returns-in_ok-read-in-Call-2 : goal.parse_super-returns-in_ok-read-in-Call-2
+parse_super-returns-in_ok-read-in-Call-2 g t c =
+    let inner = args_within g.B.BodyForms.forms false c.get_ctx-in-Call-2.ensures
+    c.items_context-ctx-in-Call-2.ensures.decides c.replace_ctx-before-in-Call-2.ensures.before
+    c.replace_ctx-before-in-Call-2.ensures.moves c.replace_ctx-before-in-Call-2.ensures.context
+    c.parse_args-read-in-Call-2.ensures c.in_ok-read-in-Call-2.was c.replace_ctx-in-Call-2.ensures.moves
+    c.replace_ctx-in-Call-2.ensures.context in
     let other = s.on_call _ (base.super_splits g.B.BodyForms.forms (not c.args.no_call) c.args.start)
     (s.on_answer c.in-Other.is (c.in_ok-super_head.ensures.continues g.B.Bodies.is_faithful)) in
     m.no (s.unheard_after other (s.unheard_none (λ x ts. refl)
     (s.refuses_later (s.leads_then c.in_ok-super_chain.ensures.acts
-    c.in_ok-parse_args-in-Call-2.ensures.reads.on.leads) c.refuse_super_args.ensures)))
-    c.parse_args-in-Call-2.ensures.grows
+    inner.reads.on.leads) c.refuse_super_args.ensures)))
+    inner.grows
 
 pub parse_subscripts-loop-head-init : goal.parse_subscripts-loop-head-init
 parse_subscripts-loop-head-init g t c = (
@@ -1443,83 +1552,109 @@ parse_subscripts-loop-head-preserved-in-Computed g t c =
 
 pub parse_subscripts-returns-in_err-list-in-Call : goal.parse_subscripts-returns-in_err-list-in-Call
 parse_subscripts-returns-in_err-list-in-Call g t c =
+    let inner = args_within g.B.BodyForms.forms false c.get_ctx-in-Call.ensures c.items_context-ctx.ensures.decides
+    c.replace_ctx-before-in-Call.ensures.before c.replace_ctx-before-in-Call.ensures.moves
+    c.replace_ctx-before-in-Call.ensures.context c.parse_args-read.ensures c.in_err-list-in-Call.was
+    c.replace_ctx-in-Call.ensures.moves c.replace_ctx-in-Call.ensures.context in
     let l = tree_of c.loop-head.p.nodes c.loop-head.obj in
     m.passed_more c.from_residual-in_err-list-in-Call.ensures.1
     (chain.not_linked g.B.BodyForms.forms c.args.p.now c.loop-head.p _ c.loop-head.invariant c.in-Some.is
     (c.in_ok-head.ensures.begins g.B.Bodies.is_faithful)
     (m.no (s.unheard_call (λ x p. call_node c.in-Call.optional l p.0 x p.1)
     (λ x ts. link.tail_call _ c.in-Some.head c.in-Call.optional l x ts c.in-Call.is)
-    c.in_err-list-in-Call.ensures.reads) c.parse_args.ensures.grows))
+    inner.reads) inner.grows))
 
 pub parse_subscripts-call_expr-requires : goal.parse_subscripts-call_expr-requires
 parse_subscripts-call_expr-requires g t c =
+    let inner = args_within g.B.BodyForms.forms false c.get_ctx-in-Call.ensures c.items_context-ctx.ensures.decides
+    c.replace_ctx-before-in-Call.ensures.before c.replace_ctx-before-in-Call.ensures.moves
+    c.replace_ctx-before-in-Call.ensures.context c.parse_args-read.ensures c.in_ok-list-in-Call.was
+    c.replace_ctx-in-Call.ensures.moves c.replace_ctx-in-Call.ensures.context in
     apart-down (one_expr c.loop-head.obj ++ args_parts c.in_ok-list-in-Call.list.items)
-    (apart_behind c.parse_args.ensures.grows c.loop-head.invariant.3 c.in_ok-list-in-Call.ensures.from)
+    (apart_behind inner.grows c.loop-head.invariant.3 inner.from)
 
 pub parse_subscripts-returns-in_err-obj-in-Call : goal.parse_subscripts-returns-in_err-obj-in-Call
 parse_subscripts-returns-in_err-obj-in-Call g t c =
+    let inner = args_within g.B.BodyForms.forms false c.get_ctx-in-Call.ensures c.items_context-ctx.ensures.decides
+    c.replace_ctx-before-in-Call.ensures.before c.replace_ctx-before-in-Call.ensures.moves
+    c.replace_ctx-before-in-Call.ensures.context c.parse_args-read.ensures c.in_ok-list-in-Call.was
+    c.replace_ctx-in-Call.ensures.moves c.replace_ctx-in-Call.ensures.context in
     m.passed_more c.from_residual-in_err-obj-in-Call.ensures.1
     (chain.not_linked g.B.BodyForms.forms c.args.p.now c.loop-head.p _ c.loop-head.invariant c.in-Some.is
     (c.in_ok-head.ensures.begins g.B.Bodies.is_faithful)
     (m.tail (Err _) (λ v x p. call_node c.in-Call.optional v p.0 x p.1)
     (λ x ts. link.tail_call _ c.in-Some.head c.in-Call.optional _ x ts c.in-Call.is)
-    c.in_ok-list-in-Call.ensures.reads c.parse_args.ensures.grows c.loop-head.invariant.3 c.in_err-obj-in-Call.ensures))
+    inner.reads inner.grows c.loop-head.invariant.3 c.in_err-obj-in-Call.ensures))
 
 pub parse_subscripts-loop-head-preserved-in-Call : goal.parse_subscripts-loop-head-preserved-in-Call
 parse_subscripts-loop-head-preserved-in-Call g t c =
+    let inner = args_within g.B.BodyForms.forms false c.get_ctx-in-Call.ensures c.items_context-ctx.ensures.decides
+    c.replace_ctx-before-in-Call.ensures.before c.replace_ctx-before-in-Call.ensures.moves
+    c.replace_ctx-before-in-Call.ensures.context c.parse_args-read.ensures c.in_ok-list-in-Call.was
+    c.replace_ctx-in-Call.ensures.moves c.replace_ctx-in-Call.ensures.context in
     chain.linked g.B.BodyForms.forms c.args.p.now c.loop-head.p _ c.loop-head.invariant c.in-Some.is
     (c.in_ok-head.ensures.begins g.B.Bodies.is_faithful) c.in_ok-head.ensures.falls
     (m.tail (Ok _) (λ v x p. call_node c.in-Call.optional v p.0 x p.1)
     (λ x ts. link.tail_call _ c.in-Some.head c.in-Call.optional _ x ts c.in-Call.is)
-    c.in_ok-list-in-Call.ensures.reads c.parse_args.ensures.grows c.loop-head.invariant.3 c.in_ok-obj-in-Call.ensures)
+    inner.reads inner.grows c.loop-head.invariant.3 c.in_ok-obj-in-Call.ensures)
 
 pub parse_subscripts-returns-in_err-parts-in-Template : goal.parse_subscripts-returns-in_err-parts-in-Template
 parse_subscripts-returns-in_err-parts-in-Template g t c =
+    let inner = aside c.get_ctx-in-Template.ensures c.without_colon-ctx.ensures.decides
+    c.replace_ctx-before-in-Template.ensures.before c.replace_ctx-before-in-Template.ensures.moves
+    c.replace_ctx-before-in-Template.ensures.context c.parse_tpl_elements-read.ensures c.in_err-parts-in-Template.was
+    c.replace_ctx-in-Template.ensures.moves c.replace_ctx-in-Template.ensures.context in
     let l = tree_of c.loop-head.p.nodes c.loop-head.obj in
     m.passed_more c.from_residual-in_err-parts-in-Template.ensures.1
     (chain.not_linked g.B.BodyForms.forms c.args.p.now c.loop-head.p _ c.loop-head.invariant c.in-Some.is
     (c.in_ok-head.ensures.begins g.B.Bodies.is_faithful)
     (m.no (s.unheard_call (λ x p. tagged_node c.in-Template.start l p.0 x p.1)
     (λ x ts. link.tail_template _ c.in-Some.head c.in-Template.start l x ts c.in-Template.is)
-    (s.unheard_inner c.in_err-parts-in-Template.ensures.reads)) c.parse_tpl_elements.ensures.grows))
+    (s.unheard_inner inner.reads)) inner.grows))
 
 pub parse_subscripts-tagged_tpl-requires : goal.parse_subscripts-tagged_tpl-requires
 parse_subscripts-tagged_tpl-requires g t c =
+    let inner = aside c.get_ctx-in-Template.ensures c.without_colon-ctx.ensures.decides
+    c.replace_ctx-before-in-Template.ensures.before c.replace_ctx-before-in-Template.ensures.moves
+    c.replace_ctx-before-in-Template.ensures.context c.parse_tpl_elements-read.ensures c.in_ok-parts-in-Template.was
+    c.replace_ctx-in-Template.ensures.moves c.replace_ctx-in-Template.ensures.context in
     apart-down (one_expr c.loop-head.obj ++ exprs_parts c.in_ok-parts-in-Template.parts.exprs)
-    (apart_behind c.parse_tpl_elements.ensures.grows c.loop-head.invariant.3 c.in_ok-parts-in-Template.ensures.from)
+    (apart_behind inner.grows c.loop-head.invariant.3 inner.from)
 
 pub parse_subscripts-returns-in_err-obj-in-Template : goal.parse_subscripts-returns-in_err-obj-in-Template
 parse_subscripts-returns-in_err-obj-in-Template g t c =
+    let inner = aside c.get_ctx-in-Template.ensures c.without_colon-ctx.ensures.decides
+    c.replace_ctx-before-in-Template.ensures.before c.replace_ctx-before-in-Template.ensures.moves
+    c.replace_ctx-before-in-Template.ensures.context c.parse_tpl_elements-read.ensures c.in_ok-parts-in-Template.was
+    c.replace_ctx-in-Template.ensures.moves c.replace_ctx-in-Template.ensures.context in
     m.passed_more c.from_residual-in_err-obj-in-Template.ensures.1
     (chain.not_linked g.B.BodyForms.forms c.args.p.now c.loop-head.p _ c.loop-head.invariant c.in-Some.is
     (c.in_ok-head.ensures.begins g.B.Bodies.is_faithful)
     (m.tail (Err _) (λ v x p. tagged_node c.in-Template.start v p.0 x p.1)
     (λ x ts. link.tail_template _ c.in-Some.head c.in-Template.start _ x ts c.in-Template.is)
-    (s.heard_inner c.in_ok-parts-in-Template.ensures.reads) c.parse_tpl_elements.ensures.grows c.loop-head.invariant.3
+    (s.heard_inner inner.reads) inner.grows c.loop-head.invariant.3
     c.in_err-obj-in-Template.ensures))
 
 pub parse_subscripts-loop-head-preserved : goal.parse_subscripts-loop-head-preserved
 parse_subscripts-loop-head-preserved g t c =
+    let inner = aside c.get_ctx-in-Template.ensures c.without_colon-ctx.ensures.decides
+    c.replace_ctx-before-in-Template.ensures.before c.replace_ctx-before-in-Template.ensures.moves
+    c.replace_ctx-before-in-Template.ensures.context c.parse_tpl_elements-read.ensures c.in_ok-parts-in-Template.was
+    c.replace_ctx-in-Template.ensures.moves c.replace_ctx-in-Template.ensures.context in
     chain.linked g.B.BodyForms.forms c.args.p.now c.loop-head.p _ c.loop-head.invariant c.in-Some.is
     (c.in_ok-head.ensures.begins g.B.Bodies.is_faithful) c.in_ok-head.ensures.falls
     (m.tail (Ok _) (λ v x p. tagged_node c.in-Template.start v p.0 x p.1)
     (λ x ts. link.tail_template _ c.in-Some.head c.in-Template.start _ x ts c.in-Template.is)
-    (s.heard_inner c.in_ok-parts-in-Template.ensures.reads) c.parse_tpl_elements.ensures.grows c.loop-head.invariant.3
+    (s.heard_inner inner.reads) inner.grows c.loop-head.invariant.3
     c.in_ok-obj-in-Template.ensures)
 
-pub parse_args-returns : goal.parse_args-returns
-parse_args-returns g t c =
-    args_within g.B.BodyForms.forms c.args.is_dynamic_import c.get_ctx.ensures c.items_context-ctx.ensures.decides
-    c.replace_ctx-before.ensures.before c.replace_ctx-before.ensures.moves c.replace_ctx-before.ensures.context
-    c.parse_arg_items-read.ensures refl c.replace_ctx.ensures.moves c.replace_ctx.ensures.context
-
-pub parse_arg_items-loop-items-init : goal.parse_arg_items-loop-items-init
-parse_arg_items-loop-items-init g t c =
+pub parse_args-loop-items-init : goal.parse_args-loop-items-init
+parse_args-loop-items-init g t c =
     loop.started (args.args_list _ c.args.is_dynamic_import) _ item_parts _ _ g.met.I.Tokens.laws
     c.new-items.ensures.items
 
-pub parse_arg_items-loop-items-preserved : goal.parse_arg_items-loop-items-preserved
-parse_arg_items-loop-items-preserved g t c =
+pub parse_args-loop-items-preserved : goal.parse_args-loop-items-preserved
+parse_args-loop-items-preserved g t c =
     let inv = c.loop-items.invariant in
     let more = loop.goes_on (args.args_list _ c.args.is_dynamic_import) inv c.in-None.is
     (c.in_ok-end.ensures.eats _) in
@@ -1528,28 +1663,28 @@ parse_arg_items-loop-items-preserved g t c =
     c.parse_expr_or_spread.ensures.grows (apart-from (expr_part c.in_ok-arg.arg.expr) c.in_ok-arg.ensures.from)
     c.in_ok-add.ensures.added
 
-pub parse_arg_items-returns-in_err-end : goal.parse_arg_items-returns-in_err-end
-parse_arg_items-returns-in_err-end g t c =
+pub parse_args-returns-in_err-end : goal.parse_args-returns-in_err-end
+parse_args-returns-in_err-end g t c =
     let inv = c.loop-items.invariant in
     m.refused c.from_residual.ensures.1 (loop.end_refused (args.args_list _ c.args.is_dynamic_import) inv
     (c.in_err-end.ensures.eats _)) inv.grows
 
-pub parse_arg_items-returns-in-Some : goal.parse_arg_items-returns-in-Some
-parse_arg_items-returns-in-Some g t c =
+pub parse_args-returns-in-Some : goal.parse_args-returns-in-Some
+parse_args-returns-in-Some g t c =
     let inv = c.loop-items.invariant in
     m.yes (Ok _) (loop.closed (args.args_list _ c.args.is_dynamic_import) inv c.in-Some.is (c.in_ok-end.ensures.eats _))
     inv.grows inv.apart
 
-pub parse_arg_items-returns-in_err-arg : goal.parse_arg_items-returns-in_err-arg
-parse_arg_items-returns-in_err-arg g t c =
+pub parse_args-returns-in_err-arg : goal.parse_args-returns-in_err-arg
+parse_args-returns-in_err-arg g t c =
     let inv = c.loop-items.invariant in
     let more = loop.goes_on (args.args_list _ c.args.is_dynamic_import) inv c.in-None.is
     (c.in_ok-end.ensures.eats _) in
     m.refused c.from_residual-in_err-arg.ensures.1 (loop.item_refused _ _ more c.in_err-arg.ensures.reads)
     (grows-then inv.grows c.parse_expr_or_spread.ensures.grows)
 
-pub parse_arg_items-returns-in_err-add : goal.parse_arg_items-returns-in_err-add
-parse_arg_items-returns-in_err-add g t c =
+pub parse_args-returns-in_err-add : goal.parse_args-returns-in_err-add
+parse_args-returns-in_err-add g t c =
     let inv = c.loop-items.invariant in
     let more = loop.goes_on (args.args_list _ c.args.is_dynamic_import) inv c.in-None.is
     (c.in_ok-end.ensures.eats _) in
@@ -1557,8 +1692,8 @@ parse_arg_items-returns-in_err-add g t c =
     (loop.unkept _ more c.in_ok-arg.ensures.reads c.in_err-add.ensures.refused)
     (grows-then inv.grows c.parse_expr_or_spread.ensures.grows)
 
-pub parse_arg_items-returns-in_err-trailing_comma : goal.parse_arg_items-returns-in_err-trailing_comma
-parse_arg_items-returns-in_err-trailing_comma g t c =
+pub parse_args-returns-in_err-trailing_comma : goal.parse_args-returns-in_err-trailing_comma
+parse_args-returns-in_err-trailing_comma g t c =
     let inv = c.loop-items.invariant in
     let more = loop.goes_on (args.args_list _ c.args.is_dynamic_import) inv c.in-None.is
     (c.in_ok-end.ensures.eats _) in
@@ -1866,26 +2001,30 @@ parse_await-returns g t c =
     (sym (ending.ended _ g.met.B.Bodies.lawful c.in_ok-arg.arg Unary (inner x) ts us c.in_ok-arg.ensures.from h)))
     (s.heard_inner c.in_ok-arg.ensures.reads)))))
 
-pub parse_plain_operand-parse_plain_member-read-requires : goal.parse_plain_operand-parse_plain_member-read-requires
-parse_plain_operand-parse_plain_member-read-requires g t c =
+pub parse_plain_operand-parse_plain_primary-requires : goal.parse_plain_operand-parse_plain_primary-requires
+parse_plain_operand-parse_plain_primary-requires g t c =
     let plain = ap (λ o. at_token is_plain (seen_of o)) c.replace_ctx-before.ensures.current ∙ c.requires.plain in
     let looked = s.here_now g.met.I.Tokens.laws c.replace_ctx-before.new.input (s.seen_some is_plain
     c.replace_ctx-before.new.input plain) in
-    λ κs outlives. (
-      search rules,
-      (
-        search rules,
-        (
-          search rules,
-          (search rules, (search rules, (search rules, (looked, plain)))),
-        ),
-      ),
-    )
+    record { looked = looked; plain = plain_kind _ plain }
 
 pub parse_plain_operand-returns-in_err-callee : goal.parse_plain_operand-returns-in_err-callee
 parse_plain_operand-returns-in_err-callee g t c =
+    let plain = ap (λ o. at_token is_plain (seen_of o)) c.replace_ctx-before.ensures.current ∙ c.requires.plain in
+    let looked = s.here_now g.met.I.Tokens.laws c.replace_ctx-before.new.input (s.seen_some is_plain
+    c.replace_ctx-before.new.input plain) in
+    let read : Produces g.I.Tokens.model g.B.Bodies.is_faithful itself tree_of (run g.B.BodyForms.forms (at (Lhs
+    false)))
+    (count c.args.p.now.nodes) (record c.args.p.now { input = c.replace_ctx-before.new.input })
+    c.match-parse_plain_primary.read c.match-parse_plain_primary.p =
+    elim c.match-parse_plain_primary.branch [
+      | parse_plain_operand-in-Ok w ↦ rw (w.p-is, w.read-is)
+          (plain_member.member_read g.B.BodyForms.forms looked plain w.in-Ok.ensures w.parse_subscripts.ensures)
+      | parse_plain_operand-in-Err w ↦ rw (w.p-is, w.read-is)
+          (plain_member.member_refused g.B.BodyForms.forms looked plain w.in-Err.ensures)
+    ] in
     let member = aside c.get_ctx.ensures c.member_context-ctx.ensures.decides c.replace_ctx-before.ensures.before
-    c.replace_ctx-before.ensures.moves c.replace_ctx-before.ensures.context c.parse_plain_member-read.ensures
+    c.replace_ctx-before.ensures.moves c.replace_ctx-before.ensures.context read
     c.in_err-callee.was c.replace_ctx.ensures.moves c.replace_ctx.ensures.context in
     let begun = s.on_seen {g = λ x ts. run g.B.BodyForms.forms (at (Lhs false)) x ts >>=
     operand.behind g.B.BodyForms.forms x} c.requires.looked
@@ -1898,8 +2037,21 @@ parse_plain_operand-returns-in_err-callee g t c =
 
 pub parse_plain_operand-returns-in_err-look : goal.parse_plain_operand-returns-in_err-look
 parse_plain_operand-returns-in_err-look g t c =
+    let plain = ap (λ o. at_token is_plain (seen_of o)) c.replace_ctx-before.ensures.current ∙ c.requires.plain in
+    let looked = s.here_now g.met.I.Tokens.laws c.replace_ctx-before.new.input (s.seen_some is_plain
+    c.replace_ctx-before.new.input plain) in
+    let read : Produces g.I.Tokens.model g.B.Bodies.is_faithful itself tree_of (run g.B.BodyForms.forms (at (Lhs
+    false)))
+    (count c.args.p.now.nodes) (record c.args.p.now { input = c.replace_ctx-before.new.input })
+    c.match-parse_plain_primary.read c.match-parse_plain_primary.p =
+    elim c.match-parse_plain_primary.branch [
+      | parse_plain_operand-in-Ok w ↦ rw (w.p-is, w.read-is)
+          (plain_member.member_read g.B.BodyForms.forms looked plain w.in-Ok.ensures w.parse_subscripts.ensures)
+      | parse_plain_operand-in-Err w ↦ rw (w.p-is, w.read-is)
+          (plain_member.member_refused g.B.BodyForms.forms looked plain w.in-Err.ensures)
+    ] in
     let member = aside c.get_ctx.ensures c.member_context-ctx.ensures.decides c.replace_ctx-before.ensures.before
-    c.replace_ctx-before.ensures.moves c.replace_ctx-before.ensures.context c.parse_plain_member-read.ensures
+    c.replace_ctx-before.ensures.moves c.replace_ctx-before.ensures.context read
     c.in_ok-callee.was c.replace_ctx.ensures.moves c.replace_ctx.ensures.context in
     m.refused c.from_residual-in_err-look.ensures.1
     (s.unheard_memory (s.forgoes_later member.reads.on.leads c.in_err-look.ensures.looks))
@@ -1907,13 +2059,26 @@ parse_plain_operand-returns-in_err-look g t c =
 
 pub parse_plain_operand-returns-then-not-may_go_on : goal.parse_plain_operand-returns-then-not-may_go_on
 parse_plain_operand-returns-then-not-may_go_on g t c =
+    let plain = ap (λ o. at_token is_plain (seen_of o)) c.replace_ctx-before.ensures.current ∙ c.requires.plain in
+    let looked = s.here_now g.met.I.Tokens.laws c.replace_ctx-before.new.input (s.seen_some is_plain
+    c.replace_ctx-before.new.input plain) in
+    let read : Produces g.I.Tokens.model g.B.Bodies.is_faithful itself tree_of (run g.B.BodyForms.forms (at (Lhs
+    false)))
+    (count c.args.p.now.nodes) (record c.args.p.now { input = c.replace_ctx-before.new.input })
+    c.match-parse_plain_primary.read c.match-parse_plain_primary.p =
+    elim c.match-parse_plain_primary.branch [
+      | parse_plain_operand-in-Ok w ↦ rw (w.p-is, w.read-is)
+          (plain_member.member_read g.B.BodyForms.forms looked plain w.in-Ok.ensures w.parse_subscripts.ensures)
+      | parse_plain_operand-in-Err w ↦ rw (w.p-is, w.read-is)
+          (plain_member.member_refused g.B.BodyForms.forms looked plain w.in-Err.ensures)
+    ] in
     let member = aside c.get_ctx.ensures c.member_context-ctx.ensures.decides c.replace_ctx-before.ensures.before
-    c.replace_ctx-before.ensures.moves c.replace_ctx-before.ensures.context c.parse_plain_member-read.ensures
+    c.replace_ctx-before.ensures.moves c.replace_ctx-before.ensures.context read
     c.in_ok-callee.was c.replace_ctx.ensures.moves c.replace_ctx.ensures.context in
     let begun = s.on_seen {g = λ x ts. run g.B.BodyForms.forms (at (Lhs false)) x ts >>=
     operand.behind g.B.BodyForms.forms x} c.requires.looked
     (λ x ts same e. plain_operand.plain_unary _ x ts (s.no_head same) (ap (at_token is_plain) e ∙ c.requires.plain)) in
-    let l = tree_of c.parse_plain_member-read.new.p.nodes c.in_ok-callee.callee in
+    let l = tree_of c.match-parse_plain_primary.p.nodes c.in_ok-callee.callee in
     m.yes (Ok c.in_ok-callee.callee)
     (s.heard_after begun
     (s.heard_more (operand.behind _) (λ x ts. refl) member.reads
@@ -1922,30 +2087,56 @@ parse_plain_operand-returns-then-not-may_go_on g t c =
     (at_token goes_on) e ∙ sym c.may_go_on.ensures ∙ c.if-not-may_go_on.true)))))
     member.grows member.from
 
-pub parse_plain_operand-parse_subscripts-requires : goal.parse_plain_operand-parse_subscripts-requires
-parse_plain_operand-parse_subscripts-requires g t c =
-    let falls = c.parse_plain_member-read.ensures.falls in
-    let read = c.in_ok-callee.was in
-    let from = from-down (omega arith) (m.held_is _ c.parse_plain_member-read.result c.in_ok-callee.callee read
-    c.parse_plain_member-read.ensures.from) in
+pub parse_plain_operand-parse_subscripts-requires-2 : goal.parse_plain_operand-parse_subscripts-requires-2
+parse_plain_operand-parse_subscripts-requires-2 g t c =
+    let plain = ap (λ o. at_token is_plain (seen_of o)) c.replace_ctx-before.ensures.current ∙ c.requires.plain in
+    let looked = s.here_now g.met.I.Tokens.laws c.replace_ctx-before.new.input (s.seen_some is_plain
+    c.replace_ctx-before.new.input plain) in
+    let read : Produces g.I.Tokens.model g.B.Bodies.is_faithful itself tree_of (run g.B.BodyForms.forms (at (Lhs
+    false)))
+    (count c.args.p.now.nodes) (record c.args.p.now { input = c.replace_ctx-before.new.input })
+    c.match-parse_plain_primary.read c.match-parse_plain_primary.p =
+    elim c.match-parse_plain_primary.branch [
+      | parse_plain_operand-in-Ok w ↦ rw (w.p-is, w.read-is)
+          (plain_member.member_read g.B.BodyForms.forms looked plain w.in-Ok.ensures w.parse_subscripts.ensures)
+      | parse_plain_operand-in-Err w ↦ rw (w.p-is, w.read-is)
+          (plain_member.member_refused g.B.BodyForms.forms looked plain w.in-Err.ensures)
+    ] in
+    let falls = read.falls in
+    let was = c.in_ok-callee.was in
+    let from = from-down (omega arith) (m.held_is _ c.match-parse_plain_primary.read c.in_ok-callee.callee was
+    read.from) in
     λ κs outlives. (search rules, (search rules, (search rules, (search rules, (search rules, (search rules, from))))))
 
 pub parse_plain_operand-returns-in_err-expr : goal.parse_plain_operand-returns-in_err-expr
 parse_plain_operand-returns-in_err-expr g t c =
+    let plain = ap (λ o. at_token is_plain (seen_of o)) c.replace_ctx-before.ensures.current ∙ c.requires.plain in
+    let looked = s.here_now g.met.I.Tokens.laws c.replace_ctx-before.new.input (s.seen_some is_plain
+    c.replace_ctx-before.new.input plain) in
+    let read : Produces g.I.Tokens.model g.B.Bodies.is_faithful itself tree_of (run g.B.BodyForms.forms (at (Lhs
+    false)))
+    (count c.args.p.now.nodes) (record c.args.p.now { input = c.replace_ctx-before.new.input })
+    c.match-parse_plain_primary.read c.match-parse_plain_primary.p =
+    elim c.match-parse_plain_primary.branch [
+      | parse_plain_operand-in-Ok w ↦ rw (w.p-is, w.read-is)
+          (plain_member.member_read g.B.BodyForms.forms looked plain w.in-Ok.ensures w.parse_subscripts.ensures)
+      | parse_plain_operand-in-Err w ↦ rw (w.p-is, w.read-is)
+          (plain_member.member_refused g.B.BodyForms.forms looked plain w.in-Err.ensures)
+    ] in
     let member = aside c.get_ctx.ensures c.member_context-ctx.ensures.decides c.replace_ctx-before.ensures.before
-    c.replace_ctx-before.ensures.moves c.replace_ctx-before.ensures.context c.parse_plain_member-read.ensures
+    c.replace_ctx-before.ensures.moves c.replace_ctx-before.ensures.context read
     c.in_ok-callee.was c.replace_ctx.ensures.moves c.replace_ctx.ensures.context in
     let begun = s.on_seen {g = λ x ts. run g.B.BodyForms.forms (at (Lhs false)) x ts >>=
     operand.behind g.B.BodyForms.forms x} c.requires.looked
     (λ x ts same e. plain_operand.plain_unary _ x ts (s.no_head same) (ap (at_token is_plain) e ∙ c.requires.plain)) in
-    let l = tree_of c.parse_plain_member-read.new.p.nodes c.in_ok-callee.callee in
+    let l = tree_of c.match-parse_plain_primary.p.nodes c.in_ok-callee.callee in
     let again = s.heard_then member.reads.on member.reads.onward (s.on_seen {f = s.give l} {g = s.give l}
     c.in_ok-look.ensures.looks
     (λ x ts same e. refl)) in
     m.refused c.from_residual-in_err-expr.ensures.1
     (s.unheard_after (s.on_then begun (s.on_call (operand.behind _) (λ x ts. refl) again.on))
     (s.unheard_call (operand.updated _) (λ x ts. refl) c.in_err-expr.ensures.reads))
-    (grows-then member.grows c.parse_subscripts.ensures.grows)
+    (grows-then member.grows c.parse_subscripts-2.ensures.grows)
 
 pub parse_plain_operand-parse_update_postfix-requires : goal.parse_plain_operand-parse_update_postfix-requires
 parse_plain_operand-parse_update_postfix-requires g t c =
@@ -1953,13 +2144,26 @@ parse_plain_operand-parse_update_postfix-requires g t c =
 
 pub parse_plain_operand-returns : goal.parse_plain_operand-returns
 parse_plain_operand-returns g t c =
+    let plain = ap (λ o. at_token is_plain (seen_of o)) c.replace_ctx-before.ensures.current ∙ c.requires.plain in
+    let looked = s.here_now g.met.I.Tokens.laws c.replace_ctx-before.new.input (s.seen_some is_plain
+    c.replace_ctx-before.new.input plain) in
+    let read : Produces g.I.Tokens.model g.B.Bodies.is_faithful itself tree_of (run g.B.BodyForms.forms (at (Lhs
+    false)))
+    (count c.args.p.now.nodes) (record c.args.p.now { input = c.replace_ctx-before.new.input })
+    c.match-parse_plain_primary.read c.match-parse_plain_primary.p =
+    elim c.match-parse_plain_primary.branch [
+      | parse_plain_operand-in-Ok w ↦ rw (w.p-is, w.read-is)
+          (plain_member.member_read g.B.BodyForms.forms looked plain w.in-Ok.ensures w.parse_subscripts.ensures)
+      | parse_plain_operand-in-Err w ↦ rw (w.p-is, w.read-is)
+          (plain_member.member_refused g.B.BodyForms.forms looked plain w.in-Err.ensures)
+    ] in
     let member = aside c.get_ctx.ensures c.member_context-ctx.ensures.decides c.replace_ctx-before.ensures.before
-    c.replace_ctx-before.ensures.moves c.replace_ctx-before.ensures.context c.parse_plain_member-read.ensures
+    c.replace_ctx-before.ensures.moves c.replace_ctx-before.ensures.context read
     c.in_ok-callee.was c.replace_ctx.ensures.moves c.replace_ctx.ensures.context in
     let begun = s.on_seen {g = λ x ts. run g.B.BodyForms.forms (at (Lhs false)) x ts >>=
     operand.behind g.B.BodyForms.forms x} c.requires.looked
     (λ x ts same e. plain_operand.plain_unary _ x ts (s.no_head same) (ap (at_token is_plain) e ∙ c.requires.plain)) in
-    let l = tree_of c.parse_plain_member-read.new.p.nodes c.in_ok-callee.callee in
+    let l = tree_of c.match-parse_plain_primary.p.nodes c.in_ok-callee.callee in
     let again = s.heard_then member.reads.on member.reads.onward (s.on_seen {f = s.give l} {g = s.give l}
     c.in_ok-look.ensures.looks
     (λ x ts same e. refl)) in
@@ -1967,34 +2171,11 @@ parse_plain_operand-returns g t c =
     let a = member.from.above in
     let b = c.in_ok-expr.ensures.from.above in
     m.after {m = c.args.p.now} r begun (grows-same _)
-    (m.call {m = record c.parse_plain_member-read.new.p { input = c.look.new.input }} r (operand.behind _)
+    (m.call {m = record c.match-parse_plain_primary.p { input = c.look.new.input }} r (operand.behind _)
     (λ x ts. refl) again
     member.grows (λ x. from-down (omega arith))
     (m.on_after r (s.on_call (operand.updated _) (λ x ts. refl) c.in_ok-expr.ensures.reads)
-    c.parse_subscripts.ensures.grows c.parse_update_postfix.ensures))
-
-pub parse_plain_member-parse_plain_primary-requires : goal.parse_plain_member-parse_plain_primary-requires
-parse_plain_member-parse_plain_primary-requires g t c =
-    record { looked = c.requires.looked; plain = plain_kind _ c.requires.plain }
-
-pub parse_plain_member-returns-in_err-base : goal.parse_plain_member-returns-in_err-base
-parse_plain_member-returns-in_err-base g t c =
-    m.refused c.from_residual.ensures.1
-    (s.unheard_after (s.on_seen {g = λ x ts. run _ (at Primary) x ts >>=
-    (λ p. run _ (links false p.0) x p.1)} c.requires.looked
-    (λ x ts same e. plain_operand.plain_member _ x ts (s.no_head same) (ap (at_token is_plain) e ∙ c.requires.plain)))
-    (s.unheard_call (λ x p. run _ (links false p.0) x p.1) (λ x ts. refl) c.in_err-base.ensures.reads))
-    c.parse_plain_primary.ensures.grows
-
-pub parse_plain_member-returns : goal.parse_plain_member-returns
-parse_plain_member-returns g t c =
-    m.after {m = c.args.p.now} c.parse_subscripts.result
-    (s.on_seen {g = λ x ts. run _ (at Primary) x ts >>= (λ p. run _ (links false p.0) x p.1)} c.requires.looked
-    (λ x ts same e. plain_operand.plain_member _ x ts (s.no_head same) (ap (at_token is_plain) e ∙ c.requires.plain)))
-    (grows-same _)
-    (m.call c.parse_subscripts.result (λ x p. run _ (links false p.0) x p.1) (λ x ts. refl)
-    c.in_ok-base.ensures.reads c.parse_plain_primary.ensures.grows
-    (λ x. from-down c.in_ok-base.ensures.from.above) c.parse_subscripts.ensures)
+    c.parse_subscripts-2.ensures.grows c.parse_update_postfix.ensures))
 
 pub parse_bin_expr-returns-in_err-first : goal.parse_bin_expr-returns-in_err-first
 parse_bin_expr-returns-in_err-first g t c =
@@ -2879,7 +3060,7 @@ parse_arrow_or_base-returns-in-Arrow g t c =
     (told.told_by c.in-Name.is c.in_ok-start_kind.ensures.tells)
     c.requires.fit c.requires.no_yield (λ x ts begins is. head_law.assign_name forms x ts begins is))
     (told.head_behind c.parse_arrow_name.new.p.nodes c.in_ok-head-in-Name.field-0 forms c.in-Arrow.is leaves.reads))
-    leaves.grows (omega arith) (c.parse_arrow_rest.ensures (count c.args.p.now.nodes)
+    leaves.grows (omega arith) (c.parse_arrow_rest.ensures.reads (count c.args.p.now.nodes)
     (told.head_apart c.parse_arrow_name.new.p.nodes c.in_ok-head-in-Name.field-0 (count c.args.p.now.nodes)
     (count c.args.p.now.nodes) (omega arith) c.in-Arrow.is leaves.from))
 
@@ -2911,7 +3092,7 @@ parse_arrow_or_base-returns-in-Arrow-2 g t c =
     c.requires.fit c.requires.no_yield (λ x ts begins is. head_law.assign_async_name forms x ts begins is))
     (told.head_behind c.parse_async_name.new.p.nodes c.in_ok-head-in-AsyncName.field-0 forms c.in-Arrow-2.is
     leaves.reads))
-    leaves.grows (omega arith) (c.parse_arrow_rest-in-Arrow-2.ensures (count c.args.p.now.nodes)
+    leaves.grows (omega arith) (c.parse_arrow_rest-in-Arrow-2.ensures.reads (count c.args.p.now.nodes)
     (told.head_apart c.parse_async_name.new.p.nodes c.in_ok-head-in-AsyncName.field-0 (count c.args.p.now.nodes)
     (count c.args.p.now.nodes) (omega arith) c.in-Arrow-2.is leaves.from))
 
@@ -2943,6 +3124,9 @@ parse_arrow_or_base-returns-in_err-start-in-List g t c =
 
 pub parse_arrow_or_base-returns-in_err-list-in-List : goal.parse_arrow_or_base-returns-in_err-list-in-List
 parse_arrow_or_base-returns-in_err-list-in-List g t c =
+    let inner = args_within g.B.BodyForms.forms false c.get_ctx.ensures c.items_context-ctx.ensures.decides
+    c.replace_ctx-before.ensures.before c.replace_ctx-before.ensures.moves c.replace_ctx-before.ensures.context
+    c.parse_args-read.ensures c.in_err-list-in-List.was c.replace_ctx.ensures.moves c.replace_ctx.ensures.context in
     let forms = g.B.BodyForms.forms in
     let leaves = c.in_ok-start-in-List.ensures.leaves in
     let start = c.in_ok-start-in-List.start in
@@ -2953,20 +3137,25 @@ parse_arrow_or_base-returns-in_err-list-in-List g t c =
     c.requires.fit c.requires.no_yield (λ x ts begins is.
     head_law.assign_listed forms x c.in-List.is_async ts begins is)) leaves.reads)
     (s.unheard_call (λ x q. list_behind forms callee start.at q.0 x q.1) (begun.list_splits forms callee start.at)
-    c.in_err-list-in-List.ensures.reads)) (grows-then leaves.grows c.in_err-list-in-List.ensures.grows)
+    inner.reads)) (grows-then leaves.grows inner.grows)
 
 pub parse_arrow_or_base-close_list-requires : goal.parse_arrow_or_base-close_list-requires
 parse_arrow_or_base-close_list-requires g t c =
-    apart-more c.in_ok-list-in-List.ensures.grows
+    let inner = args_within g.B.BodyForms.forms false c.get_ctx.ensures c.items_context-ctx.ensures.decides
+    c.replace_ctx-before.ensures.before c.replace_ctx-before.ensures.moves c.replace_ctx-before.ensures.context
+    c.parse_args-read.ensures c.in_ok-list-in-List.was c.replace_ctx.ensures.moves c.replace_ctx.ensures.context in
+    apart-more inner.grows
     (apart-down (callee_parts c.in_ok-start-in-List.start.callee) c.in_ok-start-in-List.ensures.leaves.from)
-    c.in_ok-list-in-List.ensures.from
+    inner.from
 
 pub parse_arrow_or_base-returns-in_err-head-in-List : goal.parse_arrow_or_base-returns-in_err-head-in-List
 parse_arrow_or_base-returns-in_err-head-in-List g t c =
     let forms = g.B.BodyForms.forms in
     let opened = c.in_ok-start-in-List.ensures in
     let start = c.in_ok-start-in-List.start in
-    let list = c.in_ok-list-in-List.ensures in
+    let list = args_within g.B.BodyForms.forms false c.get_ctx.ensures c.items_context-ctx.ensures.decides
+    c.replace_ctx-before.ensures.before c.replace_ctx-before.ensures.moves c.replace_ctx-before.ensures.context
+    c.parse_args-read.ensures c.in_ok-list-in-List.was c.replace_ctx.ensures.moves c.replace_ctx.ensures.context in
     let told_list = told.head_told forms (list_head forms c.in-List.is_async) c.requires.looked
     (told.told_by c.in-List.is c.in_ok-start_kind.ensures.tells) c.requires.fit c.requires.no_yield
     (λ x ts begins is. head_law.assign_listed forms x c.in-List.is_async ts begins is) in
@@ -2984,7 +3173,9 @@ pub parse_arrow_or_base-parse_arrow_rest-requires-in-Arrow-3 :
     goal.parse_arrow_or_base-parse_arrow_rest-requires-in-Arrow-3
 parse_arrow_or_base-parse_arrow_rest-requires-in-Arrow-3 g t c =
     let opened = c.in_ok-start-in-List.ensures in
-    let list = c.in_ok-list-in-List.ensures in
+    let list = args_within g.B.BodyForms.forms false c.get_ctx.ensures c.items_context-ctx.ensures.decides
+    c.replace_ctx-before.ensures.before c.replace_ctx-before.ensures.moves c.replace_ctx-before.ensures.context
+    c.parse_args-read.ensures c.in_ok-list-in-List.was c.replace_ctx.ensures.moves c.replace_ctx.ensures.context in
     let a = grows-count opened.leaves.grows in
     let b = grows-count list.grows in
     let w = c.in_ok-head-in-List.ensures.rewrites (count c.args.p.now.nodes) (omega arith)
@@ -3002,7 +3193,9 @@ parse_arrow_or_base-returns-in-Arrow-3 g t c =
     let forms = g.B.BodyForms.forms in
     let opened = c.in_ok-start-in-List.ensures in
     let start = c.in_ok-start-in-List.start in
-    let list = c.in_ok-list-in-List.ensures in
+    let list = args_within g.B.BodyForms.forms false c.get_ctx.ensures c.items_context-ctx.ensures.decides
+    c.replace_ctx-before.ensures.before c.replace_ctx-before.ensures.moves c.replace_ctx-before.ensures.context
+    c.parse_args-read.ensures c.in_ok-list-in-List.was c.replace_ctx.ensures.moves c.replace_ctx.ensures.context in
     let told_list = told.head_told forms (list_head forms c.in-List.is_async) c.requires.looked
     (told.told_by c.in-List.is c.in_ok-start_kind.ensures.tells) c.requires.fit c.requires.no_yield
     (λ x ts begins is. head_law.assign_listed forms x c.in-List.is_async ts begins is) in
@@ -3015,7 +3208,7 @@ parse_arrow_or_base-returns-in-Arrow-3 g t c =
     (s.on_then told_list opened.leaves.reads) opened.callee opened.leaves.from list.grows list.from list.reads).on
     (told.head_behind c.close_list.new.p.nodes c.in_ok-head-in-List.field-0 forms c.in-Arrow-3.is w.reads))
     (cover_kept.grows-kept (grows-then opened.leaves.grows list.grows) (omega arith) w.kept) (omega arith)
-    (c.parse_arrow_rest-in-Arrow-3.ensures (count c.args.p.now.nodes)
+    (c.parse_arrow_rest-in-Arrow-3.ensures.reads (count c.args.p.now.nodes)
     (told.head_apart c.close_list.new.p.nodes c.in_ok-head-in-List.field-0 (count c.args.p.now.nodes)
     (count c.args.p.now.nodes) (omega arith) c.in-Arrow-3.is w.from))
 
@@ -3024,7 +3217,9 @@ parse_arrow_or_base-returns-in-Base-3 g t c =
     let forms = g.B.BodyForms.forms in
     let opened = c.in_ok-start-in-List.ensures in
     let start = c.in_ok-start-in-List.start in
-    let list = c.in_ok-list-in-List.ensures in
+    let list = args_within g.B.BodyForms.forms false c.get_ctx.ensures c.items_context-ctx.ensures.decides
+    c.replace_ctx-before.ensures.before c.replace_ctx-before.ensures.moves c.replace_ctx-before.ensures.context
+    c.parse_args-read.ensures c.in_ok-list-in-List.was c.replace_ctx.ensures.moves c.replace_ctx.ensures.context in
     let tells = told.told_by c.in-List.is c.in_ok-start_kind.ensures.tells in
     let told_list = told.head_told forms (list_head forms c.in-List.is_async) c.requires.looked tells c.requires.fit
     c.requires.no_yield (λ x ts begins is. head_law.assign_listed forms x c.in-List.is_async ts begins is) in
@@ -3045,47 +3240,54 @@ parse_arrow_or_base-returns-in-Base-3 g t c =
     (told.base_from c.close_list.new.p.nodes c.in_ok-head-in-List.field-0
     (count c.args.p.now.nodes) c.in-Base-3.is w.from)
 
-pub parse_arrow_rest-returns-in-Err : goal.parse_arrow_rest-returns-in-Err
-parse_arrow_rest-returns-in-Err g t c = λ k apart. begun.rest_refused
-    (s.unheard_call (λ x p. arrow_end c.args.head.start (span_of p.0).hi c.args.head.is_async c.args.head.in_parens
-    (pat_trees (tree_at c.args.p.now.nodes) c.args.head.params) p.0 p.1)
-    (begun.arrow_splits g.B.BodyForms.forms _ _ _ _) c.in-Err.ensures.reads.reads) c.in-Err.ensures.reads.grows
-
 pub parse_arrow_rest-arrow_function-requires : goal.parse_arrow_rest-arrow_function-requires
 parse_arrow_rest-arrow_function-requires g t c =
-    apart-more c.in-Ok.ensures.reads.grows c.requires c.in-Ok.ensures.reads.from
+    let h = c.args.head in
+    let read = bodies.body_within g.B.BodyForms.forms g.met.B.Bodies.lawful h.is_async c.get_ctx.ensures
+    c.arrow_body-ctx.ensures c.replace_ctx-before.ensures.before c.replace_ctx-before.ensures.moves
+    c.replace_ctx-before.ensures.context c.parse_arrow_body-read.ensures c.in-Ok.is c.replace_ctx.ensures.moves
+    c.replace_ctx.ensures.context in
+    apart-more read.grows c.requires read.from
 
-pub parse_arrow_rest-returns-in-Ok : goal.parse_arrow_rest-returns-in-Ok
-parse_arrow_rest-returns-in-Ok g t c =
+pub parse_arrow_rest-returns-clause-reads : goal.parse_arrow_rest-returns-clause-reads
+parse_arrow_rest-returns-clause-reads g t c =
     let forms = g.B.BodyForms.forms in
     let h = c.args.head in
-    let ns = c.parse_arrow_body.new.p.nodes in
+    let ns = c.parse_arrow_body-read.new.p.nodes in
     let ps = pat_trees (tree_at c.args.p.now.nodes) h.params in
-    let read = c.in-Ok.ensures.reads in
-    let b = c.in-Ok.body in
-    λ k apart. begun.arrow_read {m = c.parse_arrow_body.new.p} c.arrow_function.result
-    (opens_call_read {g = λ x ts. arrow_end h.start (body_end ns b) h.is_async h.in_parens
-    (pat_trees (tree_at ns) h.params)
-    (body_at ns b) ts} (λ x p. arrow_end h.start (span_of p.0).hi h.is_async h.in_parens ps p.0 p.1)
-    (begun.arrow_splits forms h.start h.is_async h.in_parens ps) read.reads (λ x ts us f y ys.
-    begun.end_same forms g.met.B.Bodies.lawful h.start h.is_async h.in_parens ps b read.from x ts us f ys
-    ∙ ap (λ v. arrow_end h.start (body_end ns b) h.is_async h.in_parens v (body_at ns b) ys)
-    (sym (list-later one_pat (λ at x. at x.0) (λ at by x f. same_first f) h.params.items read.grows apart))))
-    read.grows (omega arith) (c.arrow_function.ensures k (apart-more read.grows apart read.from))
+    let splits = begun.arrow_splits forms h.start h.is_async h.in_parens ps in
+    let end = λ x p. arrow_end h.start (span_of p.0).hi h.is_async h.in_parens ps p.0 p.1 in
+    λ k apart. elim c.match-body.branch [
+      | parse_arrow_rest-in-Ok w ↦ rw (w.p-is, w.arrow-is) (
+          let read = bodies.body_within g.B.BodyForms.forms g.met.B.Bodies.lawful h.is_async c.get_ctx.ensures
+          c.arrow_body-ctx.ensures c.replace_ctx-before.ensures.before c.replace_ctx-before.ensures.moves
+          c.replace_ctx-before.ensures.context c.parse_arrow_body-read.ensures w.in-Ok.is c.replace_ctx.ensures.moves
+          c.replace_ctx.ensures.context in
+          let b = w.in-Ok.body in
+          bodies.found_before c.args.p.now.found_module_item
+          (begun.arrow_read {m = record c.parse_arrow_body-read.new.p { input = c.replace_ctx.new.input }}
+          w.arrow_function.result
+          (opens_call_read {g = λ x ts. arrow_end h.start (body_end ns b) h.is_async h.in_parens
+          (pat_trees (tree_at ns) h.params) (body_at ns b) ts} end splits read.reads (λ x ts us f y ys.
+          begun.end_same forms g.met.B.Bodies.lawful h.start h.is_async h.in_parens ps b read.from x ts us f ys
+          ∙ ap (λ v. arrow_end h.start (body_end ns b) h.is_async h.in_parens v (body_at ns b) ys)
+          (sym (list-later one_pat (λ at x. at x.0) (λ at by x f. same_first f) h.params.items read.grows apart))))
+          read.grows (omega arith) (w.arrow_function.ensures k (apart-more read.grows apart read.from))))
+      | parse_arrow_rest-in-Err w ↦ rw (w.p-is, w.arrow-is) (
+          let read = bodies.body_within g.B.BodyForms.forms g.met.B.Bodies.lawful h.is_async c.get_ctx.ensures
+          c.arrow_body-ctx.ensures c.replace_ctx-before.ensures.before c.replace_ctx-before.ensures.moves
+          c.replace_ctx-before.ensures.context c.parse_arrow_body-read.ensures w.in-Err.is c.replace_ctx.ensures.moves
+          c.replace_ctx.ensures.context in
+          bodies.found_before c.args.p.now.found_module_item
+          (begun.rest_refused (s.unheard_call end splits read.reads) read.grows))
+    ]
 
-pub parse_arrow_body-returns-clause-reads : goal.parse_arrow_body-returns-clause-reads
-parse_arrow_body-returns-clause-reads g t c =
-    bodies.within_body g.B.BodyForms.forms g.met.B.Bodies.lawful c.args.is_async c.args.p.now.found_module_item
-    c.get_ctx.ensures c.arrow_body-ctx.ensures c.replace_ctx-before.ensures.before c.replace_ctx-before.ensures.moves
-    c.replace_ctx-before.ensures.context c.parse_body-read.ensures c.replace_ctx.ensures.moves
-    c.replace_ctx.ensures.context
-
-pub parse_body-returns-in_err-begins_block : goal.parse_body-returns-in_err-begins_block
-parse_body-returns-in_err-begins_block g t c =
+pub parse_arrow_body-returns-in_err-begins_block : goal.parse_arrow_body-returns-in_err-begins_block
+parse_arrow_body-returns-in_err-begins_block g t c =
     m.refused c.from_residual.ensures.1 (s.unheard_memory c.in_err-begins_block.ensures.looks) (grows-same _)
 
-pub parse_body-returns-then-branch : goal.parse_body-returns-then-branch
-parse_body-returns-then-branch g t c =
+pub parse_arrow_body-returns-then-branch : goal.parse_arrow_body-returns-then-branch
+parse_arrow_body-returns-then-branch g t c =
     let forms = g.B.BodyForms.forms in
     m.after {m = record c.args.p.now { input = c.begins_block.new.input }} c.parse_block_body.result
     (s.on_seen {g = block_inside forms g.B.Block.Spanned.place} c.in_ok-begins_block.ensures.looks
@@ -3093,8 +3295,8 @@ parse_body-returns-then-branch g t c =
     (ap (at_token is_brace) e ∙ sym c.in_ok-begins_block.ensures.value ∙ c.if-branch.true)))
     (grows-same _) c.parse_block_body.ensures
 
-pub parse_body-returns-in_err-expr : goal.parse_body-returns-in_err-expr
-parse_body-returns-in_err-expr g t c =
+pub parse_arrow_body-returns-in_err-expr : goal.parse_arrow_body-returns-in_err-expr
+parse_arrow_body-returns-in_err-expr g t c =
     let forms = g.B.BodyForms.forms in
     m.refused c.from_residual-in_err-expr.ensures.1
     (s.unheard_after (s.on_seen {g = run forms (at Assign)} c.in_ok-begins_block.ensures.looks
@@ -3102,8 +3304,8 @@ parse_body-returns-in_err-expr g t c =
     (ap (at_token is_brace) e ∙ sym c.in_ok-begins_block.ensures.value ∙ c.if-branch.false)))
     c.in_err-expr.ensures.reads) c.in_err-expr.ensures.grows
 
-pub parse_body-returns : goal.parse_body-returns
-parse_body-returns g t c =
+pub parse_arrow_body-returns : goal.parse_arrow_body-returns
+parse_arrow_body-returns g t c =
     let forms = g.B.BodyForms.forms in
     m.yes (Ok _) (s.heard_after (s.on_seen {g = run forms (at Assign)} c.in_ok-begins_block.ensures.looks
     (λ x ts same e. bodies.expr_read forms g.B.Block.Spanned.place x ts
@@ -3329,19 +3531,13 @@ finish_assignment_expr-returns g t c =
     (way.lowered c.assign_node.result (way.target_above c.in_ok-target.target later)
     (rewriting.goes_on c.assign_node.result low c.assign_node.ensures))
 
-pub parse_prop_name-returns : goal.parse_prop_name-returns
-parse_prop_name-returns g t c =
-    aside c.get_ctx.ensures c.prop_name_context-ctx.ensures.decides c.replace_ctx-before.ensures.before
-    c.replace_ctx-before.ensures.moves c.replace_ctx-before.ensures.context c.parse_key-read.ensures refl
-    c.replace_ctx.ensures.moves c.replace_ctx.ensures.context
-
-pub parse_key-returns-in_err-start : goal.parse_key-returns-in_err-start
-parse_key-returns-in_err-start g t c =
+pub parse_prop_name-returns-in_err-start : goal.parse_prop_name-returns-in_err-start
+parse_prop_name-returns-in_err-start g t c =
     m.refused c.from_residual.ensures.1
     (s.unheard_call _ (key.key_splits _) (c.in_err-start.ensures.eats g.B.Bodies.is_faithful)) (grows-same _)
 
-pub parse_key-returns-in_err-expr-in-Some : goal.parse_key-returns-in_err-expr-in-Some
-parse_key-returns-in_err-expr-in-Some g t c =
+pub parse_prop_name-returns-in_err-expr-in-Some : goal.parse_prop_name-returns-in_err-expr-in-Some
+parse_prop_name-returns-in_err-expr-in-Some g t c =
     let inner = assign_within g.B.BodyForms.forms c.get_ctx.ensures c.include_in-ctx.ensures.decides
     c.replace_ctx-before.ensures.before c.replace_ctx-before.ensures.moves c.replace_ctx-before.ensures.context
     c.parse_assignment_expr-read.ensures c.in_err-expr-in-Some.was c.replace_ctx.ensures.moves
@@ -3352,8 +3548,8 @@ parse_key-returns-in_err-expr-in-Some g t c =
     m.refused c.from_residual-in_err-expr-in-Some.ensures.1
     (s.unheard_after some (s.unheard_call _ (key.computed_key_splits _ c.in-Some.start) inner.reads)) inner.grows
 
-pub parse_key-returns-in_ok-expr-in-Some : goal.parse_key-returns-in_ok-expr-in-Some
-parse_key-returns-in_ok-expr-in-Some g t c =
+pub parse_prop_name-returns-in_ok-expr-in-Some : goal.parse_prop_name-returns-in_ok-expr-in-Some
+parse_prop_name-returns-in_ok-expr-in-Some g t c =
     let inner = assign_within g.B.BodyForms.forms c.get_ctx.ensures c.include_in-ctx.ensures.decides
     c.replace_ctx-before.ensures.before c.replace_ctx-before.ensures.moves c.replace_ctx-before.ensures.context
     c.parse_assignment_expr-read.ensures c.in_ok-expr-in-Some.was c.replace_ctx.ensures.moves
@@ -3365,8 +3561,8 @@ parse_key-returns-in_ok-expr-in-Some g t c =
     (s.on_then some (s.on_call _ (key.computed_key_splits _ c.in-Some.start) inner.reads.on))
     inner.grows (λ x. apart-lower (key_parts x) inner.from.above) c.computed_prop_name.ensures
 
-pub parse_key-returns-in-None : goal.parse_key-returns-in-None
-parse_key-returns-in-None g t c =
+pub parse_prop_name-returns-in-None : goal.parse_prop_name-returns-in-None
+parse_prop_name-returns-in-None g t c =
     m.after c.parse_plain_prop_name.result
     (s.on_call _ (key.key_splits _)
     (s.eats_none g.B.Bodies.is_faithful is_lbracket _ _ _ c.in-None.is
@@ -3374,14 +3570,8 @@ parse_key-returns-in-None g t c =
     (grows-same _) (key.plain_key_produces c.parse_plain_prop_name.result
     (c.parse_plain_prop_name.ensures.parses g.B.Bodies.is_faithful) c.parse_plain_prop_name.ensures.parts)
 
-pub parse_tpl_elements-returns : goal.parse_tpl_elements-returns
-parse_tpl_elements-returns g t c =
-    aside c.get_ctx.ensures c.without_colon-ctx.ensures.decides c.replace_ctx-before.ensures.before
-    c.replace_ctx-before.ensures.moves c.replace_ctx-before.ensures.context c.parse_tpl_parts-read.ensures refl
-    c.replace_ctx.ensures.moves c.replace_ctx.ensures.context
-
-pub parse_tpl_parts-loop-exprs-init : goal.parse_tpl_parts-loop-exprs-init
-parse_tpl_parts-loop-exprs-init g t c = (
+pub parse_tpl_elements-loop-exprs-init : goal.parse_tpl_elements-loop-exprs-init
+parse_tpl_elements-loop-exprs-init g t c = (
   s.on_here g.met.I.Tokens.laws c.args.p.now.input
       (λ x ts. tpl.parts_first _ c.args.is_tagged x ts
       ∙ ap (λ v. parts_behind g.B.BodyForms.forms c.args.is_tagged (trees (map quasi_tree v)) nil x ts)
@@ -3397,8 +3587,8 @@ parse_tpl_parts-loop-exprs-init g t c = (
   },
 )
 
-pub parse_tpl_parts-loop-exprs-preserved : goal.parse_tpl_parts-loop-exprs-preserved
-parse_tpl_parts-loop-exprs-preserved g t c =
+pub parse_tpl_elements-loop-exprs-preserved : goal.parse_tpl_elements-loop-exprs-preserved
+parse_tpl_elements-loop-exprs-preserved g t c =
     let inner = expr_within g.B.BodyForms.forms c.get_ctx.ensures c.include_in-ctx.ensures.decides
     c.replace_ctx-before.ensures.before c.replace_ctx-before.ensures.moves c.replace_ctx-before.ensures.context
     c.parse_expr-read.ensures c.in_ok-expr.was c.replace_ctx.ensures.moves c.replace_ctx.ensures.context in
@@ -3433,8 +3623,8 @@ parse_tpl_parts-loop-exprs-preserved g t c =
       },
     )
 
-pub parse_tpl_parts-returns-in_err-quasi : goal.parse_tpl_parts-returns-in_err-quasi
-parse_tpl_parts-returns-in_err-quasi g t c =
+pub parse_tpl_elements-returns-in_err-quasi : goal.parse_tpl_elements-returns-in_err-quasi
+parse_tpl_elements-returns-in_err-quasi g t c =
     let texts = trees (map quasi_tree c.loop-exprs.quasis.items) in
     let exprs = trees (map (tree_of c.loop-exprs.p.nodes) c.loop-exprs.exprs.items) in
     m.refused c.from_residual.ensures.1
@@ -3443,16 +3633,16 @@ parse_tpl_parts-returns-in_err-quasi g t c =
     (c.in_err-quasi.ensures.parses g.B.Bodies.is_faithful)))
     c.loop-exprs.invariant.2
 
-pub parse_tpl_parts-returns-in_err-add : goal.parse_tpl_parts-returns-in_err-add
-parse_tpl_parts-returns-in_err-add g t c =
+pub parse_tpl_elements-returns-in_err-add : goal.parse_tpl_elements-returns-in_err-add
+parse_tpl_elements-returns-in_err-add g t c =
     m.refused c.from_residual-in_err-add.ensures.1
     (s.unheard_memory (s.forgoes_later (s.leads_then c.loop-exprs.invariant.0.leads
     (c.in_ok-quasi.ensures.parses g.B.Bodies.is_faithful).on.leads)
     (s.forgoes_here g.met.I.Tokens.laws _ _ _ c.in_err-add.ensures.refused)))
     c.loop-exprs.invariant.2
 
-pub parse_tpl_parts-returns-in_err-end : goal.parse_tpl_parts-returns-in_err-end
-parse_tpl_parts-returns-in_err-end g t c =
+pub parse_tpl_elements-returns-in_err-end : goal.parse_tpl_elements-returns-in_err-end
+parse_tpl_elements-returns-in_err-end g t c =
     let texts = trees (map quasi_tree c.loop-exprs.quasis.items) in
     let exprs = trees (map (tree_of c.loop-exprs.p.nodes) c.loop-exprs.exprs.items) in
     let now = trees_append texts (cons (quasi_tree c.in_ok-quasi.quasi) nil) in
@@ -3465,8 +3655,8 @@ parse_tpl_parts-returns-in_err-end g t c =
     (c.in_err-end.ensures.ends g.B.Bodies.is_faithful))))
     c.loop-exprs.invariant.2
 
-pub parse_tpl_parts-returns-in-Some : goal.parse_tpl_parts-returns-in-Some
-parse_tpl_parts-returns-in-Some g t c =
+pub parse_tpl_elements-returns-in-Some : goal.parse_tpl_elements-returns-in-Some
+parse_tpl_elements-returns-in-Some g t c =
     let texts = trees (map quasi_tree c.loop-exprs.quasis.items) in
     let exprs = trees (map (tree_of c.loop-exprs.p.nodes) c.loop-exprs.exprs.items) in
     let now = trees_append texts (cons (quasi_tree c.in_ok-quasi.quasi) nil) in
@@ -3482,8 +3672,8 @@ parse_tpl_parts-returns-in-Some g t c =
     (λ x ts. refl) (λ x ts. refl) some))))
     c.loop-exprs.invariant.2 c.loop-exprs.invariant.3
 
-pub parse_tpl_parts-returns-in_err-expr : goal.parse_tpl_parts-returns-in_err-expr
-parse_tpl_parts-returns-in_err-expr g t c =
+pub parse_tpl_elements-returns-in_err-expr : goal.parse_tpl_elements-returns-in_err-expr
+parse_tpl_elements-returns-in_err-expr g t c =
     let inner = expr_within g.B.BodyForms.forms c.get_ctx.ensures c.include_in-ctx.ensures.decides
     c.replace_ctx-before.ensures.before c.replace_ctx-before.ensures.moves c.replace_ctx-before.ensures.context
     c.parse_expr-read.ensures c.in_err-expr.was c.replace_ctx.ensures.moves c.replace_ctx.ensures.context in
@@ -3501,8 +3691,8 @@ parse_tpl_parts-returns-in_err-expr g t c =
     (s.unheard_call (λ x p. tpl_expr_close g.B.BodyForms.forms p.0 x p.1) (λ x ts. refl) inner.reads)))))
     (grows-then c.loop-exprs.invariant.2 inner.grows)
 
-pub parse_tpl_parts-returns-in_err-expect : goal.parse_tpl_parts-returns-in_err-expect
-parse_tpl_parts-returns-in_err-expect g t c =
+pub parse_tpl_elements-returns-in_err-expect : goal.parse_tpl_elements-returns-in_err-expect
+parse_tpl_elements-returns-in_err-expect g t c =
     let inner = expr_within g.B.BodyForms.forms c.get_ctx.ensures c.include_in-ctx.ensures.decides
     c.replace_ctx-before.ensures.before c.replace_ctx-before.ensures.moves c.replace_ctx-before.ensures.context
     c.parse_expr-read.ensures c.in_ok-expr.was c.replace_ctx.ensures.moves c.replace_ctx.ensures.context in
@@ -3522,8 +3712,8 @@ parse_tpl_parts-returns-in_err-expect g t c =
     (s.unheard_call (λ x q. Some (e, q.1)) (λ x ts. refl) (c.in_err-expect.ensures.expects g.B.Bodies.is_faithful)))))))
     (grows-then c.loop-exprs.invariant.2 inner.grows)
 
-pub parse_tpl_parts-returns-in_err-add-2 : goal.parse_tpl_parts-returns-in_err-add-2
-parse_tpl_parts-returns-in_err-add-2 g t c =
+pub parse_tpl_elements-returns-in_err-add-2 : goal.parse_tpl_elements-returns-in_err-add-2
+parse_tpl_elements-returns-in_err-add-2 g t c =
     let inner = expr_within g.B.BodyForms.forms c.get_ctx.ensures c.include_in-ctx.ensures.decides
     c.replace_ctx-before.ensures.before c.replace_ctx-before.ensures.moves c.replace_ctx-before.ensures.context
     c.parse_expr-read.ensures c.in_ok-expr.was c.replace_ctx.ensures.moves c.replace_ctx.ensures.context in
@@ -3556,79 +3746,103 @@ parse_object_pat_prop-returns-in-Some g t c =
 
 pub parse_object_pat_prop-returns-in_err-key : goal.parse_object_pat_prop-returns-in_err-key
 parse_object_pat_prop-returns-in_err-key g t c =
+    let keyed = aside c.get_ctx.ensures c.prop_name_context-ctx.ensures.decides c.replace_ctx-before.ensures.before
+    c.replace_ctx-before.ensures.moves c.replace_ctx-before.ensures.context c.parse_prop_name-read.ensures
+    c.in_err-key.was c.replace_ctx.ensures.moves c.replace_ctx.ensures.context in
     m.refused c.from_residual-in_err-key.ensures.1
-    (pat_prop.key_refused _ c.in-None.is (c.in_ok-dots.ensures.eats _) c.in_err-key.ensures.reads)
-    c.parse_prop_name.ensures.grows
+    (pat_prop.key_refused _ c.in-None.is (c.in_ok-dots.ensures.eats _) keyed.reads)
+    keyed.grows
 
 pub parse_object_pat_prop-returns-in_err-key-2 : goal.parse_object_pat_prop-returns-in_err-key-2
 parse_object_pat_prop-returns-in_err-key-2 g t c =
-    let named = pat_prop.key_read _ c.in-None.is (c.in_ok-dots.ensures.eats _) c.in_ok-key.ensures.reads in
+    let keyed = aside c.get_ctx.ensures c.prop_name_context-ctx.ensures.decides c.replace_ctx-before.ensures.before
+    c.replace_ctx-before.ensures.moves c.replace_ctx-before.ensures.context c.parse_prop_name-read.ensures
+    c.in_ok-key.was c.replace_ctx.ensures.moves c.replace_ctx.ensures.context in
+    let named = pat_prop.key_read _ c.in-None.is (c.in_ok-dots.ensures.eats _) keyed.reads in
     m.refused c.from_residual-in_err-key-2.ensures.1
-    (pat_prop.behind_refused _ (tree_of c.parse_prop_name.new.p.nodes) c.in_ok-key.key named
+    (pat_prop.behind_refused _ (tree_of c.parse_prop_name-read.new.p.nodes) c.in_ok-key.key named
     (c.in_err-key-2.ensures.after _))
-    c.parse_prop_name.ensures.grows
+    keyed.grows
 
 pub parse_object_pat_prop-returns-in_err-value-in-Value : goal.parse_object_pat_prop-returns-in_err-value-in-Value
 parse_object_pat_prop-returns-in_err-value-in-Value g t c =
-    let named = pat_prop.key_read _ c.in-None.is (c.in_ok-dots.ensures.eats _) c.in_ok-key.ensures.reads in
+    let keyed = aside c.get_ctx.ensures c.prop_name_context-ctx.ensures.decides c.replace_ctx-before.ensures.before
+    c.replace_ctx-before.ensures.moves c.replace_ctx-before.ensures.context c.parse_prop_name-read.ensures
+    c.in_ok-key.was c.replace_ctx.ensures.moves c.replace_ctx.ensures.context in
+    let named = pat_prop.key_read _ c.in-None.is (c.in_ok-dots.ensures.eats _) keyed.reads in
     m.refused c.from_residual-in_err-value-in-Value.ensures.1
-    (pat_prop.value_refused _ (tree_of c.parse_prop_name.new.p.nodes) c.in_ok-key.key named c.in-Value.key c.in-Value.is
+    (pat_prop.value_refused _ (tree_of c.parse_prop_name-read.new.p.nodes) c.in_ok-key.key named c.in-Value.key
+    c.in-Value.is
     (c.in_ok-key-2.ensures.after _) c.in_err-value-in-Value.ensures.reads)
-    (grows-then c.parse_prop_name.ensures.grows c.parse_binding_element.ensures.grows)
+    (grows-then keyed.grows c.parse_binding_element.ensures.grows)
 
 pub parse_object_pat_prop-returns-in_ok-value-in-Value : goal.parse_object_pat_prop-returns-in_ok-value-in-Value
 parse_object_pat_prop-returns-in_ok-value-in-Value g t c =
+    let keyed = aside c.get_ctx.ensures c.prop_name_context-ctx.ensures.decides c.replace_ctx-before.ensures.before
+    c.replace_ctx-before.ensures.moves c.replace_ctx-before.ensures.context c.parse_prop_name-read.ensures
+    c.in_ok-key.was c.replace_ctx.ensures.moves c.replace_ctx.ensures.context in
     let key = c.in_ok-key.key in
-    let named = pat_prop.key_read _ c.in-None.is (c.in_ok-dots.ensures.eats _) c.in_ok-key.ensures.reads in
+    let named = pat_prop.key_read _ c.in-None.is (c.in_ok-dots.ensures.eats _) keyed.reads in
     let made = pat_node.value_made key c.in-Value.key c.in_ok-value-in-Value.value c.key_pat_prop.result
     (pat_node.same_key _ key c.in-Value.key c.in-Value.is c.in_ok-key-2.ensures.kept)
     c.key_pat_prop.ensures.tree c.key_pat_prop.ensures.parts c.parse_binding_element.ensures.grows
-    c.in_ok-key.ensures.from c.in_ok-value-in-Value.ensures.from in
+    keyed.from c.in_ok-value-in-Value.ensures.from in
     m.yes (Ok _)
     (s.heard_answer made.0
-    (pat_prop.value_read _ (tree_of c.parse_prop_name.new.p.nodes) key named c.in-Value.key c.in-Value.is
+    (pat_prop.value_read _ (tree_of c.parse_prop_name-read.new.p.nodes) key named c.in-Value.key c.in-Value.is
     (c.in_ok-key-2.ensures.after _) c.in_ok-value-in-Value.ensures.reads))
-    (grows-then c.parse_prop_name.ensures.grows c.parse_binding_element.ensures.grows) made.1
+    (grows-then keyed.grows c.parse_binding_element.ensures.grows) made.1
 
 pub parse_object_pat_prop-returns-in_err-value-in-Default : goal.parse_object_pat_prop-returns-in_err-value-in-Default
 parse_object_pat_prop-returns-in_err-value-in-Default g t c =
-    let inner = assign_within g.B.BodyForms.forms c.get_ctx.ensures c.include_in-ctx.ensures.decides
-    c.replace_ctx-before.ensures.before c.replace_ctx-before.ensures.moves c.replace_ctx-before.ensures.context
-    c.parse_assignment_expr-read.ensures c.in_err-value-in-Default.was c.replace_ctx.ensures.moves
-    c.replace_ctx.ensures.context in
-    let named = pat_prop.key_read _ c.in-None.is (c.in_ok-dots.ensures.eats _) c.in_ok-key.ensures.reads in
+    let keyed = aside c.get_ctx.ensures c.prop_name_context-ctx.ensures.decides c.replace_ctx-before.ensures.before
+    c.replace_ctx-before.ensures.moves c.replace_ctx-before.ensures.context c.parse_prop_name-read.ensures
+    c.in_ok-key.was c.replace_ctx.ensures.moves c.replace_ctx.ensures.context in
+    let inner = assign_within g.B.BodyForms.forms c.get_ctx-in-Default.ensures c.include_in-ctx.ensures.decides
+    c.replace_ctx-before-in-Default.ensures.before c.replace_ctx-before-in-Default.ensures.moves
+    c.replace_ctx-before-in-Default.ensures.context
+    c.parse_assignment_expr-read.ensures c.in_err-value-in-Default.was c.replace_ctx-in-Default.ensures.moves
+    c.replace_ctx-in-Default.ensures.context in
+    let named = pat_prop.key_read _ c.in-None.is (c.in_ok-dots.ensures.eats _) keyed.reads in
     m.refused c.from_residual-in_err-value-in-Default.ensures.1
-    (pat_prop.default_refused _ (tree_of c.parse_prop_name.new.p.nodes) c.in_ok-key.key named c.in-Default.name
+    (pat_prop.default_refused _ (tree_of c.parse_prop_name-read.new.p.nodes) c.in_ok-key.key named c.in-Default.name
     c.in-Default.is (c.in_ok-key-2.ensures.after _) inner.reads)
-    (grows-then c.parse_prop_name.ensures.grows inner.grows)
+    (grows-then keyed.grows inner.grows)
 
 pub parse_object_pat_prop-returns-in_ok-value-in-Default : goal.parse_object_pat_prop-returns-in_ok-value-in-Default
 parse_object_pat_prop-returns-in_ok-value-in-Default g t c =
+    let keyed = aside c.get_ctx.ensures c.prop_name_context-ctx.ensures.decides c.replace_ctx-before.ensures.before
+    c.replace_ctx-before.ensures.moves c.replace_ctx-before.ensures.context c.parse_prop_name-read.ensures
+    c.in_ok-key.was c.replace_ctx.ensures.moves c.replace_ctx.ensures.context in
     let value = c.in_ok-value-in-Default.value in
-    let inner = assign_within g.B.BodyForms.forms c.get_ctx.ensures c.include_in-ctx.ensures.decides
-    c.replace_ctx-before.ensures.before c.replace_ctx-before.ensures.moves c.replace_ctx-before.ensures.context
-    c.parse_assignment_expr-read.ensures c.in_ok-value-in-Default.was c.replace_ctx.ensures.moves
-    c.replace_ctx.ensures.context in
-    let ns = c.parse_prop_name.new.p.nodes in
-    let named = pat_prop.key_read _ c.in-None.is (c.in_ok-dots.ensures.eats _) c.in_ok-key.ensures.reads in
+    let inner = assign_within g.B.BodyForms.forms c.get_ctx-in-Default.ensures c.include_in-ctx.ensures.decides
+    c.replace_ctx-before-in-Default.ensures.before c.replace_ctx-before-in-Default.ensures.moves
+    c.replace_ctx-before-in-Default.ensures.context
+    c.parse_assignment_expr-read.ensures c.in_ok-value-in-Default.was c.replace_ctx-in-Default.ensures.moves
+    c.replace_ctx-in-Default.ensures.context in
+    let ns = c.parse_prop_name-read.new.p.nodes in
+    let named = pat_prop.key_read _ c.in-None.is (c.in_ok-dots.ensures.eats _) keyed.reads in
     let equals = pat_prop.behind_read _ (tree_of ns) c.in_ok-key.key named _ c.in-Default.is
     (c.in_ok-key-2.ensures.after _) in
     m.yes (Ok _)
     (pat_node.default_read _ g.met.B.Bodies.lawful (key_at ns c.in_ok-key.key) c.in-Default.name value
     c.default_pat_prop.result equals inner c.default_pat_prop.ensures.tree)
-    (grows-then c.parse_prop_name.ensures.grows inner.grows)
+    (grows-then keyed.grows inner.grows)
     (pat_node.default_apart c.default_pat_prop.result value c.default_pat_prop.ensures.parts
-    c.parse_prop_name.ensures.grows inner.from)
+    keyed.grows inner.from)
 
 pub parse_object_pat_prop-returns-in-Name : goal.parse_object_pat_prop-returns-in-Name
 parse_object_pat_prop-returns-in-Name g t c =
-    let ns = c.parse_prop_name.new.p.nodes in
+    let keyed = aside c.get_ctx.ensures c.prop_name_context-ctx.ensures.decides c.replace_ctx-before.ensures.before
+    c.replace_ctx-before.ensures.moves c.replace_ctx-before.ensures.context c.parse_prop_name-read.ensures
+    c.in_ok-key.was c.replace_ctx.ensures.moves c.replace_ctx.ensures.context in
+    let ns = c.parse_prop_name-read.new.p.nodes in
     m.yes (Ok _)
     (s.heard_answer (pat_node.name_made ns c.in-Name.name c.name_pat_prop.result c.name_pat_prop.ensures)
     (pat_prop.name_read _ (tree_of ns) c.in_ok-key.key c.in-Name.name c.in-None.is (c.in_ok-dots.ensures.eats _)
-    c.in_ok-key.ensures.reads c.in-Name.is (c.in_ok-key-2.ensures.after _)))
-    c.parse_prop_name.ensures.grows
-    (pat_node.name_apart c.in-Name.name c.name_pat_prop.result c.name_pat_prop.ensures c.parse_prop_name.ensures.grows)
+    keyed.reads c.in-Name.is (c.in_ok-key-2.ensures.after _)))
+    keyed.grows
+    (pat_node.name_apart c.in-Name.name c.name_pat_prop.result c.name_pat_prop.ensures keyed.grows)
 
 pub parse_pat_props-loop-items-init : goal.parse_pat_props-loop-items-init
 parse_pat_props-loop-items-init g t c = pat_props.started _ c.args.p.now _ g.met.I.Tokens.laws c.new-items.ensures.items

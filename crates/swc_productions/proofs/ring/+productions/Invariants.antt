@@ -63,18 +63,15 @@ abbrev pub decreases-parse_subscripts-loop-head : goal.decreases-parse_subscript
 decreases-parse_subscripts-loop-head g l = to_come g.I.Tokens.model l.p.input
 
 abbrev pub decreases-parse_args : goal.decreases-parse_args
-decreases-parse_args g l = l.room * 20 + 3
+decreases-parse_args g l = l.room * 20 + 2
 
-abbrev pub decreases-parse_arg_items : goal.decreases-parse_arg_items
-decreases-parse_arg_items g l = l.room * 20 + 2
-
-abbrev pub invariant-parse_arg_items-loop-items : goal.invariant-parse_arg_items-loop-items
-invariant-parse_arg_items-loop-items g l =
+abbrev pub invariant-parse_args-loop-items : goal.invariant-parse_args-loop-items
+invariant-parse_args-loop-items g l =
     ItemsRead g.I.Tokens.model g.B.Bodies.is_faithful (run g.B.BodyForms.forms (sym (Args l.fn.is_dynamic_import)))
     (item_trees (tree_of l.p.nodes) l.items.items) (args_parts l.items) l.trailing_comma l.fn.p l.p
 
-abbrev pub decreases-parse_arg_items-loop-items : goal.decreases-parse_arg_items-loop-items
-decreases-parse_arg_items-loop-items g l = to_come g.I.Tokens.model l.p.input
+abbrev pub decreases-parse_args-loop-items : goal.decreases-parse_args-loop-items
+decreases-parse_args-loop-items g l = to_come g.I.Tokens.model l.p.input
 
 abbrev pub decreases-parse_operand : goal.decreases-parse_operand
 decreases-parse_operand g l = l.room * 20 + 12
@@ -87,9 +84,6 @@ decreases-parse_await g l = l.room * 20 + 0
 
 abbrev pub decreases-parse_plain_operand : goal.decreases-parse_plain_operand
 decreases-parse_plain_operand g l = l.room * 20 + 9
-
-abbrev pub decreases-parse_plain_member : goal.decreases-parse_plain_member
-decreases-parse_plain_member g l = l.room * 20 + 8
 
 abbrev pub decreases-parse_operators : goal.decreases-parse_operators
 decreases-parse_operators g l = l.room * 20 + 13
@@ -151,10 +145,7 @@ abbrev pub decreases-parse_arrow_rest : goal.decreases-parse_arrow_rest
 decreases-parse_arrow_rest g l = l.room * 20 + 3
 
 abbrev pub decreases-parse_arrow_body : goal.decreases-parse_arrow_body
-decreases-parse_arrow_body g l = l.room * 20 + 2
-
-abbrev pub decreases-parse_body : goal.decreases-parse_body
-decreases-parse_body g l = l.room * 20 + 1
+decreases-parse_arrow_body g l = l.room * 20 + 1
 
 abbrev pub decreases-finish_assignment_expr : goal.decreases-finish_assignment_expr
 decreases-finish_assignment_expr g l = l.room * 20 + 1
@@ -174,19 +165,13 @@ abbrev pub decreases-parse_elements-loop-items : goal.decreases-parse_elements-l
 decreases-parse_elements-loop-items g l = to_come g.I.Tokens.model l.p.input
 
 abbrev pub decreases-parse_prop_name : goal.decreases-parse_prop_name
-decreases-parse_prop_name g l = l.room * 20 + 2
-
-abbrev pub decreases-parse_key : goal.decreases-parse_key
-decreases-parse_key g l = l.room * 20 + 1
+decreases-parse_prop_name g l = l.room * 20 + 1
 
 abbrev pub decreases-parse_object_prop : goal.decreases-parse_object_prop
 decreases-parse_object_prop g l = l.room * 20 + 5
 
 abbrev pub decreases-parse_method : goal.decreases-parse_method
-decreases-parse_method g l = l.room * 20 + 4
-
-abbrev pub decreases-parse_method_inside : goal.decreases-parse_method_inside
-decreases-parse_method_inside g l = l.room * 20 + 3
+decreases-parse_method g l = l.room * 20 + 3
 
 abbrev pub decreases-parse_props : goal.decreases-parse_props
 decreases-parse_props g l = l.room * 20 + 6
@@ -201,13 +186,10 @@ abbrev pub decreases-parse_props-loop-items : goal.decreases-parse_props-loop-it
 decreases-parse_props-loop-items g l = to_come g.I.Tokens.model l.p.input
 
 abbrev pub decreases-parse_tpl_elements : goal.decreases-parse_tpl_elements
-decreases-parse_tpl_elements g l = l.room * 20 + 3
+decreases-parse_tpl_elements g l = l.room * 20 + 2
 
-abbrev pub decreases-parse_tpl_parts : goal.decreases-parse_tpl_parts
-decreases-parse_tpl_parts g l = l.room * 20 + 2
-
-abbrev pub invariant-parse_tpl_parts-loop-exprs : goal.invariant-parse_tpl_parts-loop-exprs
-invariant-parse_tpl_parts-loop-exprs g l =
+abbrev pub invariant-parse_tpl_elements-loop-exprs : goal.invariant-parse_tpl_elements-loop-exprs
+invariant-parse_tpl_elements-loop-exprs g l =
     On g.I.Tokens.model g.B.Bodies.is_faithful
     (run g.B.BodyForms.forms (sym (Parts l.fn.is_tagged)))
     (parts_behind g.B.BodyForms.forms l.fn.is_tagged (trees (map quasi_tree l.quasis.items))
@@ -217,8 +199,8 @@ invariant-parse_tpl_parts-loop-exprs g l =
     × Grows l.fn.p.nodes l.p.nodes
     × Apart (count l.fn.p.nodes) l.p.nodes (exprs_parts l.exprs)
 
-abbrev pub decreases-parse_tpl_parts-loop-exprs : goal.decreases-parse_tpl_parts-loop-exprs
-decreases-parse_tpl_parts-loop-exprs g l = to_come g.I.Tokens.model l.p.input
+abbrev pub decreases-parse_tpl_elements-loop-exprs : goal.decreases-parse_tpl_elements-loop-exprs
+decreases-parse_tpl_elements-loop-exprs g l = to_come g.I.Tokens.model l.p.input
 
 abbrev pub decreases-parse_object_pat_prop : goal.decreases-parse_object_pat_prop
 decreases-parse_object_pat_prop g l = l.room * 20 + 3

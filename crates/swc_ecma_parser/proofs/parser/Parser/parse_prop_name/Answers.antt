@@ -12,9 +12,9 @@ returns-in_err-start g c =
 
 pub returns : goal.returns
 returns g c =
-    let ns = c.parse_prop_name-answer.new.p.nodes in
+    let ns = c.parse_key-answer.new.p.nodes in
     record {
       promised = promised-piece g.met.B.Bodies.lawful key-stops c.in_ok-start.ensures.runs c.in_ok-start.ensures.start
-          c.parse_prop_name-answer.ensures c.hand_out.ensures
+          c.parse_key-answer.ensures c.hand_out.ensures
           (unmarked-key (tree_of ns) (λ e. bare_at ns e.0) (λ e. refl)) (key-commas (tree_at ns));
     }

@@ -17,12 +17,12 @@ pub returns : goal.returns
 returns g c =
     let done = c.finish.ensures in
     let kept = c.keep-answer.ensures in
-    let read = c.parse_prop_name-answer.ensures in
-    let ms = c.parse_prop_name-answer.new.p.nodes in
+    let read = c.parse_key-answer.ensures in
+    let ms = c.parse_key-answer.new.p.nodes in
     let ns = nodes_of c.keep-answer.new.self in
-    let answer = c.parse_prop_name-answer.result in
+    let answer = c.parse_key-answer.result in
     record {
-      promised = promised c.parse_prop_name-answer.new.p.input ns
+      promised = promised c.parse_key-answer.new.p.input ns
           (commas_of c.keep-answer.new.self) c.keep-answer.result c.finish.result c.in_ok-start.ensures.runs kept.runs
           done.answer (done.buffer ∙ kept.buffer) done.nodes done.commas done.fails
           (meets-by-number g.I.Tokens.model g.B.Bodies.is_faithful g.B.BodyForms.forms g.met.B.Bodies.lawful
