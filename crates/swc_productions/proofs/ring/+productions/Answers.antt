@@ -2019,7 +2019,7 @@ parse_plain_operand-returns-in_err-callee g t c =
     c.match-parse_plain_primary.read c.match-parse_plain_primary.p =
     elim c.match-parse_plain_primary.branch [
       | parse_plain_operand-in-Ok w ↦ rw (w.p-is, w.read-is)
-          (plain_member.member_read g.B.BodyForms.forms looked plain w.in-Ok.ensures w.parse_subscripts.ensures)
+          (plain_member.member_read g.B.BodyForms.forms looked plain w.in-Ok.ensures w.parse_subscripts-read.ensures)
       | parse_plain_operand-in-Err w ↦ rw (w.p-is, w.read-is)
           (plain_member.member_refused g.B.BodyForms.forms looked plain w.in-Err.ensures)
     ] in
@@ -2046,7 +2046,7 @@ parse_plain_operand-returns-in_err-look g t c =
     c.match-parse_plain_primary.read c.match-parse_plain_primary.p =
     elim c.match-parse_plain_primary.branch [
       | parse_plain_operand-in-Ok w ↦ rw (w.p-is, w.read-is)
-          (plain_member.member_read g.B.BodyForms.forms looked plain w.in-Ok.ensures w.parse_subscripts.ensures)
+          (plain_member.member_read g.B.BodyForms.forms looked plain w.in-Ok.ensures w.parse_subscripts-read.ensures)
       | parse_plain_operand-in-Err w ↦ rw (w.p-is, w.read-is)
           (plain_member.member_refused g.B.BodyForms.forms looked plain w.in-Err.ensures)
     ] in
@@ -2068,7 +2068,7 @@ parse_plain_operand-returns-then-not-may_go_on g t c =
     c.match-parse_plain_primary.read c.match-parse_plain_primary.p =
     elim c.match-parse_plain_primary.branch [
       | parse_plain_operand-in-Ok w ↦ rw (w.p-is, w.read-is)
-          (plain_member.member_read g.B.BodyForms.forms looked plain w.in-Ok.ensures w.parse_subscripts.ensures)
+          (plain_member.member_read g.B.BodyForms.forms looked plain w.in-Ok.ensures w.parse_subscripts-read.ensures)
       | parse_plain_operand-in-Err w ↦ rw (w.p-is, w.read-is)
           (plain_member.member_refused g.B.BodyForms.forms looked plain w.in-Err.ensures)
     ] in
@@ -2087,8 +2087,8 @@ parse_plain_operand-returns-then-not-may_go_on g t c =
     (at_token goes_on) e ∙ sym c.may_go_on.ensures ∙ c.if-not-may_go_on.true)))))
     member.grows member.from
 
-pub parse_plain_operand-parse_subscripts-requires-2 : goal.parse_plain_operand-parse_subscripts-requires-2
-parse_plain_operand-parse_subscripts-requires-2 g t c =
+pub parse_plain_operand-parse_subscripts-requires : goal.parse_plain_operand-parse_subscripts-requires
+parse_plain_operand-parse_subscripts-requires g t c =
     let plain = ap (λ o. at_token is_plain (seen_of o)) c.replace_ctx-before.ensures.current ∙ c.requires.plain in
     let looked = s.here_now g.met.I.Tokens.laws c.replace_ctx-before.new.input (s.seen_some is_plain
     c.replace_ctx-before.new.input plain) in
@@ -2098,7 +2098,7 @@ parse_plain_operand-parse_subscripts-requires-2 g t c =
     c.match-parse_plain_primary.read c.match-parse_plain_primary.p =
     elim c.match-parse_plain_primary.branch [
       | parse_plain_operand-in-Ok w ↦ rw (w.p-is, w.read-is)
-          (plain_member.member_read g.B.BodyForms.forms looked plain w.in-Ok.ensures w.parse_subscripts.ensures)
+          (plain_member.member_read g.B.BodyForms.forms looked plain w.in-Ok.ensures w.parse_subscripts-read.ensures)
       | parse_plain_operand-in-Err w ↦ rw (w.p-is, w.read-is)
           (plain_member.member_refused g.B.BodyForms.forms looked plain w.in-Err.ensures)
     ] in
@@ -2119,7 +2119,7 @@ parse_plain_operand-returns-in_err-expr g t c =
     c.match-parse_plain_primary.read c.match-parse_plain_primary.p =
     elim c.match-parse_plain_primary.branch [
       | parse_plain_operand-in-Ok w ↦ rw (w.p-is, w.read-is)
-          (plain_member.member_read g.B.BodyForms.forms looked plain w.in-Ok.ensures w.parse_subscripts.ensures)
+          (plain_member.member_read g.B.BodyForms.forms looked plain w.in-Ok.ensures w.parse_subscripts-read.ensures)
       | parse_plain_operand-in-Err w ↦ rw (w.p-is, w.read-is)
           (plain_member.member_refused g.B.BodyForms.forms looked plain w.in-Err.ensures)
     ] in
@@ -2136,7 +2136,7 @@ parse_plain_operand-returns-in_err-expr g t c =
     m.refused c.from_residual-in_err-expr.ensures.1
     (s.unheard_after (s.on_then begun (s.on_call (operand.behind _) (λ x ts. refl) again.on))
     (s.unheard_call (operand.updated _) (λ x ts. refl) c.in_err-expr.ensures.reads))
-    (grows-then member.grows c.parse_subscripts-2.ensures.grows)
+    (grows-then member.grows c.parse_subscripts.ensures.grows)
 
 pub parse_plain_operand-parse_update_postfix-requires : goal.parse_plain_operand-parse_update_postfix-requires
 parse_plain_operand-parse_update_postfix-requires g t c =
@@ -2153,7 +2153,7 @@ parse_plain_operand-returns g t c =
     c.match-parse_plain_primary.read c.match-parse_plain_primary.p =
     elim c.match-parse_plain_primary.branch [
       | parse_plain_operand-in-Ok w ↦ rw (w.p-is, w.read-is)
-          (plain_member.member_read g.B.BodyForms.forms looked plain w.in-Ok.ensures w.parse_subscripts.ensures)
+          (plain_member.member_read g.B.BodyForms.forms looked plain w.in-Ok.ensures w.parse_subscripts-read.ensures)
       | parse_plain_operand-in-Err w ↦ rw (w.p-is, w.read-is)
           (plain_member.member_refused g.B.BodyForms.forms looked plain w.in-Err.ensures)
     ] in
@@ -2175,7 +2175,7 @@ parse_plain_operand-returns g t c =
     (λ x ts. refl) again
     member.grows (λ x. from-down (omega arith))
     (m.on_after r (s.on_call (operand.updated _) (λ x ts. refl) c.in_ok-expr.ensures.reads)
-    c.parse_subscripts-2.ensures.grows c.parse_update_postfix.ensures))
+    c.parse_subscripts.ensures.grows c.parse_update_postfix.ensures))
 
 pub parse_bin_expr-returns-in_err-first : goal.parse_bin_expr-returns-in_err-first
 parse_bin_expr-returns-in_err-first g t c =
@@ -3240,8 +3240,8 @@ parse_arrow_or_base-returns-in-Base-3 g t c =
     (told.base_from c.close_list.new.p.nodes c.in_ok-head-in-List.field-0
     (count c.args.p.now.nodes) c.in-Base-3.is w.from)
 
-pub parse_arrow_rest-arrow_function-requires : goal.parse_arrow_rest-arrow_function-requires
-parse_arrow_rest-arrow_function-requires g t c =
+pub parse_arrow_rest-arrow_function-arrow-requires : goal.parse_arrow_rest-arrow_function-arrow-requires
+parse_arrow_rest-arrow_function-arrow-requires g t c =
     let h = c.args.head in
     let read = bodies.body_within g.B.BodyForms.forms g.met.B.Bodies.lawful h.is_async c.get_ctx.ensures
     c.arrow_body-ctx.ensures c.replace_ctx-before.ensures.before c.replace_ctx-before.ensures.moves
@@ -3256,7 +3256,6 @@ parse_arrow_rest-returns-clause-reads g t c =
     let ns = c.parse_arrow_body-read.new.p.nodes in
     let ps = pat_trees (tree_at c.args.p.now.nodes) h.params in
     let splits = begun.arrow_splits forms h.start h.is_async h.in_parens ps in
-    let end = λ x p. arrow_end h.start (span_of p.0).hi h.is_async h.in_parens ps p.0 p.1 in
     λ k apart. elim c.match-body.branch [
       | parse_arrow_rest-in-Ok w ↦ rw (w.p-is, w.arrow-is) (
           let read = bodies.body_within g.B.BodyForms.forms g.met.B.Bodies.lawful h.is_async c.get_ctx.ensures
@@ -3266,20 +3265,24 @@ parse_arrow_rest-returns-clause-reads g t c =
           let b = w.in-Ok.body in
           bodies.found_before c.args.p.now.found_module_item
           (begun.arrow_read {m = record c.parse_arrow_body-read.new.p { input = c.replace_ctx.new.input }}
-          w.arrow_function.result
+          w.arrow_function-arrow.result
           (opens_call_read {g = λ x ts. arrow_end h.start (body_end ns b) h.is_async h.in_parens
-          (pat_trees (tree_at ns) h.params) (body_at ns b) ts} end splits read.reads (λ x ts us f y ys.
+          (pat_trees (tree_at ns) h.params) (body_at ns b) ts}
+          (λ x p. arrow_end h.start (span_of p.0).hi h.is_async h.in_parens ps p.0 p.1) splits read.reads (λ x ts us f y
+          ys.
           begun.end_same forms g.met.B.Bodies.lawful h.start h.is_async h.in_parens ps b read.from x ts us f ys
           ∙ ap (λ v. arrow_end h.start (body_end ns b) h.is_async h.in_parens v (body_at ns b) ys)
           (sym (list-later one_pat (λ at x. at x.0) (λ at by x f. same_first f) h.params.items read.grows apart))))
-          read.grows (omega arith) (w.arrow_function.ensures k (apart-more read.grows apart read.from))))
+          read.grows (omega arith) (w.arrow_function-arrow.ensures k (apart-more read.grows apart read.from))))
       | parse_arrow_rest-in-Err w ↦ rw (w.p-is, w.arrow-is) (
           let read = bodies.body_within g.B.BodyForms.forms g.met.B.Bodies.lawful h.is_async c.get_ctx.ensures
           c.arrow_body-ctx.ensures c.replace_ctx-before.ensures.before c.replace_ctx-before.ensures.moves
           c.replace_ctx-before.ensures.context c.parse_arrow_body-read.ensures w.in-Err.is c.replace_ctx.ensures.moves
           c.replace_ctx.ensures.context in
           bodies.found_before c.args.p.now.found_module_item
-          (begun.rest_refused (s.unheard_call end splits read.reads) read.grows))
+          (begun.rest_refused {q = record c.parse_arrow_body-read.new.p { input = c.replace_ctx.new.input }}
+          (s.unheard_call
+          (λ x p. arrow_end h.start (span_of p.0).hi h.is_async h.in_parens ps p.0 p.1) splits read.reads) read.grows))
     ]
 
 pub parse_arrow_body-returns-in_err-begins_block : goal.parse_arrow_body-returns-in_err-begins_block
