@@ -5,5 +5,4 @@ pub mod ByThemselves
 pub mod InnerCalls
 pub mod Methods
 pub mod PlainKinds
-pub mod PlainMembers
 pub mod Recovered

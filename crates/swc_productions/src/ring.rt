@@ -719,20 +719,29 @@ fn parse_plain_operand<I: Tokens, B: Bodies<I>>(
     ensures { Produces I.model B.is_faithful itself tree_of (run B.forms (sym Unary))
         (count p.old.nodes) p.old result p.new }
 {
-    let callee = within!(
-        p,
-        member_context(p.get_ctx()),
-        match primary::parse_plain_primary(p) {
-            Ok(base) => parse_subscripts(p, room, base, true),
-            Err(error) => Err(error),
-        }
-    )?;
+    let callee = within!(p, member_context(p.get_ctx()), parse_plain_member(p, room))?;
     tokens::look(&mut p.input)?;
     if !may_go_on(&p.input) {
         return Ok(callee);
     }
     let expr = parse_subscripts(p, room, callee, false)?;
     ops::parse_update_postfix(p, expr)
+}
+
+/// A member expression (ECMA-262, 13.3) that begins with a name, a literal or `this`: a primary expression, and the
+/// links after it, but for calls.
+#[cycle(productions)]
+fn parse_plain_member<I: Tokens, B: Bodies<I>>(
+    p: &mut Productions<I, B>,
+    room: usize,
+) -> PResult<ExprId>
+    requires looked { Here I.model p.old.input p.old.input }
+    requires plain { at_token is_plain (seen p.old.input) ≡ true }
+    ensures { Produces I.model B.is_faithful itself tree_of (run B.forms (sym (Lhs false)))
+        (count p.old.nodes) p.old result p.new }
+{
+    let base = primary::parse_plain_primary(p)?;
+    parse_subscripts(p, room, base, true)
 }
 
 // ---- Expressions with commas between them, assignment expressions, conditionals and `yield` (ECMA-262, 13.14 to 13.16

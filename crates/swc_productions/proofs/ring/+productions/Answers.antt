@@ -28,7 +28,7 @@ use Rattle.swc_nodes.proofs.Lists.{trees-both, trees-more, apart-later, apart-mo
 use Rattle.swc_nodes.proofs.Waiting.{operands-first, operands-joined, operands-last, operands-more, operands-top}
 use Rattle.swc_nodes.specs.Pending.{all_pending, first_operand}
 use Rattle.swc_nodes.specs.Rising.{waiting}
-use Rattle.swc_grammar.specs.Symbols.{Assign, Level, Unary, Lhs, Template}
+use Rattle.swc_grammar.specs.Symbols.{Assign, Level, Unary, Lhs, Primary, Template}
 use Rattle.swc_ast.specs.Trees.{trees_append, begins_in_invalid, cover_e, ident_e, to, await_e, cond_e, assign_e}
 use Rattle.swc_ast.specs.Trees.{yield_e, hole_e, seq_of}
 use Rattle.swc_ast.specs.Trees.{import_e, parts_e, tpl_e}
@@ -36,7 +36,7 @@ use Rattle.swc_input.specs.Recording.{is_some}
 use Rattle.swc_grammar.specs.Clean.{sym as at, run, first, links, updates, climb, assigns, prefix_at}
 use Rattle.swc_grammar.specs.Clean.{goes_on_yield_at}
 use Rattle.swc_grammar.specs.Words.{◌>>=◌}
-use Rattle.swc_steps.specs.Parsing.{scope, seen, seen_of, behind, tree_of, itself, ident_spelling, key_at}
+use Rattle.swc_steps.specs.Parsing.{scope, seen, seen_of, behind, tree_of, ident_spelling, key_at}
 use Rattle.swc_steps.specs.Args.{paren_expr_tail}
 use Rattle.swc_operators.specs.Assignments.{seqs_more, cond_tail, cond_close}
 use Rattle.swc_operators.specs.Assignments.{assign_at, assign_tail, yield_tail, yield_operand, yield_expr}
@@ -102,7 +102,6 @@ use Rattle.swc_productions.proofs.ArrowBodies as bodies
 use Rattle.swc_productions.proofs.InnerCalls as inside
 use Rattle.swc_productions.proofs.Methods as methods
 use Rattle.swc_productions.proofs.PlainKinds.{plain_kind}
-use Rattle.swc_productions.proofs.PlainMembers as plain_member
 use Rattle.swc_grammar.specs.Scope.{inner}
 use Rattle.swc_primary.specs.Methods.{method_end}
 use Rattle.swc_primary.proofs.Functions as function
@@ -144,8 +143,6 @@ use Rattle.swc_productions.proofs.ring.+productions.Goals.{parse_pat_elements-in
 use Rattle.swc_productions.proofs.ring.+productions.Goals.{parse_pat_elements-in-None+in_ok-pat-in-None}
 use Rattle.swc_productions.proofs.ring.+productions.Goals.{parse_arrow_rest-in-Ok}
 use Rattle.swc_productions.proofs.ring.+productions.Goals.{parse_arrow_rest-in-Err}
-use Rattle.swc_productions.proofs.ring.+productions.Goals.{parse_plain_operand-in-Ok}
-use Rattle.swc_productions.proofs.ring.+productions.Goals.{parse_plain_operand-in-Err}
 use Rattle.swc_productions.proofs.ring.+productions.Goals.{parse_formal_params-in-Some+in_ok-arg-in-Some+in_ok-eat-in-Some+in-Some-2+in_ok-value-in-Some-2+in_ok-pat-in-Some-2}
 use Rattle.swc_productions.proofs.ring.+productions.Goals.{parse_formal_params-in-Some+in_ok-arg-in-Some+in_ok-eat-in-Some+in-None-2+in_ok-pat-in-None-2}
 use Rattle.swc_productions.proofs.ring.+productions.Goals.{parse_formal_params-in-None+in_ok-pat-in-None}
@@ -2001,30 +1998,26 @@ parse_await-returns g t c =
     (sym (ending.ended _ g.met.B.Bodies.lawful c.in_ok-arg.arg Unary (inner x) ts us c.in_ok-arg.ensures.from h)))
     (s.heard_inner c.in_ok-arg.ensures.reads)))))
 
-pub parse_plain_operand-parse_plain_primary-requires : goal.parse_plain_operand-parse_plain_primary-requires
-parse_plain_operand-parse_plain_primary-requires g t c =
+pub parse_plain_operand-parse_plain_member-read-requires : goal.parse_plain_operand-parse_plain_member-read-requires
+parse_plain_operand-parse_plain_member-read-requires g t c =
     let plain = ap (λ o. at_token is_plain (seen_of o)) c.replace_ctx-before.ensures.current ∙ c.requires.plain in
     let looked = s.here_now g.met.I.Tokens.laws c.replace_ctx-before.new.input (s.seen_some is_plain
     c.replace_ctx-before.new.input plain) in
-    record { looked = looked; plain = plain_kind _ plain }
+    λ κs outlives. (
+      search rules,
+      (
+        search rules,
+        (
+          search rules,
+          (search rules, (search rules, (search rules, (looked, plain)))),
+        ),
+      ),
+    )
 
 pub parse_plain_operand-returns-in_err-callee : goal.parse_plain_operand-returns-in_err-callee
 parse_plain_operand-returns-in_err-callee g t c =
-    let plain = ap (λ o. at_token is_plain (seen_of o)) c.replace_ctx-before.ensures.current ∙ c.requires.plain in
-    let looked = s.here_now g.met.I.Tokens.laws c.replace_ctx-before.new.input (s.seen_some is_plain
-    c.replace_ctx-before.new.input plain) in
-    let read : Produces g.I.Tokens.model g.B.Bodies.is_faithful itself tree_of (run g.B.BodyForms.forms (at (Lhs
-    false)))
-    (count c.args.p.now.nodes) (record c.args.p.now { input = c.replace_ctx-before.new.input })
-    c.match-parse_plain_primary.read c.match-parse_plain_primary.p =
-    elim c.match-parse_plain_primary.branch [
-      | parse_plain_operand-in-Ok w ↦ rw (w.p-is, w.read-is)
-          (plain_member.member_read g.B.BodyForms.forms looked plain w.in-Ok.ensures w.parse_subscripts-read.ensures)
-      | parse_plain_operand-in-Err w ↦ rw (w.p-is, w.read-is)
-          (plain_member.member_refused g.B.BodyForms.forms looked plain w.in-Err.ensures)
-    ] in
     let member = aside c.get_ctx.ensures c.member_context-ctx.ensures.decides c.replace_ctx-before.ensures.before
-    c.replace_ctx-before.ensures.moves c.replace_ctx-before.ensures.context read
+    c.replace_ctx-before.ensures.moves c.replace_ctx-before.ensures.context c.parse_plain_member-read.ensures
     c.in_err-callee.was c.replace_ctx.ensures.moves c.replace_ctx.ensures.context in
     let begun = s.on_seen {g = λ x ts. run g.B.BodyForms.forms (at (Lhs false)) x ts >>=
     operand.behind g.B.BodyForms.forms x} c.requires.looked
@@ -2037,21 +2030,8 @@ parse_plain_operand-returns-in_err-callee g t c =
 
 pub parse_plain_operand-returns-in_err-look : goal.parse_plain_operand-returns-in_err-look
 parse_plain_operand-returns-in_err-look g t c =
-    let plain = ap (λ o. at_token is_plain (seen_of o)) c.replace_ctx-before.ensures.current ∙ c.requires.plain in
-    let looked = s.here_now g.met.I.Tokens.laws c.replace_ctx-before.new.input (s.seen_some is_plain
-    c.replace_ctx-before.new.input plain) in
-    let read : Produces g.I.Tokens.model g.B.Bodies.is_faithful itself tree_of (run g.B.BodyForms.forms (at (Lhs
-    false)))
-    (count c.args.p.now.nodes) (record c.args.p.now { input = c.replace_ctx-before.new.input })
-    c.match-parse_plain_primary.read c.match-parse_plain_primary.p =
-    elim c.match-parse_plain_primary.branch [
-      | parse_plain_operand-in-Ok w ↦ rw (w.p-is, w.read-is)
-          (plain_member.member_read g.B.BodyForms.forms looked plain w.in-Ok.ensures w.parse_subscripts-read.ensures)
-      | parse_plain_operand-in-Err w ↦ rw (w.p-is, w.read-is)
-          (plain_member.member_refused g.B.BodyForms.forms looked plain w.in-Err.ensures)
-    ] in
     let member = aside c.get_ctx.ensures c.member_context-ctx.ensures.decides c.replace_ctx-before.ensures.before
-    c.replace_ctx-before.ensures.moves c.replace_ctx-before.ensures.context read
+    c.replace_ctx-before.ensures.moves c.replace_ctx-before.ensures.context c.parse_plain_member-read.ensures
     c.in_ok-callee.was c.replace_ctx.ensures.moves c.replace_ctx.ensures.context in
     m.refused c.from_residual-in_err-look.ensures.1
     (s.unheard_memory (s.forgoes_later member.reads.on.leads c.in_err-look.ensures.looks))
@@ -2059,26 +2039,13 @@ parse_plain_operand-returns-in_err-look g t c =
 
 pub parse_plain_operand-returns-then-not-may_go_on : goal.parse_plain_operand-returns-then-not-may_go_on
 parse_plain_operand-returns-then-not-may_go_on g t c =
-    let plain = ap (λ o. at_token is_plain (seen_of o)) c.replace_ctx-before.ensures.current ∙ c.requires.plain in
-    let looked = s.here_now g.met.I.Tokens.laws c.replace_ctx-before.new.input (s.seen_some is_plain
-    c.replace_ctx-before.new.input plain) in
-    let read : Produces g.I.Tokens.model g.B.Bodies.is_faithful itself tree_of (run g.B.BodyForms.forms (at (Lhs
-    false)))
-    (count c.args.p.now.nodes) (record c.args.p.now { input = c.replace_ctx-before.new.input })
-    c.match-parse_plain_primary.read c.match-parse_plain_primary.p =
-    elim c.match-parse_plain_primary.branch [
-      | parse_plain_operand-in-Ok w ↦ rw (w.p-is, w.read-is)
-          (plain_member.member_read g.B.BodyForms.forms looked plain w.in-Ok.ensures w.parse_subscripts-read.ensures)
-      | parse_plain_operand-in-Err w ↦ rw (w.p-is, w.read-is)
-          (plain_member.member_refused g.B.BodyForms.forms looked plain w.in-Err.ensures)
-    ] in
     let member = aside c.get_ctx.ensures c.member_context-ctx.ensures.decides c.replace_ctx-before.ensures.before
-    c.replace_ctx-before.ensures.moves c.replace_ctx-before.ensures.context read
+    c.replace_ctx-before.ensures.moves c.replace_ctx-before.ensures.context c.parse_plain_member-read.ensures
     c.in_ok-callee.was c.replace_ctx.ensures.moves c.replace_ctx.ensures.context in
     let begun = s.on_seen {g = λ x ts. run g.B.BodyForms.forms (at (Lhs false)) x ts >>=
     operand.behind g.B.BodyForms.forms x} c.requires.looked
     (λ x ts same e. plain_operand.plain_unary _ x ts (s.no_head same) (ap (at_token is_plain) e ∙ c.requires.plain)) in
-    let l = tree_of c.match-parse_plain_primary.p.nodes c.in_ok-callee.callee in
+    let l = tree_of c.parse_plain_member-read.new.p.nodes c.in_ok-callee.callee in
     m.yes (Ok c.in_ok-callee.callee)
     (s.heard_after begun
     (s.heard_more (operand.behind _) (λ x ts. refl) member.reads
@@ -2089,47 +2056,21 @@ parse_plain_operand-returns-then-not-may_go_on g t c =
 
 pub parse_plain_operand-parse_subscripts-requires : goal.parse_plain_operand-parse_subscripts-requires
 parse_plain_operand-parse_subscripts-requires g t c =
-    let plain = ap (λ o. at_token is_plain (seen_of o)) c.replace_ctx-before.ensures.current ∙ c.requires.plain in
-    let looked = s.here_now g.met.I.Tokens.laws c.replace_ctx-before.new.input (s.seen_some is_plain
-    c.replace_ctx-before.new.input plain) in
-    let read : Produces g.I.Tokens.model g.B.Bodies.is_faithful itself tree_of (run g.B.BodyForms.forms (at (Lhs
-    false)))
-    (count c.args.p.now.nodes) (record c.args.p.now { input = c.replace_ctx-before.new.input })
-    c.match-parse_plain_primary.read c.match-parse_plain_primary.p =
-    elim c.match-parse_plain_primary.branch [
-      | parse_plain_operand-in-Ok w ↦ rw (w.p-is, w.read-is)
-          (plain_member.member_read g.B.BodyForms.forms looked plain w.in-Ok.ensures w.parse_subscripts-read.ensures)
-      | parse_plain_operand-in-Err w ↦ rw (w.p-is, w.read-is)
-          (plain_member.member_refused g.B.BodyForms.forms looked plain w.in-Err.ensures)
-    ] in
-    let falls = read.falls in
-    let was = c.in_ok-callee.was in
-    let from = from-down (omega arith) (m.held_is _ c.match-parse_plain_primary.read c.in_ok-callee.callee was
-    read.from) in
+    let falls = c.parse_plain_member-read.ensures.falls in
+    let read = c.in_ok-callee.was in
+    let from = from-down (omega arith) (m.held_is _ c.parse_plain_member-read.result c.in_ok-callee.callee read
+    c.parse_plain_member-read.ensures.from) in
     λ κs outlives. (search rules, (search rules, (search rules, (search rules, (search rules, (search rules, from))))))
 
 pub parse_plain_operand-returns-in_err-expr : goal.parse_plain_operand-returns-in_err-expr
 parse_plain_operand-returns-in_err-expr g t c =
-    let plain = ap (λ o. at_token is_plain (seen_of o)) c.replace_ctx-before.ensures.current ∙ c.requires.plain in
-    let looked = s.here_now g.met.I.Tokens.laws c.replace_ctx-before.new.input (s.seen_some is_plain
-    c.replace_ctx-before.new.input plain) in
-    let read : Produces g.I.Tokens.model g.B.Bodies.is_faithful itself tree_of (run g.B.BodyForms.forms (at (Lhs
-    false)))
-    (count c.args.p.now.nodes) (record c.args.p.now { input = c.replace_ctx-before.new.input })
-    c.match-parse_plain_primary.read c.match-parse_plain_primary.p =
-    elim c.match-parse_plain_primary.branch [
-      | parse_plain_operand-in-Ok w ↦ rw (w.p-is, w.read-is)
-          (plain_member.member_read g.B.BodyForms.forms looked plain w.in-Ok.ensures w.parse_subscripts-read.ensures)
-      | parse_plain_operand-in-Err w ↦ rw (w.p-is, w.read-is)
-          (plain_member.member_refused g.B.BodyForms.forms looked plain w.in-Err.ensures)
-    ] in
     let member = aside c.get_ctx.ensures c.member_context-ctx.ensures.decides c.replace_ctx-before.ensures.before
-    c.replace_ctx-before.ensures.moves c.replace_ctx-before.ensures.context read
+    c.replace_ctx-before.ensures.moves c.replace_ctx-before.ensures.context c.parse_plain_member-read.ensures
     c.in_ok-callee.was c.replace_ctx.ensures.moves c.replace_ctx.ensures.context in
     let begun = s.on_seen {g = λ x ts. run g.B.BodyForms.forms (at (Lhs false)) x ts >>=
     operand.behind g.B.BodyForms.forms x} c.requires.looked
     (λ x ts same e. plain_operand.plain_unary _ x ts (s.no_head same) (ap (at_token is_plain) e ∙ c.requires.plain)) in
-    let l = tree_of c.match-parse_plain_primary.p.nodes c.in_ok-callee.callee in
+    let l = tree_of c.parse_plain_member-read.new.p.nodes c.in_ok-callee.callee in
     let again = s.heard_then member.reads.on member.reads.onward (s.on_seen {f = s.give l} {g = s.give l}
     c.in_ok-look.ensures.looks
     (λ x ts same e. refl)) in
@@ -2144,26 +2085,13 @@ parse_plain_operand-parse_update_postfix-requires g t c =
 
 pub parse_plain_operand-returns : goal.parse_plain_operand-returns
 parse_plain_operand-returns g t c =
-    let plain = ap (λ o. at_token is_plain (seen_of o)) c.replace_ctx-before.ensures.current ∙ c.requires.plain in
-    let looked = s.here_now g.met.I.Tokens.laws c.replace_ctx-before.new.input (s.seen_some is_plain
-    c.replace_ctx-before.new.input plain) in
-    let read : Produces g.I.Tokens.model g.B.Bodies.is_faithful itself tree_of (run g.B.BodyForms.forms (at (Lhs
-    false)))
-    (count c.args.p.now.nodes) (record c.args.p.now { input = c.replace_ctx-before.new.input })
-    c.match-parse_plain_primary.read c.match-parse_plain_primary.p =
-    elim c.match-parse_plain_primary.branch [
-      | parse_plain_operand-in-Ok w ↦ rw (w.p-is, w.read-is)
-          (plain_member.member_read g.B.BodyForms.forms looked plain w.in-Ok.ensures w.parse_subscripts-read.ensures)
-      | parse_plain_operand-in-Err w ↦ rw (w.p-is, w.read-is)
-          (plain_member.member_refused g.B.BodyForms.forms looked plain w.in-Err.ensures)
-    ] in
     let member = aside c.get_ctx.ensures c.member_context-ctx.ensures.decides c.replace_ctx-before.ensures.before
-    c.replace_ctx-before.ensures.moves c.replace_ctx-before.ensures.context read
+    c.replace_ctx-before.ensures.moves c.replace_ctx-before.ensures.context c.parse_plain_member-read.ensures
     c.in_ok-callee.was c.replace_ctx.ensures.moves c.replace_ctx.ensures.context in
     let begun = s.on_seen {g = λ x ts. run g.B.BodyForms.forms (at (Lhs false)) x ts >>=
     operand.behind g.B.BodyForms.forms x} c.requires.looked
     (λ x ts same e. plain_operand.plain_unary _ x ts (s.no_head same) (ap (at_token is_plain) e ∙ c.requires.plain)) in
-    let l = tree_of c.match-parse_plain_primary.p.nodes c.in_ok-callee.callee in
+    let l = tree_of c.parse_plain_member-read.new.p.nodes c.in_ok-callee.callee in
     let again = s.heard_then member.reads.on member.reads.onward (s.on_seen {f = s.give l} {g = s.give l}
     c.in_ok-look.ensures.looks
     (λ x ts same e. refl)) in
@@ -2171,11 +2099,34 @@ parse_plain_operand-returns g t c =
     let a = member.from.above in
     let b = c.in_ok-expr.ensures.from.above in
     m.after {m = c.args.p.now} r begun (grows-same _)
-    (m.call {m = record c.match-parse_plain_primary.p { input = c.look.new.input }} r (operand.behind _)
+    (m.call {m = record c.parse_plain_member-read.new.p { input = c.look.new.input }} r (operand.behind _)
     (λ x ts. refl) again
     member.grows (λ x. from-down (omega arith))
     (m.on_after r (s.on_call (operand.updated _) (λ x ts. refl) c.in_ok-expr.ensures.reads)
     c.parse_subscripts.ensures.grows c.parse_update_postfix.ensures))
+
+pub parse_plain_member-parse_plain_primary-requires : goal.parse_plain_member-parse_plain_primary-requires
+parse_plain_member-parse_plain_primary-requires g t c =
+    record { looked = c.requires.looked; plain = plain_kind _ c.requires.plain }
+
+pub parse_plain_member-returns-in_err-base : goal.parse_plain_member-returns-in_err-base
+parse_plain_member-returns-in_err-base g t c =
+    m.refused c.from_residual.ensures.1
+    (s.unheard_after (s.on_seen {g = λ x ts. run _ (at Primary) x ts >>=
+    (λ p. run _ (links false p.0) x p.1)} c.requires.looked
+    (λ x ts same e. plain_operand.plain_member _ x ts (s.no_head same) (ap (at_token is_plain) e ∙ c.requires.plain)))
+    (s.unheard_call (λ x p. run _ (links false p.0) x p.1) (λ x ts. refl) c.in_err-base.ensures.reads))
+    c.parse_plain_primary.ensures.grows
+
+pub parse_plain_member-returns : goal.parse_plain_member-returns
+parse_plain_member-returns g t c =
+    m.after {m = c.args.p.now} c.parse_subscripts.result
+    (s.on_seen {g = λ x ts. run _ (at Primary) x ts >>= (λ p. run _ (links false p.0) x p.1)} c.requires.looked
+    (λ x ts same e. plain_operand.plain_member _ x ts (s.no_head same) (ap (at_token is_plain) e ∙ c.requires.plain)))
+    (grows-same _)
+    (m.call c.parse_subscripts.result (λ x p. run _ (links false p.0) x p.1) (λ x ts. refl)
+    c.in_ok-base.ensures.reads c.parse_plain_primary.ensures.grows
+    (λ x. from-down c.in_ok-base.ensures.from.above) c.parse_subscripts.ensures)
 
 pub parse_bin_expr-returns-in_err-first : goal.parse_bin_expr-returns-in_err-first
 parse_bin_expr-returns-in_err-first g t c =

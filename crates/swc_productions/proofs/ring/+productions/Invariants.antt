@@ -85,6 +85,9 @@ decreases-parse_await g l = l.room * 20 + 0
 abbrev pub decreases-parse_plain_operand : goal.decreases-parse_plain_operand
 decreases-parse_plain_operand g l = l.room * 20 + 9
 
+abbrev pub decreases-parse_plain_member : goal.decreases-parse_plain_member
+decreases-parse_plain_member g l = l.room * 20 + 8
+
 abbrev pub decreases-parse_operators : goal.decreases-parse_operators
 decreases-parse_operators g l = l.room * 20 + 13
 
