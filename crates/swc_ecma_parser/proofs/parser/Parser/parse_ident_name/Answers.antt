@@ -11,7 +11,7 @@ use Rattle.swc_ecma_parser.proofs.Top as top
 use Rattle.swc_ecma_parser.proofs.parser.Parser.parse_ident_name.Goals as goal
 
 pub returns-in_err-begin : goal.returns-in_err-begin
-returns-in_err-begin g c = 
+returns-in_err-begin g c =
     rw (err_is c.from_residual.ensures.1) (called-again c.in_err-begin.ensures.again)
 
 pub returns : goal.returns

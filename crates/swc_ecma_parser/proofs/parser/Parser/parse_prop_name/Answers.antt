@@ -7,7 +7,7 @@ use Rattle.swc_ecma_parser.proofs.{Calling.promised-again, Top.key-stops, Wholes
 use Rattle.swc_ecma_parser.proofs.parser.Parser.parse_prop_name.Goals as goal
 
 pub returns-in_err-start : goal.returns-in_err-start
-returns-in_err-start g c = 
+returns-in_err-start g c =
     rw (err_is c.from_residual.ensures.1) (record { promised = promised-again c.in_err-start.ensures.again refl })
 
 pub returns : goal.returns

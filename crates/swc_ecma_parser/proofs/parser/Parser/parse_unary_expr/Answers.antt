@@ -5,7 +5,7 @@ use Rattle.swc_ecma_parser.proofs.{Calling.promised-again, Left.expr-left, Top.u
 use Rattle.swc_ecma_parser.proofs.parser.Parser.parse_unary_expr.Goals as goal
 
 pub returns-in_err-start : goal.returns-in_err-start
-returns-in_err-start g c = 
+returns-in_err-start g c =
     rw (err_is c.from_residual.ensures.1) (record { promised = promised-again c.in_err-start.ensures.again refl })
 
 pub returns : goal.returns
