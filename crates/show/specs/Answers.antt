@@ -1,15 +1,15 @@
 -- What is answered of a source text.
 use Rattle.std.specs.Prelude.{◌≡◌, ℕ, ◌<◌, ◌≤◌, Bool, true, false, List, [], length, Result, Err, IfOk, MatchResult}
 use Rattle.swc_context.specs.{Contexts.view, declared.context.Context.Context, declared.context.Syntax.Syntax, declared.error.Error.Error, declared.error.SyntaxError.TheVariants.OutOfMemory}
-use Rattle.swc_input.specs.declared.token.TokenAndSpan.{TokenAndSpan}
+use Rattle.swc_input.specs.{declared.token.TokenAndSpan.TokenAndSpan, Source.Source}
 use Rattle.swc_ast.specs.Tree.{Tree}
 use Rattle.swc_bodies.specs.{Body.Body, Taking.token_forms}
 use Rattle.swc_tokens.specs.Faults.{lex_fault, between, IsRefusal}
-use Rattle.swc_tokens.specs.{Nesting.AreNested, Reading.AreRead}
+use Rattle.swc_tokens.specs.Moved.{AreTokensOf}
 use Rattle.swc_grammar.specs.Symbols.{Symbol, Expr, Pat}
 use Rattle.swc_grammar.specs.Reads.{Reads}
 use Rattle.swc_steps.specs.Parsing.{scope_of}
-use Rattle.swc_ecma_parser.specs.{Promise.Finished, Promise.covers_done, WholeList.plain_list}
+use Rattle.swc_ecma_parser.specs.{Promise.Finished, Promise.covers_done, WholeList.plain_list, WholeList.IsHeeded, WholeList.Lists}
 use Rattle.show.specs.{declared.answer.Shown.Shown, declared.answer.What.What, declared.answer.What.What as kind}
 
 -- the syntax in which the program reads, if no flag asks for another
@@ -20,11 +20,6 @@ as_default = record {
   allow_super_outside_method = false;
   pedantic = false;
 }
-
--- the text's tokens, as the reader of tokens promises them
-pub record AreTokens (text : List ℕ) (ts : List TokenAndSpan) : Type 0 where
-  pub read : AreRead text ts (length text)
-  pub nested : AreNested ts
 
 -- what the reader of tokens refuses of the text
 pub record IsTokenFault (text : List ℕ) (e : Error) : Type 0 where
@@ -51,13 +46,19 @@ pub record Judged (s : Symbol) (c : Context) (x : Syntax) (ts : List TokenAndSpa
   pub complete : Derived s c x ts
       → MatchResult shown (λ v. (v.unread ≡ false) × (recorded ≡ [])) (λ e. e.kind ≡ OutOfMemory)
 
+-- what is answered of a source that has recorded nothing, and still gives these tokens, and recorded
+abbrev pub IsJudged : Symbol → Source → List TokenAndSpan → Result Shown Error → List Error → Type 0
+IsJudged s source ts shown recorded =
+    Lists (plain_list ts) source → IsHeeded source.context source.syntax
+    → Judged s source.context source.syntax ts shown recorded
+
 -- what is answered of a text that is read as the symbol in a context by a syntax, and recorded
 pub data Answers (s : Symbol) (c : Context) (x : Syntax) (text : List ℕ)
     : Result Shown Error → List Error → Type 0 where
   -- The text's tokens can't be read.
   refused : {e : Error} → IsTokenFault text e → Answers s c x text (Err e) []
   -- They were read.
-  judged : {ts : List TokenAndSpan} {shown : Result Shown Error} {recorded : List Error} → AreTokens text ts
+  judged : {ts : List TokenAndSpan} {shown : Result Shown Error} {recorded : List Error} → AreTokensOf text ts
       → Judged s c x ts shown recorded → Answers s c x text shown recorded
 
 -- what was read is shown: whether tokens are left after it, or the refusal; there may be no memory for its text

@@ -1,9 +1,10 @@
 // What the parser makes of a source text.
 ghost use Rattle.std.specs.Prelude.{◌≡◌, IfOk};
-ghost use Rattle.show.specs.Answers.{Answers, Judged, Shows, symbol_of};
+ghost use Rattle.show.specs.Answers.{Answers, IsJudged, Shows, symbol_of};
 ghost use Rattle.show.specs.Calls as calls;
 ghost use Rattle.swc_grammar.specs.Symbols.{Expr, Pat};
 ghost use Rattle.swc_nodes.specs.{NodeParts.expr_part, NodeParts.pat_part, GrowingNodes.From};
+ghost use Rattle.swc_tokens.specs.Inputs.{input_state, tokens_of};
 ghost use Rattle.swc_ecma_parser.specs.WholeList.{IsHeeded};
 
 use std::alloc::Global;
@@ -11,12 +12,11 @@ use std::mem::forget;
 use swc_bodies::token_bodies::TokenBodies;
 use swc_context::context::{Context, EsVersion, Syntax};
 use swc_context::error::{Error, PResult};
-use swc_ecma_parser::whole::{Whole, parse_whole_expr, parse_whole_pat};
-use swc_input::token::TokenAndSpan;
+use swc_ecma_parser::whole::{Whole, read_whole_expr, read_whole_pat};
 use swc_nodes::node::{ExprId, PatId};
 use swc_nodes::nodes::NodesOf;
 use swc_print::print::PrintNodes;
-use swc_tokens::read_tokens;
+use swc_tokens::input::AsciiInput;
 
 /// What a text is read as.
 #[derive(Clone, Copy)]
@@ -74,8 +74,17 @@ pub fn answer_to(alloc: Global, text: &[u8], asked: Asked) -> Answer
     ensures { IsHeeded asked.context asked.syntax
         → Answers (symbol_of asked.what) asked.context asked.syntax text.now result.shown result.recorded.items }
 {
-    match read_tokens(alloc, text) {
-        Ok(tokens) => answer_to_tokens(alloc, tokens, asked),
+    match AsciiInput::new(
+        alloc,
+        text,
+        asked.context,
+        asked.syntax,
+        EsVersion::default(),
+    ) {
+        Ok(source) => match asked.what {
+            What::Expr => answer_expr(alloc, source),
+            What::Pat => answer_pat(alloc, source),
+        },
         Err(fault) => Answer {
             shown: Err(fault),
             recorded: Vec::new(alloc),
@@ -83,59 +92,32 @@ pub fn answer_to(alloc: Global, text: &[u8], asked: Asked) -> Answer
     }
 }
 
-/// Reads the tokens as it is asked.
-fn answer_to_tokens(alloc: Global, tokens: Vec<TokenAndSpan>, asked: Asked) -> Answer
-    ensures { IsHeeded asked.context asked.syntax
-        → Judged (symbol_of asked.what) asked.context asked.syntax tokens.items result.shown result.recorded.items }
-{
-    match asked.what {
-        What::Expr => answer_expr(alloc, tokens, asked.context, asked.syntax),
-        What::Pat => answer_pat(alloc, tokens, asked.context, asked.syntax),
-    }
-}
-
-/// Reads the tokens as an expression.
-fn answer_expr(alloc: Global, tokens: Vec<TokenAndSpan>, ctx: Context, syntax: Syntax) -> Answer
-    ensures { IsHeeded ctx syntax → Judged Expr ctx syntax tokens.items result.shown result.recorded.items }
+/// Reads all that the source gives as an expression.
+fn answer_expr(alloc: Global, source: AsciiInput) -> Answer
+    ensures { IsJudged Expr (input_state source) (tokens_of source) result.shown result.recorded.items }
 {
     let Whole {
         read,
         nodes,
         recorded,
         too_deep: _,
-    } = parse_whole_expr(
-        alloc,
-        tokens,
-        ctx,
-        syntax,
-        EsVersion::default(),
-        TokenBodies::new(alloc),
-        usize::MAX,
-    );
+    } = read_whole_expr(alloc, source, TokenBodies::new(alloc), usize::MAX);
     let shown = show_expr(&nodes, read);
     // The program ends soon: its memory goes back as a whole, faster than a node at a time.
     forget(nodes);
     Answer { shown, recorded }
 }
 
-/// Reads the tokens as a binding pattern.
-fn answer_pat(alloc: Global, tokens: Vec<TokenAndSpan>, ctx: Context, syntax: Syntax) -> Answer
-    ensures { IsHeeded ctx syntax → Judged Pat ctx syntax tokens.items result.shown result.recorded.items }
+/// Reads all that the source gives as a binding pattern.
+fn answer_pat(alloc: Global, source: AsciiInput) -> Answer
+    ensures { IsJudged Pat (input_state source) (tokens_of source) result.shown result.recorded.items }
 {
     let Whole {
         read,
         nodes,
         recorded,
         too_deep: _,
-    } = parse_whole_pat(
-        alloc,
-        tokens,
-        ctx,
-        syntax,
-        EsVersion::default(),
-        TokenBodies::new(alloc),
-        usize::MAX,
-    );
+    } = read_whole_pat(alloc, source, TokenBodies::new(alloc), usize::MAX);
     let shown = show_pat(&nodes, read);
     forget(nodes);
     Answer { shown, recorded }

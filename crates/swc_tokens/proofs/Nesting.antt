@@ -1,13 +1,31 @@
 -- How templates nest, a token at a time.
 use Rattle.std.proofs.Common.{◌≡◌, ℕ, ◌<◌, List, [], ◌∷◌, ◌++◌, length, length-append, IsTrue, IsFalse, refl, ap, subst, arith}
 use Rattle.swc_input.specs.{declared.token.Token.Token, declared.token.TokenAndSpan.TokenAndSpan}
-use Rattle.swc_tokens.specs.{declared.template.Next.Next, declared.template.Open.Open, declared.template.Part.Part, Spelling.EndsText, Spelling.Spells}
+use Rattle.swc_tokens.specs.{declared.template.Next.Next, declared.template.Open.Open, declared.found.Part.Part, Spelling.EndsText, Spelling.Spells}
 use Rattle.swc_tokens.specs.Nesting.{part_of, fits, behind_backquote, Turns, text, begins, ends, opens, closes, opens_brace, closes_brace, brace_outside, close_outside, other, Nests, and_token, AreNested}
+use Rattle.swc_tokens.specs.{declared.found.Shape.Shape, Found.part_of_shape, Found.token_of}
 use Rattle.swc_tokens.specs.Order.{is_error, is_free, is_text}
 use Rattle.swc_input.specs.declared.token.Token.TheVariants as token
 use Rattle.swc_tokens.specs.declared.template.Next.TheVariants as reads
 use Rattle.swc_tokens.specs.declared.template.Open.TheVariants as opened
-use Rattle.swc_tokens.specs.declared.template.Part.TheVariants as part
+use Rattle.swc_tokens.specs.declared.found.Part.TheVariants as part
+use Rattle.swc_tokens.specs.declared.found.Shape.TheVariants as shape
+use Rattle.swc_tokens.specs.declared.found.Sign.TheVariants as sign
+
+-- what a token that was found is to templates
+pub part_made : (source : List ℕ) (low high : ℕ) (s : Shape) → part_of (token_of source low high s) ≡ part_of_shape s
+unfolding token_of
+part_made source low high shape.Word = refl
+part_made source low high shape.Number = refl
+part_made source low high shape.Big = refl
+part_made source low high shape.String = refl
+part_made source low high shape.Regexp = refl
+part_made source low high shape.Text = refl
+part_made source low high (shape.Sign sign.BackQuote) = refl
+part_made source low high (shape.Sign sign.DollarLBrace) = refl
+part_made source low high (shape.Sign sign.LBrace) = refl
+part_made source low high (shape.Sign sign.RBrace) = refl
+part_made source low high (shape.Sign _) = refl
 
 pub no_error : (t : Token) → IsTrue (is_free t) → IsFalse (is_error t)
 unfolding is_free is_error

@@ -1,5 +1,7 @@
 pub mod Blanks
 pub mod Faults
+pub mod Found
+pub mod Inputs
 pub mod Moved
 pub mod Nesting
 pub mod Order

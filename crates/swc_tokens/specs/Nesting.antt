@@ -2,11 +2,11 @@
 -- closes a `${`; after a text comes a `${`, or the backquote that closes the template.
 use Rattle.std.specs.Prelude.{◌≡◌, ◌<◌, List, [], ◌∷◌, ◌++◌, Bool, true, false, length}
 use Rattle.swc_input.specs.{declared.token.Token.Token, declared.token.TokenAndSpan.TokenAndSpan}
-use Rattle.swc_tokens.specs.{declared.template.Next.Next, declared.template.Open.Open, declared.template.Part.Part}
+use Rattle.swc_tokens.specs.{declared.template.Next.Next, declared.template.Open.Open, declared.found.Part.Part}
 use Rattle.swc_input.specs.declared.token.Token.TheVariants as token
 use Rattle.swc_tokens.specs.declared.template.Next.TheVariants as reads
 use Rattle.swc_tokens.specs.declared.template.Open.TheVariants as opened
-use Rattle.swc_tokens.specs.declared.template.Part.TheVariants as part
+use Rattle.swc_tokens.specs.declared.found.Part.TheVariants as part
 
 -- what a token is to templates
 abbrev pub part_of : Token → Part

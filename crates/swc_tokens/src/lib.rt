@@ -6,13 +6,16 @@
 //! is one of its text alone.
 #![tactic(auto)]
 
-ghost use Rattle.std.specs.Prelude.{◌≡◌, ◌+◌, ◌<◌, ◌≤◌, ◌∷◌, [], ◌++◌, length, IsFalse, IfOk, OnOk, IfErr, IfSome, IsNone, slice_get, nat_lt};
+ghost use Rattle.std.specs.Prelude.{◌≡◌, ◌+◌, ◌<◌, ◌≤◌, ◌^◌, ◌∷◌, [], ◌++◌, length, IsFalse, IfOk, OnOk, IfErr, IfSome, IsNone, slice_get, nat_lt};
 ghost use Rattle.std.specs.{List.All, List.position, Str.IsAscii};
-ghost use Rattle.swc_tokens.specs.{Faults.IsRefusal, Blanks.MarksLineBreaks, Blanks.OnlyBlanksBetween, Nesting.AreNested, Order.InOrder, Order.is_error, Reading.AreRead, Spelling.Spells};
-ghost use Rattle.swc_tokens.specs.Moved.{moved_error, AreTokensAt, IsRefusalAt};
+ghost use Rattle.swc_tokens.specs.{Faults.IsRefusal, Found.all_made, Blanks.MarksLineBreaks, Blanks.OnlyBlanksBetween, Nesting.AreNested, Order.InOrder, Order.is_error, Spelling.Spells};
+ghost use Rattle.swc_tokens.specs.Moved.{moved_error, AreTokensAt, AreTokensOf, IsRefusalAt};
 ghost use Rattle.swc_tokens.specs.Faults as faults;
 
 mod fault;
+mod found;
+pub mod input;
+mod making;
 mod moving;
 mod profile;
 mod reader;
@@ -20,10 +23,13 @@ mod sign;
 mod template;
 
 use crate::fault::{lex_fault, out_of_memory};
+use crate::found::Found;
+use crate::making::Source;
 use crate::moving::{move_tokens, moved_fault};
 use crate::reader::Reader;
 use crate::template::Templates;
-use std::alloc::Global;
+use std::alloc::{AllocError, Global};
+use std::str;
 use swc_context::error::PResult;
 use swc_context::span::BytePos;
 use swc_input::token::TokenAndSpan;
@@ -79,13 +85,8 @@ pub fn read_tokens(alloc: Global, text: &[u8]) -> PResult<Vec<TokenAndSpan>>
     ensures spells { IfOk result
         (λ tokens. All (λ t. Spells text.now t.span.lo.0 t.span.hi.0 t.token) tokens.items) }
 {
-    if text.len() > MAX_LEN {
-        return Err(lex_fault(0, 0));
-    }
-    match first_beyond_ascii(text) {
-        Some(at) => Err(lex_fault(at, at + 1)),
-        None => read_all(alloc, text),
-    }
+    let found = find_tokens(alloc, text)?;
+    make_tokens(alloc, ascii_text(text), &found)
 }
 
 /// The tokens of a part of a text, as `read_tokens` reads it by itself (ECMA-262, 12), with their places
@@ -127,20 +128,47 @@ fn first_beyond_ascii(text: &[u8]) -> Option<usize>
     text.iter().position(|byte| *byte > 127)
 }
 
-/// The tokens of an ASCII text that isn't too long.
-fn read_all(alloc: Global, text: &[u8]) -> PResult<Vec<TokenAndSpan>>
+/// Finds the tokens that `read_tokens` reads, and refuses what it refuses.
+fn find_tokens(alloc: Global, text: &[u8]) -> PResult<Vec<Found>>
+    ensures too_long { MAX_LEN < length text.now → result ≡ Err (faults.lex_fault (faults.between 0 0)) }
+    ensures beyond_ascii { length text.now ≤ MAX_LEN
+        → IfSome (position (λ byte. nat_lt 127 byte) text.now) (λ at. result
+        ≡ Err (faults.lex_fault (faults.between at (at + 1)))) }
+    ensures refused { length text.now ≤ MAX_LEN → IfErr result (IsRefusal text.now) }
+    ensures short { OnOk result (length text.now ≤ MAX_LEN) }
+    ensures ascii { OnOk result (All (λ byte. byte < 128) text.now) }
+    ensures tokens { IfOk result (λ found. AreTokensOf text.now (all_made text.now found.items)) }
+{
+    if text.len() > MAX_LEN {
+        return Err(lex_fault(0, 0));
+    }
+    match first_beyond_ascii(text) {
+        Some(at) => Err(lex_fault(at, at + 1)),
+        None => find_all(alloc, text),
+    }
+}
+
+/// The text that ASCII bytes are.
+fn ascii_text(bytes: &[u8]) -> &str
+    requires { IsAscii bytes.now }
+    ensures { result.now ≡ bytes.now }
+{
+    str::from_utf8(bytes).unwrap()
+}
+
+/// Finds the tokens of an ASCII text that isn't too long.
+fn find_all(alloc: Global, text: &[u8]) -> PResult<Vec<Found>>
     requires short { length text.now ≤ MAX_LEN }
     requires ascii { IsAscii text.now }
     ensures refused { IfErr result (IsRefusal text.now) }
-    ensures tokens { IfOk result (λ tokens. AreRead text.now tokens.items (length text.now)) }
-    ensures nested { IfOk result (λ tokens. AreNested tokens.items) }
+    ensures tokens { IfOk result (λ found. AreTokensOf text.now (all_made text.now found.items)) }
 {
-    let mut reader = Reader::new(alloc, text);
+    let mut reader = Reader::new(text);
     let mut templates = Templates::new(alloc);
     let mut tokens = Vec::new(alloc);
-    while let Some(token) = reader.read_next(templates.next, tokens.last())? {
-        templates.pass(&token.token)?;
-        push(&mut tokens, token)?;
+    while let Some(found) = reader.read_next(templates.next, tokens.last())? {
+        templates.pass(found.shape.part())?;
+        push(&mut tokens, found)?;
     }
     if templates.is_open() {
         return Err(reader.fault());
@@ -149,7 +177,7 @@ fn read_all(alloc: Global, text: &[u8]) -> PResult<Vec<TokenAndSpan>>
 }
 
 /// Adds a token.
-fn push(tokens: &mut Vec<TokenAndSpan>, token: TokenAndSpan) -> PResult<()>
+fn push<T: Drop>(tokens: &mut Vec<T>, token: T) -> PResult<()>
     ensures added { OnOk result (tokens.new.items ≡ tokens.old.items ++ token ∷ []) }
     ensures refused { IfErr result (λ e. e ≡ faults.out_of_memory) }
 {
@@ -157,4 +185,22 @@ fn push(tokens: &mut Vec<TokenAndSpan>, token: TokenAndSpan) -> PResult<()>
         Ok(()) => Ok(()),
         Err(_) => Err(out_of_memory()),
     }
+}
+
+/// Makes the tokens that were found in an ASCII text that isn't too long.
+fn make_tokens(alloc: Global, text: &str, found: &[Found]) -> PResult<Vec<TokenAndSpan>>
+    requires short { length text.now < 2 ^ 32 }
+    requires ascii { IsAscii text.now }
+    ensures tokens { IfOk result (λ tokens. tokens.items ≡ all_made text.now found.now) }
+    ensures refused { IfErr result (λ e. e ≡ faults.out_of_memory) }
+{
+    let source = Source::new(alloc, text);
+    let mut tokens = Vec::new(alloc);
+    for place in found {
+        match source.make(*place) {
+            Ok(token) => push(&mut tokens, token)?,
+            Err(AllocError) => return Err(out_of_memory()),
+        }
+    }
+    Ok(tokens)
 }

@@ -17,6 +17,13 @@ pub(crate) fn is_line_break(byte: u8) -> bool
     matches!(byte, b'\n' | b'\r')
 }
 
+/// Whether a line break is among the bytes.
+pub(crate) fn has_line_break(bytes: &[u8]) -> bool
+    ensures { result ≡ list_any profile.is_line_break bytes.now }
+{
+    bytes.iter().any(|byte| is_line_break(*byte))
+}
+
 /// Whether this byte is among the bytes.
 pub(crate) fn has(text: &[u8], byte: u8) -> bool
     ensures { result ≡ profile.has text.now byte }

@@ -1,7 +1,8 @@
-// The reader: a text, and how far it is read.
+// The reader finds the tokens of a text, one after the other.
 ghost use Rattle.std.specs.Prelude.{◌≡◌, ◌↔◌, ◌+◌, ◌<◌, ◌≤◌, ◌^◌, length, drop, IsTrue, IsFalse, IsSome, IfOk, IfErr, IfSome, true, IfNone, OnOk, slice_range};
 ghost use Rattle.std.specs.{List.list_any, Str.IsAscii};
 ghost use Rattle.swc_tokens.specs.{Faults.IsByteFault, Faults.IsRefusal, Blanks.AreBlanks, Blanks.StandAt, Nesting.fits, Nesting.part_of, Reading.IsNext, Reading.Takes};
+ghost use Rattle.swc_tokens.specs.Found.{made, token_of};
 ghost use Rattle.swc_tokens.specs.Order.{is_error, is_free, is_text};
 ghost use Rattle.swc_tokens.specs.Spelling.{EndsText, IsLexeme, IsName, Spells};
 ghost use Rattle.swc_tokens.specs.Faults as faults;
@@ -12,19 +13,17 @@ ghost use Rattle.swc_tokens.specs.Spelling as spelling;
 ghost use Rattle.swc_lexical.specs.Meanings as meanings;
 ghost use Rattle.swc_lexical.specs.declared.lexeme.Kind.TheVariants as kinds;
 
-use crate::fault::{lex_fault, out_of_memory, span};
-use crate::profile::{blanks_len, good_len, has, is_line_break, lexeme_here, text_here};
-use crate::sign::{begins_regexp, sign_of};
+use crate::fault::{lex_fault, span};
+use crate::found::{Found, Shape, Sign};
+use crate::profile::{blanks_len, has_line_break, lexeme_here, text_here};
+use crate::sign::sign_of;
 use crate::template::Next;
-use std::alloc::Global;
 use std::str;
-use swc_context::atom::Atom;
 use swc_context::error::{Error, PResult};
-use swc_context::word::Word;
-use swc_input::token::{Token, TokenAndSpan};
+use swc_context::span::Span;
+use swc_context::word::Keyword;
 use swc_lexical::bytes::is_at;
 use swc_lexical::lexeme::Kind;
-use swc_lexical::meaning::meaning;
 use swc_lexical::name::name_len;
 use swc_lexical::quoted::body_len;
 use swc_lexical::sign::sign_len;
@@ -32,7 +31,6 @@ use swc_lexical::sign::sign_len;
 /// A text, and how far it is read.
 #[derive(Drop)]
 pub(crate) struct Reader<'a> {
-    pub(crate) alloc: Global,
     pub(crate) text: &'a [u8],
     pub(crate) at: usize,
     ghost short: { length text.now < 2 ^ 32 },
@@ -40,22 +38,15 @@ pub(crate) struct Reader<'a> {
     ghost within: { at ≤ length text.now },
 }
 
-/// Whether a line break is among the bytes.
-fn has_line_break(bytes: &[u8]) -> bool
-    ensures { result ≡ list_any profile.is_line_break bytes.now }
-{
-    bytes.iter().any(|byte| is_line_break(*byte))
-}
-
 impl<'a> Reader<'a> {
     /// A reader at the text's beginning.
-    pub(crate) fn new(alloc: Global, text: &'a [u8]) -> Reader<'a>
+    pub(crate) fn new(text: &'a [u8]) -> Reader<'a>
         requires short { length text.now < 2 ^ 32 }
         requires ascii { IsAscii text.now }
         ensures text { result.text ≡ text.entry }
         ensures at { result.at ≡ 0 }
     {
-        Reader { alloc, text, at: 0 }
+        Reader { text, at: 0 }
     }
 
     /// The fault of the byte at this place; at the end of the text an empty span there.
@@ -73,78 +64,22 @@ impl<'a> Reader<'a> {
         self.fault_at(self.at)
     }
 
-    /// The text between two places.
-    fn text_between(&self, low: usize, high: usize) -> &'a str
-        requires order { low ≤ high }
-        requires within { high ≤ length self.now.text.now }
-        ensures { result.now ≡ slice_range self.now.text.now low high }
-    {
-        str::from_utf8(&self.text[low..high]).unwrap()
-    }
-
-    /// The text between two places, as an owned text.
-    fn atom(&self, low: usize, high: usize) -> PResult<Atom>
-        requires order { low ≤ high }
-        requires within { high ≤ length self.now.text.now }
-        ensures value { IfOk result (λ a. a ≡ slice_range self.now.text.now low high) }
-        ensures refused { IfErr result (λ e. e ≡ faults.out_of_memory) }
-    {
-        match Atom::new(self.alloc, self.text_between(low, high)) {
-            Ok(atom) => Ok(atom),
-            Err(_) => Err(out_of_memory()),
-        }
-    }
-
-    /// What the text between two places means, escapes in it.
-    fn unescaped(&self, low: usize, high: usize) -> PResult<Atom>
-        requires order { low ≤ high }
-        requires within { high ≤ length self.now.text.now }
-        ensures value { IfOk result
-            (λ a. a ≡ meanings.meaning true (slice_range self.now.text.now low high)) }
-        ensures refused { IfErr result (λ e. e ≡ faults.out_of_memory) }
-    {
-        let Ok(value) = meaning(self.alloc, true, &self.text[low..high]) else {
-            return Err(out_of_memory());
-        };
-        match Atom::new(self.alloc, value.as_str()) {
-            Ok(atom) => Ok(atom),
-            Err(_) => Err(out_of_memory()),
-        }
-    }
-
-    /// What the text between two places means: itself, unless escapes are in it.
-    fn meant(&self, low: usize, high: usize) -> PResult<Atom>
-        requires order { low ≤ high }
-        requires within { high ≤ length self.now.text.now }
-        ensures value { IfOk result (λ a. a ≡ spelling.meant (slice_range self.now.text.now low high)) }
-        ensures refused { IfErr result (λ e. e ≡ faults.out_of_memory) }
-    {
-        if has(&self.text[low..high], b'\\') {
-            self.unescaped(low, high)
-        } else {
-            self.atom(low, high)
-        }
-    }
-
     /// Reads the next token, if there is one. `before` is the token before it.
     #[tactic(auto, using(crate::proofs::Blanks::AreBlanks_end))]
-    pub(crate) fn read_next(
-        &mut self,
-        next: Next,
-        before: Option<&TokenAndSpan>,
-    ) -> PResult<Option<TokenAndSpan>>
+    pub(crate) fn read_next(&mut self, next: Next, before: Option<&Found>) -> PResult<Option<Found>>
         requires { next ≡ Next.Delimiter → EndsText self.old.text.now self.old.at }
         ensures text { self.new.text ≡ self.old.text }
         ensures refused { IfErr result (IsRefusal self.old.text.now) }
         ensures next { IfOk result
-            (λ token. IfSome token (λ t. IsNext self.old.text.now self.old.at next t self.new.at)) }
+            (λ found. IfSome found (λ f. IsNext self.old.text.now self.old.at next (made self.old.text.now f) self.new.at)) }
         ensures rest { IfOk result
-            (λ next. IfNone next (AreBlanks self.old.text.now self.old.at (length self.old.text.now))) }
-        ensures closed { IfOk result (λ token. IfNone token (next ≡ Next.Token)) }
-        ensures no_error { IfOk result (λ next. IfSome next (λ t. IsFalse (is_error t.token))) }
-        ensures first { IfOk result (λ next. IfSome next (λ t. IsTrue t.had_line_break → IsSome before.entry)) }
-        ensures marks { IfOk result (λ next. IfSome next (λ t. IsSome before.entry
-            → t.had_line_break ≡ blanks.has_line_break self.old.text.now self.old.at t.span.lo.0)) }
+            (λ found. IfNone found (AreBlanks self.old.text.now self.old.at (length self.old.text.now))) }
+        ensures closed { IfOk result (λ found. IfNone found (next ≡ Next.Token)) }
+        ensures no_error { IfOk result
+            (λ found. IfSome found (λ f. IsFalse (is_error (made self.old.text.now f).token))) }
+        ensures first { IfOk result (λ found. IfSome found (λ f. IsTrue f.had_line_break → IsSome before.entry)) }
+        ensures marks { IfOk result (λ found. IfSome found (λ f. IsSome before.entry
+            → f.had_line_break ≡ blanks.has_line_break self.old.text.now self.old.at f.span.lo.0)) }
     {
         let end = self.at;
         self.skip_before(next)?;
@@ -152,8 +87,8 @@ impl<'a> Reader<'a> {
         let start = self.at;
         match self.read_here(next, before)? {
             None => Ok(None),
-            Some(token) => Ok(Some(TokenAndSpan {
-                token,
+            Some(shape) => Ok(Some(Found {
+                shape,
                 had_line_break: line_break && before.is_some(),
                 span: span(start, self.at),
             })),
@@ -214,18 +149,22 @@ impl<'a> Reader<'a> {
 
     /// Reads the token that begins here, unless the text ends.
     #[tactic(auto, using(crate::proofs::Reading::here))]
-    fn read_here(&mut self, next: Next, before: Option<&TokenAndSpan>) -> PResult<Option<Token>>
+    fn read_here(&mut self, next: Next, before: Option<&Found>) -> PResult<Option<Shape>>
         requires { next ≡ Next.Delimiter → EndsText self.old.text.now self.old.at }
         ensures text { self.new.text ≡ self.old.text }
         ensures forward { OnOk result (self.old.at ≤ self.new.at) }
         ensures refused { IfErr result (IsRefusal self.old.text.now) }
-        ensures takes { IfOk result (λ token. IfSome token (Takes next self.old.at self.new.at)) }
-        ensures fits { IfOk result (λ token. IfSome token (λ t. IsTrue (fits next (part_of t)))) }
-        ensures closed { IfOk result (λ token. IfNone token (next ≡ Next.Token)) }
-        ensures ends { IfOk result (λ token. IfNone token (length self.old.text.now ≤ self.old.at)) }
-        ensures no_error { IfOk result (λ token. IfSome token (λ t. IsFalse (is_error t))) }
+        ensures takes { IfOk result (λ shape. IfSome shape
+            (λ s. Takes next self.old.at self.new.at (token_of self.old.text.now self.old.at self.new.at s))) }
+        ensures fits { IfOk result (λ shape. IfSome shape
+            (λ s. IsTrue (fits next (part_of (token_of self.old.text.now self.old.at self.new.at s))))) }
+        ensures closed { IfOk result (λ shape. IfNone shape (next ≡ Next.Token)) }
+        ensures ends { IfOk result (λ shape. IfNone shape (length self.old.text.now ≤ self.old.at)) }
+        ensures no_error { IfOk result (λ shape. IfSome shape
+            (λ s. IsFalse (is_error (token_of self.old.text.now self.old.at self.new.at s)))) }
         ensures spells { IfOk result
-            (λ token. IfSome token (Spells self.old.text.now self.old.at self.new.at)) }
+            (λ shape. IfSome shape
+            (λ s. Spells self.old.text.now self.old.at self.new.at (token_of self.old.text.now self.old.at self.new.at s))) }
     {
         match next {
             Next::Text => Ok(Some(self.read_text()?)),
@@ -240,54 +179,79 @@ impl<'a> Reader<'a> {
         }
     }
 
+    /// The keyword at the place, if one is there.
+    fn keyword_at(&self, place: Span) -> Option<Keyword> {
+        let word = self.text.get(place.lo.0 as usize..place.hi.0 as usize)?;
+        Keyword::from_text(str::from_utf8(word).ok()?)
+    }
+
+    /// Whether a slash after this token begins a regular expression, and doesn't divide.
+    fn begins_regexp(&self, before: Option<&Found>) -> bool {
+        match before {
+            None => true,
+            Some(
+                Found {
+                    shape: Shape::Word,
+                    span,
+                    ..
+                },
+            ) => match self.keyword_at(*span) {
+                None => false,
+                Some(keyword) => !matches!(keyword, Keyword::This | Keyword::Super),
+            },
+            Some(found) => !found.shape.ends_operand(),
+        }
+    }
+
     /// Reads the token that begins here.
     #[tactic(auto, using(crate::proofs::Spelling::IsName_here))]
-    fn read_token(&mut self, before: Option<&TokenAndSpan>) -> PResult<Token>
+    fn read_token(&mut self, before: Option<&Found>) -> PResult<Shape>
         requires { self.old.at < length self.old.text.now }
         ensures text { self.new.text ≡ self.old.text }
         ensures forward { OnOk result (self.old.at < self.new.at) }
         ensures refused { IfErr result (IsRefusal self.old.text.now) }
-        ensures free { IfOk result (λ t. IsTrue (is_free t)) }
-        ensures spells { IfOk result (Spells self.old.text.now self.old.at self.new.at) }
+        ensures free { IfOk result (λ s. IsTrue (is_free (token_of self.old.text.now self.old.at self.new.at s))) }
+        ensures spells { IfOk result
+            (λ s. Spells self.old.text.now self.old.at self.new.at (token_of self.old.text.now self.old.at self.new.at s)) }
     {
         let name = name_len(&self.text[self.at..]);
         if 0 < name {
             return self.read_word(name);
         }
         match self.text[self.at] {
-            b'0'..=b'9' | b'.' | b'\'' | b'"' | b'/' => self.read_lexeme(begins_regexp(before)),
+            b'0'..=b'9' | b'.' | b'\'' | b'"' | b'/' => self.read_lexeme(self.begins_regexp(
+                before,
+            )),
             _ => self.read_sign(),
         }
     }
 
     /// Reads the word of so many bytes that is here (ECMA-262, 12.7).
-    #[tactic(auto, unfolding(crate::specs::Order::is_free, crate::specs::Spelling::Spells))]
-    fn read_word(&mut self, len: usize) -> PResult<Token>
+    #[tactic(auto, unfolding(crate::specs::Found::token_of, crate::specs::Order::is_free, crate::specs::Spelling::Spells))]
+    fn read_word(&mut self, len: usize) -> PResult<Shape>
         requires some { 0 < len }
         requires within { self.old.at + len ≤ length self.old.text.now }
         requires name { IsName self.old.text.now self.old.at (self.old.at + len) }
         ensures text { self.new.text ≡ self.old.text }
         ensures forward { OnOk result (self.old.at < self.new.at) }
         ensures refused { IfErr result (IsRefusal self.old.text.now) }
-        ensures free { IfOk result (λ t. IsTrue (is_free t)) }
-        ensures spells { IfOk result (Spells self.old.text.now self.old.at self.new.at) }
+        ensures free { IfOk result (λ s. IsTrue (is_free (token_of self.old.text.now self.old.at self.new.at s))) }
+        ensures spells { IfOk result
+            (λ s. Spells self.old.text.now self.old.at self.new.at (token_of self.old.text.now self.old.at self.new.at s)) }
     {
-        let start = self.at;
         self.at += len;
-        match Word::new(self.alloc, self.text_between(start, self.at)) {
-            Ok(word) => Ok(Token::Word(word)),
-            Err(_) => Err(out_of_memory()),
-        }
+        Ok(Shape::Word)
     }
 
     /// Reads the sign that is here (ECMA-262, 12.8).
-    fn read_sign(&mut self) -> PResult<Token>
+    fn read_sign(&mut self) -> PResult<Shape>
         requires { self.old.at < length self.old.text.now }
         ensures text { self.new.text ≡ self.old.text }
         ensures forward { OnOk result (self.old.at < self.new.at) }
         ensures refused { IfErr result (IsRefusal self.old.text.now) }
-        ensures free { IfOk result (λ t. IsTrue (is_free t)) }
-        ensures spells { IfOk result (Spells self.old.text.now self.old.at self.new.at) }
+        ensures free { IfOk result (λ s. IsTrue (is_free (token_of self.old.text.now self.old.at self.new.at s))) }
+        ensures spells { IfOk result
+            (λ s. Spells self.old.text.now self.old.at self.new.at (token_of self.old.text.now self.old.at self.new.at s)) }
     {
         let len = sign_len(&self.text[self.at..]);
         if len == 0 {
@@ -300,103 +264,82 @@ impl<'a> Reader<'a> {
 
     /// Reads the lexeme that is here, where a slash begins a regular expression or divides.
     #[tactic(auto, using(crate::proofs::Spelling::IsLexeme_here))]
-    fn read_lexeme(&mut self, wants: bool) -> PResult<Token>
+    fn read_lexeme(&mut self, wants: bool) -> PResult<Shape>
         ensures text { self.new.text ≡ self.old.text }
         ensures forward { OnOk result (self.old.at < self.new.at) }
         ensures refused { IfErr result (IsRefusal self.old.text.now) }
-        ensures free { IfOk result (λ t. IsTrue (is_free t)) }
-        ensures spells { IfOk result (Spells self.old.text.now self.old.at self.new.at) }
+        ensures free { IfOk result (λ s. IsTrue (is_free (token_of self.old.text.now self.old.at self.new.at s))) }
+        ensures spells { IfOk result
+            (λ s. Spells self.old.text.now self.old.at self.new.at (token_of self.old.text.now self.old.at self.new.at s)) }
     {
         match lexeme_here(wants, &self.text[self.at..]) {
             Ok((kind, len)) => {
                 let start = self.at;
                 self.at += len;
-                self.token(kind, start)
+                self.shape(kind, start)
             }
             Err(far) => Err(self.fault_at(self.at + far)),
         }
     }
 
-    /// The token of this kind from the place up to here.
-    #[tactic(auto, unfolding(crate::specs::Order::is_free, crate::specs::Spelling::Spells))]
-    fn token(&self, kind: Kind, start: usize) -> PResult<Token>
+    /// What the lexeme of this kind is from the place up to here.
+    #[tactic(auto, unfolding(crate::specs::Found::token_of, crate::specs::Order::is_free, crate::specs::Spelling::Spells))]
+    fn shape(&self, kind: Kind, start: usize) -> PResult<Shape>
         requires some { start < self.now.at }
         requires lexeme { IsLexeme kind self.now.text.now start self.now.at }
         ensures refused { IfErr result (IsRefusal self.now.text.now) }
-        ensures free { IfOk result (λ t. IsTrue (is_free t)) }
-        ensures spells { IfOk result (Spells self.now.text.now start self.now.at) }
+        ensures free { IfOk result (λ s. IsTrue (is_free (token_of self.now.text.now start self.now.at s))) }
+        ensures spells { IfOk result (λ s. Spells self.now.text.now start self.now.at (token_of self.now.text.now start self.now.at s)) }
     {
         match kind {
-            Kind::Number => Ok(Token::Num {
-                raw: self.atom(start, self.at)?,
-            }),
-            Kind::Big => Ok(Token::BigInt {
-                raw: self.atom(start, self.at)?,
-            }),
-            Kind::String => self.string(start),
+            Kind::Number => Ok(Shape::Number),
+            Kind::Big => Ok(Shape::Big),
+            Kind::String => Ok(Shape::String),
             Kind::Regexp => self.regexp(start),
             Kind::Sign => self.sign(start),
             Kind::Word | Kind::Text => Err(self.fault()),
         }
     }
 
-    /// The string from the place up to here (ECMA-262, 12.9.4).
-    #[tactic(auto, unfolding(crate::specs::Order::is_free, crate::specs::Spelling::Spells))]
-    fn string(&self, start: usize) -> PResult<Token>
-        requires some { start < self.now.at }
-        requires lexeme { IsLexeme kinds.String self.now.text.now start self.now.at }
-        ensures refused { IfErr result (IsRefusal self.now.text.now) }
-        ensures free { IfOk result (λ t. IsTrue (is_free t)) }
-        ensures spells { IfOk result (Spells self.now.text.now start self.now.at) }
-    {
-        if self.at - start < 2 {
-            return Err(self.fault());
-        }
-        let value = self.meant(start + 1, self.at - 1)?;
-        let raw = self.atom(start, self.at)?;
-        Ok(Token::Str { value, raw })
-    }
-
     /// The regular expression from the place up to here (ECMA-262, 12.9.5).
-    #[tactic(auto, unfolding(crate::specs::Order::is_free, crate::specs::Spelling::Spells))]
-    fn regexp(&self, start: usize) -> PResult<Token>
+    #[tactic(auto, unfolding(crate::specs::Found::token_of, crate::specs::Order::is_free, crate::specs::Spelling::Spells))]
+    fn regexp(&self, start: usize) -> PResult<Shape>
         requires some { start < self.now.at }
         requires lexeme { IsLexeme kinds.Regexp self.now.text.now start self.now.at }
         ensures refused { IfErr result (IsRefusal self.now.text.now) }
-        ensures free { IfOk result (λ t. IsTrue (is_free t)) }
-        ensures spells { IfOk result (Spells self.now.text.now start self.now.at) }
+        ensures free { IfOk result (λ s. IsTrue (is_free (token_of self.now.text.now start self.now.at s))) }
+        ensures spells { IfOk result (λ s. Spells self.now.text.now start self.now.at (token_of self.now.text.now start self.now.at s)) }
     {
         let first = start + 1;
-        let Some(len) = body_len(&self.text[first..self.at]) else {
-            return Err(self.fault());
-        };
-        let body = self.atom(first, first + len)?;
-        let flags = self.atom(first + len + 1, self.at)?;
-        Ok(Token::Regex(body, flags))
+        match body_len(&self.text[first..self.at]) {
+            Some(_) => Ok(Shape::Regexp),
+            None => Err(self.fault()),
+        }
     }
 
     /// The sign from the place up to here (ECMA-262, 12.8).
-    #[tactic(auto, using(crate::proofs::Spelling::Spells_sign))]
-    fn sign(&self, start: usize) -> PResult<Token>
+    #[tactic(auto, using(crate::proofs::Spelling::Spells_sign), unfolding(crate::specs::Found::token_of))]
+    fn sign(&self, start: usize) -> PResult<Shape>
         requires some { start < self.now.at }
         ensures refused { IfErr result (IsRefusal self.now.text.now) }
-        ensures free { IfOk result (λ t. IsTrue (is_free t)) }
-        ensures spells { IfOk result (Spells self.now.text.now start self.now.at) }
+        ensures free { IfOk result (λ s. IsTrue (is_free (token_of self.now.text.now start self.now.at s))) }
+        ensures spells { IfOk result (λ s. Spells self.now.text.now start self.now.at (token_of self.now.text.now start self.now.at s)) }
     {
         match sign_of(&self.text[start..self.at]) {
-            Some(token) => Ok(token),
+            Some(sign) => Ok(Shape::Sign(sign)),
             None => Err(self.fault()),
         }
     }
 
     /// Reads a text of a template, up to the `${` or the backquote that ends it.
     #[tactic(auto, using(crate::proofs::Spelling::IsTextBetween_here))]
-    fn read_text(&mut self) -> PResult<Token>
+    fn read_text(&mut self) -> PResult<Shape>
         ensures text { self.new.text ≡ self.old.text }
         ensures forward { self.old.at ≤ self.new.at }
         ensures refused { IfErr result (IsRefusal self.old.text.now) }
-        ensures is_text { IfOk result (λ t. IsTrue (is_text t)) }
-        ensures spells { IfOk result (Spells self.old.text.now self.old.at self.new.at) }
+        ensures is_text { IfOk result (λ s. IsTrue (is_text (token_of self.old.text.now self.old.at self.new.at s))) }
+        ensures spells { IfOk result
+            (λ s. Spells self.old.text.now self.old.at self.new.at (token_of self.old.text.now self.old.at self.new.at s)) }
     {
         match text_here(&self.text[self.at..]) {
             Ok(len) => {
@@ -409,20 +352,18 @@ impl<'a> Reader<'a> {
     }
 
     /// The text of a template from the place up to here.
-    #[tactic(auto, unfolding(crate::specs::Order::is_text, crate::specs::Spelling::Spells))]
-    fn text(&self, start: usize) -> PResult<Token>
+    #[tactic(auto, unfolding(crate::specs::Found::token_of, crate::specs::Order::is_text, crate::specs::Spelling::Spells))]
+    fn text(&self, start: usize) -> PResult<Shape>
         requires order { start ≤ self.now.at }
         requires text { spelling.IsTextBetween self.now.text.now start self.now.at }
         ensures refused { IfErr result (IsRefusal self.now.text.now) }
-        ensures is_text { IfOk result (λ t. IsTrue (is_text t)) }
-        ensures spells { IfOk result (Spells self.now.text.now start self.now.at) }
+        ensures is_text { IfOk result (λ s. IsTrue (is_text (token_of self.now.text.now start self.now.at s))) }
+        ensures spells { IfOk result (λ s. Spells self.now.text.now start self.now.at (token_of self.now.text.now start self.now.at s)) }
     {
         if !self.is_end() {
             return Err(self.fault_at(self.text.len()));
         }
-        let cooked = self.cooked(start)?;
-        let raw = self.atom(start, self.at)?;
-        Ok(Token::Template { raw, cooked })
+        Ok(Shape::Text)
     }
 
     /// Whether `${` or a backquote comes next.
@@ -432,36 +373,21 @@ impl<'a> Reader<'a> {
         self.is_next(b'$', b'{') || self.text.get(self.at).copied() == Some(b'`')
     }
 
-    /// What the text of a template means from the place up to here, or the fault of its first escape that isn't read.
-    fn cooked(&self, start: usize) -> PResult<Result<Atom, Error>>
-        requires { start ≤ self.now.at }
-        ensures value { IfOk result (λ c. c ≡ spelling.cooked start (slice_range self.now.text.now start self.now.at)) }
-        ensures refused { IfErr result (λ e. e ≡ faults.out_of_memory) }
-    {
-        let text = &self.text[start..self.at];
-        let good = good_len(text);
-        if good < text.len() {
-            Ok(Err(lex_fault(start + good, start + good + 1)))
-        } else {
-            Ok(Ok(self.meant(start, self.at)?))
-        }
-    }
-
     /// Reads the `${` or the backquote that ends a text.
-    #[tactic(auto, unfolding(crate::specs::Order::is_error))]
-    fn read_delimiter(&mut self) -> Token
+    #[tactic(auto, unfolding(crate::specs::Found::token_of, crate::specs::Order::is_error))]
+    fn read_delimiter(&mut self) -> Shape
         requires { EndsText self.old.text.now self.old.at }
         ensures text { self.new.text ≡ self.old.text }
         ensures forward { self.old.at < self.new.at }
-        ensures fits { IsTrue (fits Next.Delimiter (nesting.part_of result)) }
-        ensures no_error { IsFalse (is_error result) }
-        ensures spells { Spells self.old.text.now self.old.at self.new.at result }
+        ensures fits { IsTrue (fits Next.Delimiter (nesting.part_of (token_of self.old.text.now self.old.at self.new.at result))) }
+        ensures no_error { IsFalse (is_error (token_of self.old.text.now self.old.at self.new.at result)) }
+        ensures spells { Spells self.old.text.now self.old.at self.new.at (token_of self.old.text.now self.old.at self.new.at result) }
     {
         if self.is_next(b'$', b'{') {
             self.at += 2;
-            return Token::DollarLBrace;
+            return Shape::Sign(Sign::DollarLBrace);
         }
         self.at += 1;
-        Token::BackQuote
+        Shape::Sign(Sign::BackQuote)
     }
 }

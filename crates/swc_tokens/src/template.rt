@@ -5,9 +5,9 @@ ghost use Rattle.swc_tokens.specs.Faults as faults;
 ghost use Rattle.swc_tokens.specs.Nesting as nesting;
 
 use crate::fault::out_of_memory;
+use crate::found::Part;
 use std::alloc::Global;
 use swc_context::error::PResult;
-use swc_input::token::Token;
 
 /// What is read next.
 #[derive(Clone, Copy)]
@@ -27,32 +27,6 @@ pub(crate) enum Open {
     Substitution,
     /// `{`
     Brace,
-}
-
-/// What a token is to templates.
-#[derive(Clone, Copy)]
-pub(crate) enum Part {
-    Text,
-    Backquote,
-    /// `${`
-    Substitution,
-    OpenBrace,
-    CloseBrace,
-    Other,
-}
-
-/// What the token is to templates.
-fn part_of(token: &Token) -> Part
-    ensures { result ≡ nesting.part_of token.now }
-{
-    match token {
-        Token::Template { .. } => Part::Text,
-        Token::BackQuote => Part::Backquote,
-        Token::DollarLBrace => Part::Substitution,
-        Token::LBrace => Part::OpenBrace,
-        Token::RBrace => Part::CloseBrace,
-        _ => Part::Other,
-    }
 }
 
 /// How far the tokens have come in templates: which brackets are open in them, the outermost one
@@ -83,13 +57,13 @@ impl Templates {
     }
 
     /// Goes on after a token, which is such as is read next.
-    pub(crate) fn pass(&mut self, token: &Token) -> PResult<()>
-        requires { IsTrue (fits self.old.next (nesting.part_of token.now)) }
-        ensures turns { OnOk result (Turns self.old.brackets.items self.old.next (nesting.part_of token.now)
+    pub(crate) fn pass(&mut self, part: Part) -> PResult<()>
+        requires { IsTrue (fits self.old.next part) }
+        ensures turns { OnOk result (Turns self.old.brackets.items self.old.next part
             self.new.brackets.items self.new.next) }
         ensures refused { IfErr result (λ e. e ≡ faults.out_of_memory) }
     {
-        self.next = self.behind(part_of(token))?;
+        self.next = self.behind(part)?;
         Ok(())
     }
 

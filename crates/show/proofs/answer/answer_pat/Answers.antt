@@ -1,10 +1,14 @@
 use Rattle.swc_grammar.specs.Symbols.{Pat}
 use Rattle.swc_steps.specs.Params.{pat_at}
+use Rattle.swc_ecma_parser.specs.WholeList.{plain_list}
+use Rattle.swc_tokens.specs.Inputs.{input_state, tokens_of}
 use Rattle.show.proofs.Judging.{judged_by}
 use Rattle.show.proofs.answer.answer_pat.Goals as goal
 
 pub returns : goal.returns
-returns c = λ heeded.
-    judged_by Pat pat_at c.args.ctx c.args.syntax c.args.tokens.items
-    c.parse_whole_pat-read.result.nodes c.parse_whole_pat-read.result.recorded.items heeded
-    c.parse_whole_pat-read.ensures.headline c.show_pat-shown.ensures
+returns c = λ lists heeded.
+    let state = input_state c.args.source in
+    let ts = tokens_of c.args.source in
+    judged_by Pat pat_at state.context state.syntax ts
+    c.read_whole_pat-read.result.nodes c.read_whole_pat-read.result.recorded.items heeded
+    (c.read_whole_pat-read.ensures.headline (plain_list ts) lists) c.show_pat-shown.ensures
