@@ -4,7 +4,10 @@ ghost use Rattle.swc_nodes.specs.NodeParts.{one_expr, one_pat, if_some, flat, it
 ghost use Rattle.swc_print.specs.Numbers.{Lays, tpl_shown};
 
 use crate::items::put_list;
-use crate::pieces::{Pieces, put_after, put_computed, put_in, put_kept_last, put_named, put_text};
+use crate::pieces::{
+    Piece, Pieces, put_after, put_computed, put_in, put_kept_last, put_named, put_part,
+    put_property, put_text,
+};
 use crate::print::Kept;
 use std::alloc::AllocError;
 use swc_ast::expr::{
@@ -22,11 +25,13 @@ pub fn put_member<'a>(
 {
     put_after(pieces, "Member(", member.obj.0)?;
     match &member.prop {
-        MemberProp::Ident(i) => put_named(pieces, ", .", i.sym.as_str())?,
-        MemberProp::PrivateName(p) => put_named(pieces, ", .#", p.name.as_str())?,
-        MemberProp::Computed(c) => put_computed(pieces, ", [", c.expr.0)?,
+        MemberProp::Ident(i) => put_property(pieces, i.sym.as_str()),
+        MemberProp::PrivateName(p) => {
+            put_named(pieces, ", .#", p.name.as_str())?;
+            put_text(pieces, ")")
+        }
+        MemberProp::Computed(c) => put_part(pieces, Piece::Bracketed(c.expr.0)),
     }
-    put_text(pieces, ")")
 }
 
 /// Appends the pieces of a property of `super`.
@@ -47,7 +52,10 @@ pub fn put_super_prop<'a>(
 fn put_args<'a>(pieces: &mut Pieces<'a>, args: &'a [ExprOrSpread<ExprId>]) -> Result<(), AllocError>
     ensures { Lays (flat item_parts args.now) pieces.old result pieces.new }
 {
-    put_list(pieces, ", [", args, "])")
+    match args {
+        [ExprOrSpread { spread: None, expr }] => put_part(pieces, Piece::Bracketed(expr.0)),
+        _ => put_list(pieces, ", [", args, "])"),
+    }
 }
 
 fn put_callee<'a>(pieces: &mut Pieces<'a>, callee: &Callee<ExprId>) -> Result<(), AllocError>

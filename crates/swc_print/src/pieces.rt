@@ -15,6 +15,10 @@ pub enum Piece<'a> {
     Node(usize),
     /// A comma, the text of the node that has the number, and `)`.
     Last(usize),
+    /// A comma, `[`, the text of the node that has the number, and `])`.
+    Bracketed(usize),
+    /// A comma, a dot, the name, and `)`.
+    Property(&'a str),
 }
 
 /// The text so far, and the pieces of one node.
@@ -38,11 +42,21 @@ pub fn put_part<'a>(pieces: &mut Pieces<'a>, part: Piece<'a>) -> Result<(), Allo
 pub fn put_text<'a>(pieces: &mut Pieces<'a>, text: &'a str) -> Result<(), AllocError>
     ensures { OnOk result (numbers pieces.new.waiting.items ≡ numbers pieces.old.waiting.items) }
 {
-    if pieces.waiting.is_empty() {
+    if text.is_empty() {
+        Ok(())
+    } else if pieces.waiting.is_empty() {
         pieces.out.push_str(text)
     } else {
         Ok(pieces.waiting.push(Piece::Text(text))?)
     }
+}
+
+/// Appends the name of a property, which ends a member.
+pub fn put_property<'a>(pieces: &mut Pieces<'a>, name: &'a str) -> Result<(), AllocError>
+    ensures { OnOk result (numbers pieces.new.waiting.items ≡ numbers pieces.old.waiting.items) }
+{
+    pieces.waiting.push(Piece::Property(name))?;
+    Ok(())
 }
 
 /// Appends the number of tokens that a value of the hook kept.

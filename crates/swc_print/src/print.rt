@@ -107,6 +107,13 @@ fn print_node<F: Spanned + Drop + Kept, C: Spanned + Drop + Kept, K: Spanned + D
     Ok(pieces.out)
 }
 
+/// Writes the name of a property, which ends a member.
+fn write_property(out: &mut String, name: &str) -> Result<(), AllocError> {
+    out.push_str(", .")?;
+    out.push_str(name)?;
+    out.push_str(")")
+}
+
 /// Writes the texts on top of the stack, and takes out the node below them.
 fn next_node(stack: &mut Vec<Piece>, out: &mut String) -> Result<Option<usize>, AllocError>
     ensures { IfOk result (λ found. numbers stack.old.items ≡ numbers stack.new.items ++ option_to_list found) }
@@ -121,6 +128,12 @@ fn next_node(stack: &mut Vec<Piece>, out: &mut String) -> Result<Option<usize>, 
                 stack.push(Piece::Text(")"))?;
                 return Ok(Some(number));
             }
+            Piece::Bracketed(number) => {
+                out.push_str(", [")?;
+                stack.push(Piece::Text("])"))?;
+                return Ok(Some(number));
+            }
+            Piece::Property(name) => write_property(out, name),
         }?;
     }
     Ok(None)
