@@ -1,13 +1,14 @@
 -- What is shown of a list of tokens is judged as what was read of it.
-use Rattle.std.proofs.Common.{Bool, true, List, Result, Ok, Err, refl, sym, subst, ◌∙◌}
-use Rattle.swc_context.specs.{declared.context.Context.Context, declared.context.Syntax.Syntax, declared.error.Error.Error}
-use Rattle.swc_input.specs.declared.token.TokenAndSpan.{TokenAndSpan}
+use Rattle.std.proofs.Common.{◌≡◌, ℕ, Bool, true, List, Result, Ok, Err, refl, sym, subst, ◌∙◌}
+use Rattle.swc_context.specs.{declared.context.Context.Context, declared.context.EsVersion.EsVersion, declared.context.Syntax.Syntax, declared.error.Error.Error}
+use Rattle.swc_input.specs.{declared.token.TokenAndSpan.TokenAndSpan, Listed.new_state, Source.Source}
+use Rattle.swc_tokens.specs.Moved.{AreTokensOf}
 use Rattle.swc_ast.specs.{Tree.Tree, declared.spanned.Spanned.Ghosts}
 use Rattle.swc_bodies.specs.{Body.Body, Taking.token_forms}
 use Rattle.swc_grammar.specs.Symbols.{Symbol}
 use Rattle.swc_nodes.specs.declared.nodes.Nodes.{Nodes}
 use Rattle.swc_ecma_parser.specs.WholeList.{plain_list, IsHeeded, Headline}
-use Rattle.show.specs.{Answers.Judged, Answers.Shows, declared.answer.Shown.Shown}
+use Rattle.show.specs.{Answers.Answers, Answers.IsJudged, Answers.Judged, Answers.Shows, Answers.judged, declared.answer.Shown.Shown}
 
 module _ {N : Type 0} {fg cg kg : Ghosts Body} (s : Symbol)
     (tree : Nodes Body Body Body fg cg kg → N → Tree Body Body Body)
@@ -32,3 +33,12 @@ module _ {N : Type 0} {fg cg kg : Ghosts Body} (s : Symbol)
       → (IsHeeded c x → Headline true token_forms s tree c x (plain_list ts) read nodes recorded) → Shows read shown
       → Judged s c x ts shown recorded
   judged_by {read} {shown} heeded h shows = judged_of read shown (h heeded) shows
+
+-- what is answered of the tokens of a text, by a source whose list they are
+pub answered : {s : Symbol} {c : Context} {x : Syntax} {v : EsVersion} {text : List ℕ} {ts : List TokenAndSpan}
+    {source : Source} {shown : Result Shown Error} {recorded : List Error} → AreTokensOf text ts
+    → source ≡ new_state ts c x v → IsJudged s source ts shown recorded → IsHeeded c x
+    → Answers s c x text shown recorded
+answered {s} {ts = ts} {shown = shown} {recorded = recorded} tokens state judges heeded =
+    let P : Source → Type 0 = λ z. IsJudged s z ts shown recorded in
+    judged tokens (subst P state judges (record { known = refl; clean = refl }) heeded)

@@ -1,13 +1,16 @@
-use Rattle.std.proofs.Common.{refl, ap, ◌∙◌}
-use Rattle.show.specs.Answers.{refused, judged}
+use Rattle.std.proofs.Common.{refl}
+use Rattle.show.specs.Answers.{refused}
 use Rattle.show.proofs.Giving.{same_error}
+use Rattle.show.proofs.Judging.{answered}
 use Rattle.show.proofs.answer.answer_to.Goals as goal
 
 pub returns-in-Ok-Expr : goal.returns-in-Ok-Expr
-returns-in-Ok-Expr c = ?
+returns-in-Ok-Expr c = λ heeded.
+    rw c.in-Ok-Expr.is (answered c.in-Ok.ensures.tokens c.in-Ok.ensures.state c.answer_expr.ensures heeded)
 
 pub returns-in-Ok-Pat : goal.returns-in-Ok-Pat
-returns-in-Ok-Pat c = ?
+returns-in-Ok-Pat c = λ heeded.
+    rw c.in-Ok-Pat.is (answered c.in-Ok.ensures.tokens c.in-Ok.ensures.state c.answer_pat.ensures heeded)
 
 pub returns-in-Err : goal.returns-in-Err
 returns-in-Err c = λ heeded.
