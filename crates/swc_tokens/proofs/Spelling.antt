@@ -1,5 +1,9 @@
 -- Tokens that have no text of their own: signs, and what ends a text of a template.
-use Rattle.std.proofs.Common.{◌≡◌, ℕ, suc, ◌+◌, ◌-◌, List, [], ◌∷◌, Bool, false, Some, IsFalse, take, drop, drop-cons, get_or, slice_get, slice_range, add-one, ap, sym, ◌∙◌, arith}
+use Rattle.std.proofs.Common.{◌≡◌, ℕ, suc, ◌+◌, ◌-◌, List, [], ◌∷◌, length, codes, Bool, false, Some, IsFalse, take, drop, drop-cons, get_or, slice_get, slice_range, add-one, ap, sym, refl, ◌∙◌, arith}
+use Rattle.std.specs.{Prelude.◌==◌, Cmp.Lexicographic.unequal}
+use Rattle.swc_context.specs.{Texts.is_text, Words.word_of}
+use Rattle.swc_context.specs.declared.word.Word.TheVariants as word
+use Rattle.swc_context.proofs.Words.{none_1}
 use Rattle.std.proofs.lemmas.Option.{get_or_from_slice_get, slice_get_within}
 use Rattle.swc_input.specs.declared.token.Token.{Token}
 use Rattle.swc_tokens.specs.{Signs.has_text, Signs.sign_text, Blanks.StandAt, Profile.has, Profile.lexeme}
@@ -7,6 +11,14 @@ use Rattle.swc_tokens.specs.Spelling.{IsLexeme, IsName, IsTextBetween, Spells}
 use Rattle.swc_lexical.specs.{PlainNames.name_len, Templates.text_len, declared.lexeme.Kind.Kind}
 use Rattle.swc_lexical.proofs.Runs.{rest_at, rest_at-drop}
 use Rattle.swc_input.specs.declared.token.Token.TheVariants as token
+
+-- no keyword has one byte
+pub word_of_one : (w : List ℕ) → length w ≡ 1 → word.Ident w ≡ word_of w
+word_of_one w is =
+    let null : is_text w (codes "null") ≡ false = unequal ◌==◌ w (codes "null") (λ e. absurd (omega (arith, is, e))) in
+    let yes : is_text w (codes "true") ≡ false = unequal ◌==◌ w (codes "true") (λ e. absurd (omega (arith, is, e))) in
+    let no : is_text w (codes "false") ≡ false = unequal ◌==◌ w (codes "false") (λ e. absurd (omega (arith, is, e))) in
+    rw (null, yes, no, ← none_1 w is) refl
 
 pub Spells_sign : (text : List ℕ) (low high : ℕ) (t : Token) → IsFalse (has_text t)
     → sign_text t ≡ slice_range text low high → Spells text low high t

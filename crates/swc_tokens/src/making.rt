@@ -68,12 +68,18 @@ impl<'a> Source<'a> {
         }
     }
 
-    /// A word (ECMA-262, 12.7).
-    #[tactic(auto, unfolding(crate::specs::Found::token_of))]
+    /// A word (ECMA-262, 12.7). One of a single byte is always a name.
+    #[tactic(auto, using(crate::proofs::Spelling::word_of_one), unfolding(crate::specs::Found::token_of))]
     fn word(&self, low: usize, high: usize) -> Result<Token, AllocError>
         ensures { IfOk result (λ t. t ≡ token_of self.now.text.now low high shapes.Word) }
     {
-        Ok(Token::Word(Word::new(self.alloc, self.piece(low, high))?))
+        let text = self.piece(low, high);
+        let word = if text.len() == 1 {
+            Word::Ident(Atom::new(self.alloc, text)?)
+        } else {
+            Word::new(self.alloc, text)?
+        };
+        Ok(Token::Word(word))
     }
 
     /// A string with its quotes (ECMA-262, 12.9.4).
