@@ -31,16 +31,21 @@ PEERS = ['acorn', 'v8', 'sm', 'esbuild']
 WIDTHS = 19, -7, -6, -6, -12, -7, -6, -6, -12
 
 
-def texts(size):
-    """Of each text its name, its mode, and itself."""
-    for program in PROGRAMS:
-        yield program.name.split(':')[0], program.mode, text_of(program, size)
+def repeated(size):
+    """Of each text that is a short piece again and again its name, its mode, and itself."""
     yield 'operators', 'script', b'a + 1 * b - ' * (size // 12) + b'a'
     yield 'links', 'script', b'a' + b'.b(c)' * (size // 5)
     yield 'optional links', 'script', b'a' + b'?.b[c]' * (size // 6)
     items = b'{a: [b, {c = 1, d: [, e]}, f = g], ...h}, ' * (size // 43)
     yield 'patterns written to', 'script', b'[' + items + b'i] = x'
     yield 'parameters', 'script', b'([' + items + b'i]) => x'
+
+
+def texts(size):
+    """Of each text its name, its mode, and itself."""
+    for program in PROGRAMS:
+        yield program.name.split(':')[0], program.mode, text_of(program, size)
+    yield from repeated(size)
 
 
 def run(command, path):
