@@ -112,7 +112,7 @@ fn word_kind(ctx: Context, word: &Word) -> FirstKind
     ensures { result ≡ word_kind ctx word.now }
 {
     match word {
-        Word::Ident(name) if name.as_str() == "async" => FirstKind::Async,
+        Word::Ident(name) if name.is_word("async") => FirstKind::Async,
         Word::Ident(_) | Word::Keyword(Keyword::Yield) if !ctx.is_reserved(word) => FirstKind::Word,
         _ => FirstKind::Other,
     }

@@ -82,6 +82,7 @@ fn take_body<I: Tokens>(alloc: Global, first: Place, input: &mut Buffer<I>) -> P
         place = next_place(place, input)?;
         keep_current(&mut kept, input)?;
     }
+    kept.shrink_to_fit();
     Ok(TokenBody {
         span: Span {
             lo: from,

@@ -46,7 +46,7 @@ pub(crate) fn mark_of(ctx: Context, word: &Word) -> Mark
 fn mark_of_name(ctx: Context, name: &Atom) -> Mark
     ensures { faults_of result name.now ≡ (name_verdict ctx name.now).faults }
 {
-    if name.as_str() == "enum" {
+    if name.is_word("enum") {
         return Mark::Reserved;
     }
     if name.is_strict_name() {

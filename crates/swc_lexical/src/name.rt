@@ -38,6 +38,7 @@ pub fn continues_name(ch: char) -> bool
 }
 
 /// What a name begins with; 0 where none does.
+#[inline(always)]
 fn begin_len(rest: &[u8]) -> usize
     ensures value { result ≡ names.begin_len rest.now }
     ensures within { result ≤ length rest.now }
@@ -53,6 +54,7 @@ fn begin_len(rest: &[u8]) -> usize
 }
 
 /// What a name goes on with; 0 where it ends.
+#[inline(always)]
 fn more_len(rest: &[u8]) -> usize
     ensures value { result ≡ names.more_len rest.now }
     ensures within { result ≤ length rest.now }

@@ -120,7 +120,7 @@ fn word_kind(ctx: Context, word: &Word) -> PlainKind
         Word::Keyword(Keyword::This) => PlainKind::This,
         Word::Keyword(Keyword::Function) => PlainKind::Function,
         Word::Keyword(Keyword::Class) => PlainKind::Class,
-        Word::Ident(name) if name.as_str() == "async" => PlainKind::Async,
+        Word::Ident(name) if name.is_word("async") => PlainKind::Async,
         _ if is_identifier_word(ctx, word) => PlainKind::Name,
         _ => PlainKind::Other,
     }

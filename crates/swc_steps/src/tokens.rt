@@ -75,7 +75,7 @@ pub fn is_async<I: Tokens>(input: &Buffer<I>) -> bool
     ensures some { result ≡ true → IsSome (current input.now) }
 {
     match input.cur_debug() {
-        Some(Token::Word(Word::Ident(name))) => name.as_str() == "async",
+        Some(Token::Word(Word::Ident(name))) => name.is_word("async"),
         _ => false,
     }
 }
