@@ -44,14 +44,16 @@ returns-clause-hooked g c = λ begins so.
     done-hooked g.met.I.Tokens.laws c.args.input.now c.args.first c.cur_span.result.lo c.loop-place.input
     c.loop-place.place c.loop-place.kept.items _ begins so
     (ended c.loop-place.place (sym c.is_end.ensures ∙ c.loop-place-test.false))
-    (ap (body c.cur_span.result.lo (map plain c.loop-place.kept.items)) c.last_pos.ensures) c.loop-place.invariant
+    (ap (λ ts. body c.cur_span.result.lo (map plain ts) c.last_pos.result) c.shrink_to_fit.ensures.items
+    ∙ ap (body c.cur_span.result.lo (map plain c.loop-place.kept.items)) c.last_pos.ensures) c.loop-place.invariant
 
 pub returns-clause-faithful : goal.returns-clause-faithful
 returns-clause-faithful g c = λ begins so.
     done-faithful g.met.I.Tokens.laws c.args.input.now c.args.first c.cur_span.result.lo c.loop-place.input
     c.loop-place.place c.loop-place.kept.items _ begins so
     (ended c.loop-place.place (sym c.is_end.ensures ∙ c.loop-place-test.false))
-    (ap (body c.cur_span.result.lo (map plain c.loop-place.kept.items)) c.last_pos.ensures) c.loop-place.invariant
+    (ap (λ ts. body c.cur_span.result.lo (map plain ts) c.last_pos.result) c.shrink_to_fit.ensures.items
+    ∙ ap (body c.cur_span.result.lo (map plain c.loop-place.kept.items)) c.last_pos.ensures) c.loop-place.invariant
 
 pub returns-in_err-place-clause-refused : goal.returns-in_err-place-clause-refused
 returns-in_err-place-clause-refused g c =
