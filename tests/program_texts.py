@@ -1,4 +1,4 @@
-"""Ten texts of expressions as real programs have them, of any size, written by rules: tests/programs.py and tests/peers.py measure them."""
+"""Ten texts of expressions as real programs have them, of any size, written by rules: tests/peers.py measures them."""
 import re
 from collections import namedtuple
 
