@@ -25,8 +25,8 @@ with no fault recorded, both answer the same; where it was out of memory, the ot
 A row of lexed.rows that has tokens or comments answers what it says, or is refused as `OutOfMemory` at 0..0.
 
 A row of texts.rows, whose tokens are read as the parser asks for them, is refused as `OutOfMemory` with each request, and the faults that are
-recorded then are a beginning of those of the row; or it is read as the row says, and `no memory` is written in place of its tree. It never
-answers what it answers with no request refused.
+recorded then are a beginning of those of the row; or it is read as the row says, and `no memory` is written in place of its tree. It answers
+what it answers with no request refused only where a body is in it, whose list of tokens is made no longer than they are, if there is memory.
 
 Runs of SHOW_EXPR end with 3 and the usage, up to one that can't read standard input, which says that and ends with 3 too; then with 2 and
 `refused: OutOfMemory`, after which the recorded faults are a beginning of those of the row, or as the row says.
@@ -279,7 +279,8 @@ def stage_of_calls(row, whole, run):
     if row.calls[0].startswith('lexed: '):
         return 1 if run.output in (whole.output, LEXED_REFUSED) else None
     if row.calls[0].startswith('text: '):
-        return 1 if is_text_out_of_memory(run.output, whole.output) else None
+        is_kept_long = run.output == whole.output and '}' in row.text
+        return 1 if is_kept_long or is_text_out_of_memory(run.output, whole.output) else None
     if row.calls == ['next'] and run.output.endswith('true\n'):
         return 1 if whole.output.startswith(run.output[:-len('true\n')]) else None
     found, wanted = run.output.split('\n'), whole.output.split('\n')
