@@ -20,7 +20,7 @@ import sys
 import tempfile
 
 sys.dont_write_bytecode = True
-from measure import print_row
+import measure
 from program_texts import PROGRAMS, text_of
 
 HERE = os.path.dirname(os.path.abspath(__file__))
@@ -49,12 +49,12 @@ def texts(size):
 
 
 def run(command, path):
-    """The processor seconds and the kilobytes of a command that reads the file, or none where it fails."""
+    """The processor seconds of a command that reads the file, or none where it fails."""
     with open(path, 'rb') as given, open(os.devnull, 'wb') as nothing:
         ran = subprocess.Popen(command, stdin=given, stdout=nothing, stderr=nothing)
         _, status, used = os.wait4(ran.pid, 0)
         ran.returncode = status
-    return None if status else (used.ru_utime + used.ru_stime, used.ru_maxrss)
+    return None if status else used.ru_utime + used.ru_stime
 
 
 def told(command):
@@ -91,24 +91,23 @@ def least(old, new):
     return new if old is None or new is not None and new < old else old
 
 
-def measure(program, sm, mode, path, room):
-    """The least seconds of the program and of each peer, and the program's kilobytes."""
+def fastest(program, sm, mode, path, room):
+    """The least seconds of the program and of each peer."""
     node = ['node', '--single-threaded', '--stack-size=60000', '--max-old-space-size=2500', os.path.join(HERE, 'peers.js')]
     wrapped = os.path.join(room, 'wrapped.js')
     subprocess.run([*node[:-1], os.path.join(HERE, 'peers.js'), 'wrap', mode, path, wrapped])
-    best, memory = dict.fromkeys(['own', *PEERS]), None
+    best = dict.fromkeys(['own', *PEERS])
     for turn in range(TURNS):
         own = run([program, 'expr', mode], path)
-        best['own'] = least(best['own'], own and own[0])
-        memory = least(memory, own and own[1])
+        best['own'] = least(best['own'], own)
         for peer in ('acorn', 'v8'):
             best[peer] = least(best[peer], told([*node, peer, mode, path]))
         if sm:
             best['sm'] = least(best['sm'], told([sm, wrapped]))
         if shutil.which('esbuild') and (turn == 0 or best['esbuild']):
             found = run(['timeout', '60', 'esbuild', '--log-level=error', '--loader=js'], wrapped)
-            best['esbuild'] = least(best['esbuild'], found and found[0])
-    return best, memory
+            best['esbuild'] = least(best['esbuild'], found)
+    return best
 
 
 def cell(value, form='%.2f'):
@@ -119,28 +118,27 @@ def main():
     program = os.path.abspath(sys.argv[1] if len(sys.argv) > 1 else os.path.join(HERE, '../crates/show_expr/out/show_expr'))
     os.environ.update(NODE_PATH='/usr/share/nodejs', GOMAXPROCS='1', GOGC='off')
     ratios = {peer: [] for peer in PEERS}
-    print_row(WIDTHS, 'text', 'bytes', 'acorn', 'V8', 'SpiderMonkey', 'esbuild', 'twice', 'memory', 'instructions')
+    measure.print_row(WIDTHS, 'text', 'bytes', 'acorn', 'V8', 'SpiderMonkey', 'esbuild', 'twice', 'memory', 'instructions')
     with tempfile.TemporaryDirectory() as room:
         sm, path = spider_monkey(room), os.path.join(room, 'text')
-        open(path, 'wb').write(b'a')
-        bare = run([program, 'expr', 'script'], path)[1]
+        bare = measure.run([program, 'expr', 'script'], b'a').megabytes
         shorter = dict((name, text) for name, _, text in texts(SHORT))
         halves = dict((name, text) for name, _, text in texts(MB // 2))
         for name, mode, text in texts(MB):
             open(path, 'wb').write(text)
-            best, memory = measure(program, sm, mode, path, room)
+            best = fastest(program, sm, mode, path, room)
             open(path, 'wb').write(halves[name])
-            half = min(run([program, 'expr', mode], path)[0] for _ in range(TURNS))
+            half = min(run([program, 'expr', mode], path) for _ in range(TURNS))
             open(path, 'wb').write(shorter[name])
             count = instructions(program, mode, path, room) if shutil.which('valgrind') else None
             row = [best['own'] / best[peer] if best[peer] and best['own'] else None for peer in PEERS]
             for peer, ratio in zip(PEERS, row):
                 ratios[peer] += [ratio] if ratio else []
-            spent = None if memory is None else (memory - bare) * 1024 / len(text)
+            spent = (measure.run([program, 'expr', mode], text).megabytes - bare) * (1 << 20) / len(text)
             cells = [cell(ratio) for ratio in row] + [cell(best['own'] and best['own'] / half), cell(spent, '%.0f'), cell(count, '%.1f')]
-            print_row(WIDTHS, name, len(text), *cells)
+            measure.print_row(WIDTHS, name, len(text), *cells)
     means = [math.exp(sum(map(math.log, ratios[peer])) / len(ratios[peer])) if ratios[peer] else None for peer in PEERS]
-    print_row(WIDTHS, 'geometric mean', '', *map(cell, means))
+    measure.print_row(WIDTHS, 'geometric mean', '', *map(cell, means))
 
 
 if __name__ == '__main__':
