@@ -65,8 +65,8 @@ module _ {S : Type 0} {model : Model S} (laws : Laws model) where
       (r.kind ≡ kind.OutOfMemory) ⊎ ((ts : List TokenAndSpan) → Known model b ts → next p ts ≡ None)
   why-stopped b h c p e r l barred x = elim (current h) as (λ o. current h ≡ o
       → (r.kind ≡ kind.OutOfMemory) ⊎ ((ts : List TokenAndSpan) → Known model b ts → next p ts ≡ None)) [
-        | Some t ↦ (λ at. inr (λ ts known. known-none b h p ts l barred (λ none. let n : Some t ≡ None = sym at ∙ none in
-            cc) known))
+        | Some t ↦ (λ at. inr (λ ts known. known-none b h p ts l barred (λ none. let n : Some t ≡ None = sym at ∙ none
+            in cc) known))
         | None ↦ (λ at. elim (model.state (source h)).failed as (λ f. (model.state (source h)).failed ≡ f
             → (r.kind ≡ kind.OutOfMemory) ⊎ ((ts : List TokenAndSpan) → Known model b ts → next p ts ≡ None)) [
               | false ↦ (λ runs. inr (λ ts known. known-none b h p ts l barred (λ none. runs) known))

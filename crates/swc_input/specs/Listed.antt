@@ -66,15 +66,15 @@ pub record NextListed (s : TokensInput) (r : Option TokenAndSpan) (t : TokensInp
   pub errors : t.errors.items ≡ s.errors.items
   pub waiting : t.module_errors.items ≡ s.module_errors.items
 
-is_nil-nil : {A : Type 0} (xs : List A) → is_nil xs ≡ true → xs ≡ []
+pub is_nil-nil : {A : Type 0} (xs : List A) → is_nil xs ≡ true → xs ≡ []
 is_nil-nil [] h = refl
 is_nil-nil (x ∷ xs) h = cc
 
-first_nil : {A : Type 0} (xs ys : List A) → [] ≡ xs ++ ys → xs ≡ []
+pub first_nil : {A : Type 0} (xs ys : List A) → [] ≡ xs ++ ys → xs ≡ []
 first_nil [] ys h = refl
 first_nil (x ∷ xs) ys h = cc
 
-second_nil : {A : Type 0} (xs ys : List A) → [] ≡ xs ++ ys → ys ≡ []
+pub second_nil : {A : Type 0} (xs ys : List A) → [] ≡ xs ++ ys → ys ≡ []
 second_nil [] ys h = sym h
 second_nil (x ∷ xs) ys h = cc
 

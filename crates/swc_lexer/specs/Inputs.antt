@@ -5,7 +5,7 @@ use Rattle.std.proofs.lemmas.List.Elements.{All-cons, All-nil}
 use Rattle.std.proofs.Common.{refl, ap, sym, ◌∙◌, append_assoc, arith, subst}
 use Rattle.swc_context.specs.{declared.context.Context.Context, declared.context.EsVersion.EsVersion, declared.context.Syntax.Syntax, declared.context.TokenContexts.TokenContexts, declared.error.Error.Error, declared.error.SyntaxError.LegacyOctal, declared.error.SyntaxError.LegacyDecimal, declared.span.Span.Span}
 use Rattle.swc_input.specs.{Laws.keeps_same, Plain.plain, declared.listed.TokensInput.TokensInput, declared.token.Token.Token, declared.token.TokenAndSpan.TokenAndSpan}
-use Rattle.swc_input.specs.Listed.{listed_state, listed_lawful, ListedGives}
+use Rattle.swc_input.specs.Listed.{first_nil, listed_state, listed_lawful, ListedGives}
 use Rattle.swc_input.specs.Source.{Source, Model, Laws, Keeping, Keeps, IsFault, Gave, Asked, Unmoved, with_error, with_module_error, recorded_in, waiting_in}
 use Rattle.swc_lexer.specs.{declared.input.TextInput.TextInput, declared.reader.End.End, declared.stack.Start.Start}
 use Rattle.swc_lexer.specs.Legacy.{noted, fault, in_string_by, in_token, legacy_of, is_legacy_token, any_legacy}
@@ -205,10 +205,6 @@ none_left s e =
     let o = not_over s.held s.reader.ended e in
     ap (map plain) (only_held s o.1 ∙ from_end s.end (bytes_of s) (reading s)
     (next_ended s.end (bytes_of s) (reading s) o.0))
-
-first_nil : {A : Type 0} (xs ys : List A) → [] ≡ xs ++ ys → xs ≡ []
-first_nil [] ys h = refl
-first_nil (x ∷ xs) ys h = cc
 
 text_gave : (s t : TextInput) (xs : List TokenAndSpan) → TextGives s xs t → Gave (text_state s) xs (text_state t)
 text_gave s t xs a = record {

@@ -3,7 +3,7 @@ use Rattle.std.specs.Prelude.{◌≡◌, ℕ, ◌+◌, ◌<◌, Bool, true, fals
 use Rattle.std.proofs.Common.{refl, ap, sym, ◌∙◌, append_assoc, arith, zero, suc, add-one}
 use Rattle.swc_context.specs.declared.context.TokenContexts.{TokenContexts}
 use Rattle.swc_input.specs.{Laws.keeps_same, Plain.plain, declared.listed.TokensInput.TokensInput, declared.token.TokenAndSpan.TokenAndSpan}
-use Rattle.swc_input.specs.Listed.{is_nil, listed_state, listed_lawful, ListedGives}
+use Rattle.swc_input.specs.Listed.{is_nil, is_nil-nil, first_nil, second_nil, listed_state, listed_lawful, ListedGives}
 use Rattle.swc_input.specs.Source.{Source, Model, Laws, Keeping, Gave, Asked, Unmoved}
 use Rattle.swc_tokens.specs.{Found.all_made, Found.made, declared.found.Found.Found, declared.input.AsciiInput.AsciiInput}
 
@@ -49,18 +49,6 @@ with_contexts s contexts = record s { notes = record s.notes { contexts = contex
 
 abbrev pub input_model : Model AsciiInput
 input_model = record { state = input_state; gives = InputGives; told = λ s h t. t ≡ s }
-
-is_nil-nil : {A : Type 0} (xs : List A) → is_nil xs ≡ true → xs ≡ []
-is_nil-nil [] h = refl
-is_nil-nil (x ∷ xs) h = cc
-
-first_nil : {A : Type 0} (xs ys : List A) → [] ≡ xs ++ ys → xs ≡ []
-first_nil [] ys h = refl
-first_nil (x ∷ xs) ys h = cc
-
-second_nil : {A : Type 0} (xs ys : List A) → [] ≡ xs ++ ys → ys ≡ []
-second_nil [] ys h = sym h
-second_nil (x ∷ xs) ys h = cc
 
 pub untouched : (s : AsciiInput) → InputGives s [] s
 untouched s = record { list = refl; failed = λ e. (refl, e); syntax = refl; target = refl }
@@ -137,7 +125,8 @@ pub asked_given : (s t : AsciiInput) (f : Found) (x : TokenAndSpan) → s.failed
     → Same s t → t.given ≡ s.given + 1 → Some f ≡ slice_get s.found.items s.given → x ≡ made (bytes_of s) f
     → Asked input_model s (Some x) t
 asked_given s t f x runs still same more here is =
-    let rest : rest_of s ≡ f ∷ rest_of t = rw (same.1, more, add-one s.given) (drop_here s.found.items s.given f here) in
+    let rest : rest_of s ≡ f ∷ rest_of t =
+        rw (same.1, more, add-one s.given) (drop_here s.found.items s.given f here) in
     record {
       gave = record {
         list = rw (same.0, is) (ap (coming_of (bytes_of s)) rest);

@@ -13,7 +13,8 @@ returns-in_err-has_cur g c =
 
 pub returns-then-not-is_at_hash : goal.returns-then-not-is_at_hash
 returns-then-not-is_at_hash g c =
-    let x = passed_over c.in_ok-has_cur.field-0 g.met.I.Tokens.laws c.in_ok-has_cur.ensures.seen c.unexpected.ensures.refused in
+    let x = passed_over c.in_ok-has_cur.field-0 g.met.I.Tokens.laws c.in_ok-has_cur.ensures.seen
+    c.unexpected.ensures.refused in
     no_hash x.0 refl (ap (at_token is_hash) x.1 ∙ sym c.is_at_hash.ensures ∙ c.if-not-is_at_hash.true)
 
 pub returns : goal.returns

@@ -45,7 +45,8 @@ returns-then-is_at_word-clause-read g c = reads_then g.met.I.Tokens.laws
 
 pub returns-clause-export : goal.returns-clause-export
 returns-clause-export g c =
-    let x = passed_over c.in_ok-has_cur.field-0 g.met.I.Tokens.laws c.in_ok-has_cur.ensures.seen c.unexpected.ensures.refused in
+    let x = passed_over c.in_ok-has_cur.field-0 g.met.I.Tokens.laws c.in_ok-has_cur.ensures.seen
+    c.unexpected.ensures.refused in
     no_string x.0 refl (ap (at_token is_word) x.1 ∙ sym c.is_at_word.ensures ∙ c.if-is_at_word.false)
     (ap (at_token is_str) x.1 ∙ sym c.is_at_str.ensures ∙ c.if-is_at_str.false)
 

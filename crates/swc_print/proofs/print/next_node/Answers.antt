@@ -30,6 +30,6 @@ returns-in-Last c =
 
 pub returns-in-Bracketed : goal.returns-in-Bracketed
 returns-in-Bracketed c =
-    last_taken c.loop-piece.stack.items c.pop.new.self.items c.push-in-Bracketed.new.self.items c.in-Some.piece _ c.in-Bracketed.number
-    _ c.in-Some.ensures.items (ap (λ (v : Piece). numbers (v ∷ [])) c.in-Bracketed.is)
+    last_taken c.loop-piece.stack.items c.pop.new.self.items c.push-in-Bracketed.new.self.items c.in-Some.piece _
+    c.in-Bracketed.number _ c.in-Some.ensures.items (ap (λ (v : Piece). numbers (v ∷ [])) c.in-Bracketed.is)
     c.in_ok-push-in-Bracketed.ensures.items refl c.loop-piece.invariant

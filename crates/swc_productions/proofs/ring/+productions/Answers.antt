@@ -1934,7 +1934,8 @@ parse_unary_expr-returns g t c =
 pub parse_await-returns-in_err-is_await_name : goal.parse_await-returns-in_err-is_await_name
 parse_await-returns-in_err-is_await_name g t c =
     m.refused_more c.from_residual.ensures.1
-    (s.unheard_call _ (prefix.await_splits _ c.args.start) (c.in_err-is_await_name.ensures.names g.B.Bodies.is_faithful))
+    (s.unheard_call _ (prefix.await_splits _ c.args.start)
+    (c.in_err-is_await_name.ensures.names g.B.Bodies.is_faithful))
     (grows-same _)
 
 pub parse_await-returns-then-branch : goal.parse_await-returns-then-branch
@@ -3968,7 +3969,8 @@ parse_pat-returns-in_err-props-in-Object g t c =
     m.refused c.from_residual-in_err-props-in-Object.ensures.1
     (pat_begins.object_refused g.B.BodyForms.forms c.in_ok-look.ensures.looks
     (sym c.pat_kind.ensures ∙ c.in-Object.is) c.skip-in-Object.ensures.took.1
-    (leaving.unheard_aside c.replace_ctx-before.ensures.moves (as_set g.I.Tokens.model c.skip-in-Object.new.input c.replace_ctx-before.new.input (λ x. x) c.get_ctx.ensures
+    (leaving.unheard_aside c.replace_ctx-before.ensures.moves (as_set g.I.Tokens.model
+    c.skip-in-Object.new.input c.replace_ctx-before.new.input (λ x. x) c.get_ctx.ensures
     c.without_colon-ctx.ensures.decides c.replace_ctx-before.ensures.context)
     (leaving.leaves_err (λ l. props_done (pat_props_at c.parse_pat_props-read.new.p.nodes l))
     c.parse_pat_props-read.result _ c.in_err-props-in-Object.was c.parse_pat_props-read.ensures.reads)
@@ -3997,7 +3999,8 @@ parse_pat-returns-in_ok-props-in-Object g t c =
     (pat_begins.object_reads g.B.BodyForms.forms (pat_at c.object_pat.new.p.nodes)
     (pat_props_at ns list) c.object_pat.result c.object_pat.new.p.input c.in_ok-look.ensures.looks
     (sym c.pat_kind.ensures ∙ c.in-Object.is) took place
-    (s.on_aside c.replace_ctx-before.ensures.moves (as_set g.I.Tokens.model c.skip-in-Object.new.input c.replace_ctx-before.new.input (λ x. x) c.get_ctx.ensures
+    (s.on_aside c.replace_ctx-before.ensures.moves (as_set g.I.Tokens.model
+    c.skip-in-Object.new.input c.replace_ctx-before.new.input (λ x. x) c.get_ctx.ensures
     c.without_colon-ctx.ensures.decides c.replace_ctx-before.ensures.context)
     (leaving.leaves_ok (λ l. props_done (pat_props_at ns l)) c.parse_pat_props-read.result list
     c.in_ok-props-in-Object.was c.parse_pat_props-read.ensures.reads)

@@ -14,5 +14,5 @@ returns-clause-refused g c =
     (last_position c.had_line_break_before_cur.new.self) e) c.new.ensures)
 
 pub returns-clause-refuses : goal.returns-clause-refuses
-returns-clause-refuses g c = λ h. refused g.met.I.Tokens.laws (λ here. record { span = c.args.span; kind = c.args.kind })
-    _ (λ here. h) (returns-clause-refused g c)
+returns-clause-refuses g c = λ h. refused g.met.I.Tokens.laws
+    (λ here. record { span = c.args.span; kind = c.args.kind }) _ (λ here. h) (returns-clause-refused g c)

@@ -15,5 +15,7 @@ returns-clause-refused g c =
     (last_position c.had_line_break_before_cur.new.self) e) c.unfit-error.ensures)
 
 pub returns-clause-refuses : goal.returns-clause-refuses
-returns-clause-refuses g c = λ h. refused g.met.I.Tokens.laws (λ here. unfit (current here) (last_position here) c.args.kind)
-    _ (λ here. unfit-kind (current here) (last_position here) c.args.kind ParserFailed (λ e. cc) h) (returns-clause-refused g c)
+returns-clause-refuses g c = λ h. refused g.met.I.Tokens.laws
+    (λ here. unfit (current here) (last_position here) c.args.kind) _
+    (λ here. unfit-kind (current here) (last_position here) c.args.kind ParserFailed (λ e. cc) h)
+    (returns-clause-refused g c)
