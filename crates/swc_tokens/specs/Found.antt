@@ -4,7 +4,7 @@ use Rattle.swc_context.specs.{Words.word_of}
 use Rattle.swc_input.specs.{declared.token.Token.Token, declared.token.TokenAndSpan.TokenAndSpan}
 use Rattle.swc_lexical.specs.Regexps.{body_len}
 use Rattle.swc_tokens.specs.{declared.found.Found.Found, declared.found.Part.Part, declared.found.Shape.Shape, declared.found.Sign.Sign}
-use Rattle.swc_tokens.specs.Spelling.{cooked, meant}
+use Rattle.swc_tokens.specs.Spelling.{cooked, meant, Spells}
 use Rattle.swc_input.specs.declared.token.Token.TheVariants as token
 use Rattle.swc_tokens.specs.declared.found.Part.TheVariants as part
 use Rattle.swc_tokens.specs.declared.found.Shape.TheVariants as shape
@@ -56,6 +56,10 @@ token_of text low high shape.Regexp =
 token_of text low high shape.Text =
     token.Template (slice_range text low high) (cooked low (slice_range text low high))
 token_of text low high (shape.Sign s) = sign_token s
+
+-- the text from one position to before another spells the token of such a shape
+abbrev pub IsSpelled : List ℕ → ℕ → ℕ → Shape → Type 0
+IsSpelled text low high s = Spells text low high (token_of text low high s)
 
 -- the token that was found
 abbrev pub made : List ℕ → Found → TokenAndSpan

@@ -126,7 +126,7 @@ pub asked_given : (s t : AsciiInput) (f : Found) (x : TokenAndSpan) → s.failed
     → Asked input_model s (Some x) t
 asked_given s t f x runs still same more here is =
     let rest : rest_of s ≡ f ∷ rest_of t =
-        rw (same.1, more, add-one s.given) (drop_here s.found.items s.given f here) in
+    rw (same.1, more, add-one s.given) (drop_here s.found.items s.given f here) in
     record {
       gave = record {
         list = rw (same.0, is) (ap (coming_of (bytes_of s)) rest);

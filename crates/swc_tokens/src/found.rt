@@ -1,4 +1,4 @@
-// Tokens that were found in a text: what each is, and where. What it means is read from the text when the token is made.
+// Tokens that were found in a text: what each is, and where. What it means is read when the token is made.
 ghost use Rattle.std.specs.Prelude.{◌≡◌};
 ghost use Rattle.swc_tokens.specs.Found as found;
 

@@ -2,9 +2,9 @@
 ghost use Rattle.std.specs.Prelude.{◌≡◌, ◌↔◌, ◌+◌, ◌<◌, ◌≤◌, ◌^◌, length, drop, IsTrue, IsFalse, IsSome, IfOk, IfErr, IfSome, true, IfNone, OnOk, slice_range};
 ghost use Rattle.std.specs.{List.list_any, Str.IsAscii};
 ghost use Rattle.swc_tokens.specs.{Faults.IsByteFault, Faults.IsRefusal, Blanks.AreBlanks, Blanks.StandAt, Nesting.fits, Nesting.part_of, Reading.IsNext, Reading.Takes};
-ghost use Rattle.swc_tokens.specs.Found.{made, token_of};
+ghost use Rattle.swc_tokens.specs.Found.{made, token_of, IsSpelled};
 ghost use Rattle.swc_tokens.specs.Order.{is_error, is_free, is_text};
-ghost use Rattle.swc_tokens.specs.Spelling.{EndsText, IsLexeme, IsName, Spells};
+ghost use Rattle.swc_tokens.specs.Spelling.{EndsText, IsLexeme, IsName};
 ghost use Rattle.swc_tokens.specs.Faults as faults;
 ghost use Rattle.swc_tokens.specs.Blanks as blanks;
 ghost use Rattle.swc_tokens.specs.Nesting as nesting;
@@ -70,8 +70,8 @@ impl<'a> Reader<'a> {
         requires { next ≡ Next.Delimiter → EndsText self.old.text.now self.old.at }
         ensures text { self.new.text ≡ self.old.text }
         ensures refused { IfErr result (IsRefusal self.old.text.now) }
-        ensures next { IfOk result
-            (λ found. IfSome found (λ f. IsNext self.old.text.now self.old.at next (made self.old.text.now f) self.new.at)) }
+        ensures next { IfOk result (λ found. IfSome found (λ f.
+            IsNext self.old.text.now self.old.at next (made self.old.text.now f) self.new.at)) }
         ensures rest { IfOk result
             (λ found. IfNone found (AreBlanks self.old.text.now self.old.at (length self.old.text.now))) }
         ensures closed { IfOk result (λ found. IfNone found (next ≡ Next.Token)) }
@@ -162,9 +162,8 @@ impl<'a> Reader<'a> {
         ensures ends { IfOk result (λ shape. IfNone shape (length self.old.text.now ≤ self.old.at)) }
         ensures no_error { IfOk result (λ shape. IfSome shape
             (λ s. IsFalse (is_error (token_of self.old.text.now self.old.at self.new.at s)))) }
-        ensures spells { IfOk result
-            (λ shape. IfSome shape
-            (λ s. Spells self.old.text.now self.old.at self.new.at (token_of self.old.text.now self.old.at self.new.at s))) }
+        ensures spells { IfOk result (λ shape. IfSome shape
+            (λ s. IsSpelled self.old.text.now self.old.at self.new.at s)) }
     {
         match next {
             Next::Text => Ok(Some(self.read_text()?)),
@@ -211,8 +210,7 @@ impl<'a> Reader<'a> {
         ensures forward { OnOk result (self.old.at < self.new.at) }
         ensures refused { IfErr result (IsRefusal self.old.text.now) }
         ensures free { IfOk result (λ s. IsTrue (is_free (token_of self.old.text.now self.old.at self.new.at s))) }
-        ensures spells { IfOk result
-            (λ s. Spells self.old.text.now self.old.at self.new.at (token_of self.old.text.now self.old.at self.new.at s)) }
+        ensures spells { IfOk result (λ s. IsSpelled self.old.text.now self.old.at self.new.at s) }
     {
         let name = name_len(&self.text[self.at..]);
         if 0 < name {
@@ -236,8 +234,7 @@ impl<'a> Reader<'a> {
         ensures forward { OnOk result (self.old.at < self.new.at) }
         ensures refused { IfErr result (IsRefusal self.old.text.now) }
         ensures free { IfOk result (λ s. IsTrue (is_free (token_of self.old.text.now self.old.at self.new.at s))) }
-        ensures spells { IfOk result
-            (λ s. Spells self.old.text.now self.old.at self.new.at (token_of self.old.text.now self.old.at self.new.at s)) }
+        ensures spells { IfOk result (λ s. IsSpelled self.old.text.now self.old.at self.new.at s) }
     {
         self.at += len;
         Ok(Shape::Word)
@@ -250,8 +247,7 @@ impl<'a> Reader<'a> {
         ensures forward { OnOk result (self.old.at < self.new.at) }
         ensures refused { IfErr result (IsRefusal self.old.text.now) }
         ensures free { IfOk result (λ s. IsTrue (is_free (token_of self.old.text.now self.old.at self.new.at s))) }
-        ensures spells { IfOk result
-            (λ s. Spells self.old.text.now self.old.at self.new.at (token_of self.old.text.now self.old.at self.new.at s)) }
+        ensures spells { IfOk result (λ s. IsSpelled self.old.text.now self.old.at self.new.at s) }
     {
         let len = sign_len(&self.text[self.at..]);
         if len == 0 {
@@ -269,8 +265,7 @@ impl<'a> Reader<'a> {
         ensures forward { OnOk result (self.old.at < self.new.at) }
         ensures refused { IfErr result (IsRefusal self.old.text.now) }
         ensures free { IfOk result (λ s. IsTrue (is_free (token_of self.old.text.now self.old.at self.new.at s))) }
-        ensures spells { IfOk result
-            (λ s. Spells self.old.text.now self.old.at self.new.at (token_of self.old.text.now self.old.at self.new.at s)) }
+        ensures spells { IfOk result (λ s. IsSpelled self.old.text.now self.old.at self.new.at s) }
     {
         match lexeme_here(wants, &self.text[self.at..]) {
             Ok((kind, len)) => {
@@ -289,7 +284,7 @@ impl<'a> Reader<'a> {
         requires lexeme { IsLexeme kind self.now.text.now start self.now.at }
         ensures refused { IfErr result (IsRefusal self.now.text.now) }
         ensures free { IfOk result (λ s. IsTrue (is_free (token_of self.now.text.now start self.now.at s))) }
-        ensures spells { IfOk result (λ s. Spells self.now.text.now start self.now.at (token_of self.now.text.now start self.now.at s)) }
+        ensures spells { IfOk result (λ s. IsSpelled self.now.text.now start self.now.at s) }
     {
         match kind {
             Kind::Number => Ok(Shape::Number),
@@ -308,7 +303,7 @@ impl<'a> Reader<'a> {
         requires lexeme { IsLexeme kinds.Regexp self.now.text.now start self.now.at }
         ensures refused { IfErr result (IsRefusal self.now.text.now) }
         ensures free { IfOk result (λ s. IsTrue (is_free (token_of self.now.text.now start self.now.at s))) }
-        ensures spells { IfOk result (λ s. Spells self.now.text.now start self.now.at (token_of self.now.text.now start self.now.at s)) }
+        ensures spells { IfOk result (λ s. IsSpelled self.now.text.now start self.now.at s) }
     {
         let first = start + 1;
         match body_len(&self.text[first..self.at]) {
@@ -323,7 +318,7 @@ impl<'a> Reader<'a> {
         requires some { start < self.now.at }
         ensures refused { IfErr result (IsRefusal self.now.text.now) }
         ensures free { IfOk result (λ s. IsTrue (is_free (token_of self.now.text.now start self.now.at s))) }
-        ensures spells { IfOk result (λ s. Spells self.now.text.now start self.now.at (token_of self.now.text.now start self.now.at s)) }
+        ensures spells { IfOk result (λ s. IsSpelled self.now.text.now start self.now.at s) }
     {
         match sign_of(&self.text[start..self.at]) {
             Some(sign) => Ok(Shape::Sign(sign)),
@@ -338,8 +333,7 @@ impl<'a> Reader<'a> {
         ensures forward { self.old.at ≤ self.new.at }
         ensures refused { IfErr result (IsRefusal self.old.text.now) }
         ensures is_text { IfOk result (λ s. IsTrue (is_text (token_of self.old.text.now self.old.at self.new.at s))) }
-        ensures spells { IfOk result
-            (λ s. Spells self.old.text.now self.old.at self.new.at (token_of self.old.text.now self.old.at self.new.at s)) }
+        ensures spells { IfOk result (λ s. IsSpelled self.old.text.now self.old.at self.new.at s) }
     {
         match text_here(&self.text[self.at..]) {
             Ok(len) => {
@@ -358,7 +352,7 @@ impl<'a> Reader<'a> {
         requires text { spelling.IsTextBetween self.now.text.now start self.now.at }
         ensures refused { IfErr result (IsRefusal self.now.text.now) }
         ensures is_text { IfOk result (λ s. IsTrue (is_text (token_of self.now.text.now start self.now.at s))) }
-        ensures spells { IfOk result (λ s. Spells self.now.text.now start self.now.at (token_of self.now.text.now start self.now.at s)) }
+        ensures spells { IfOk result (λ s. IsSpelled self.now.text.now start self.now.at s) }
     {
         if !self.is_end() {
             return Err(self.fault_at(self.text.len()));
@@ -379,9 +373,10 @@ impl<'a> Reader<'a> {
         requires { EndsText self.old.text.now self.old.at }
         ensures text { self.new.text ≡ self.old.text }
         ensures forward { self.old.at < self.new.at }
-        ensures fits { IsTrue (fits Next.Delimiter (nesting.part_of (token_of self.old.text.now self.old.at self.new.at result))) }
+        ensures fits { IsTrue (fits Next.Delimiter
+            (nesting.part_of (token_of self.old.text.now self.old.at self.new.at result))) }
         ensures no_error { IsFalse (is_error (token_of self.old.text.now self.old.at self.new.at result)) }
-        ensures spells { Spells self.old.text.now self.old.at self.new.at (token_of self.old.text.now self.old.at self.new.at result) }
+        ensures spells { IsSpelled self.old.text.now self.old.at self.new.at result }
     {
         if self.is_next(b'$', b'{') {
             self.at += 2;

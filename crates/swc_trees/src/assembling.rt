@@ -1,14 +1,14 @@
 // Makes an expression, a pattern or a target of a node and the trees of its parts, which are taken from the end of a
 // list: the last part first.
 // Where memory runs out, it is asked for before a tree is in hand, as far as that goes.
-ghost use Rattle.std.specs.Prelude.{◌≡◌, ◌++◌, true, IfOk};
-ghost use Rattle.swc_ast.specs.Parts.{simple_tree};
+ghost use Rattle.std.specs.Prelude.{◌≡◌, ◌++◌, true, false, IfOk, MatchOption};
 ghost use Rattle.swc_ast.specs.Tree.{node, cons, nil, cond};
-ghost use Rattle.swc_ast.specs.TreeOf.{expr_tree, boxed_tree, pat_tree, target_tree};
+ghost use Rattle.swc_ast.specs.TreeOf.{expr_tree, pat_tree, target_tree};
 ghost use Rattle.swc_nodes.specs.NodeTree.{node_tree};
-ghost use Rattle.swc_nodes.specs.NodeParts.{expr, pat, simple, pattern, form, view_ok, slots, one_expr};
+ghost use Rattle.swc_nodes.specs.NodeParts.{expr, pat, form, view_ok, slots, one_expr};
+ghost use Rattle.swc_nodes.specs.declared.node.Node.{Node as nodes};
 ghost use Rattle.swc_trees.specs.Building.{AssemblesExpr, Assembles, Offers, Assembled};
-ghost use Rattle.swc_trees.specs.Kinds.{is_compound, is_operation, is_choice, is_call};
+ghost use Rattle.swc_trees.specs.Kinds.{is_compound, is_operation, is_choice, is_call, is_target, is_chain, is_invalid, is_invalid_pat};
 
 use crate::built::{Built, pop_expr, pop_if_some, pop_target};
 use crate::items::{all, boxed_part, boxed_pat};
@@ -16,7 +16,7 @@ use crate::parts::both;
 use crate::pieces::{args_if_some, arrow_body, callee, chain, member, paren, super_prop, template};
 use crate::refusable::boxed;
 use std::alloc::{AllocError, Global};
-use swc_ast::expr::{AssignTarget, Expr, Invalid, SimpleAssignTarget};
+use swc_ast::expr::{AssignTarget, Expr, Invalid, OptChainExpr, SimpleAssignTarget};
 use swc_ast::ident::BindingIdent;
 use swc_ast::lit::Lit;
 use swc_ast::pat::{Pat, RestPat};
@@ -47,7 +47,6 @@ pub(crate) fn assemble_expr<F: Spanned + Drop, C: Spanned + Drop, K: Spanned + D
         Node::Num(l) => Ok(Expr::Lit(Lit::Num(l))),
         Node::BigInt(l) => Ok(Expr::Lit(Lit::BigInt(l))),
         Node::Regex(r) => Ok(Expr::Lit(Lit::Regex(r))),
-        Node::Invalid(i) => Ok(Expr::Invalid(Invalid { span: i.span })),
         node => assemble_compound(alloc, built, node),
     }
 }
@@ -208,7 +207,7 @@ fn conditional<F: Spanned + Drop, C: Spanned + Drop, K: Spanned + Drop>(
     }
 }
 
-/// A call, or an arrow function.
+/// A call, an arrow function, or an operand that was refused.
 fn assemble_call<F: Spanned + Drop, C: Spanned + Drop, K: Spanned + Drop>(
     alloc: Global,
     built: &mut Vec<Built<F, C, K>>,
@@ -254,7 +253,7 @@ fn assemble_call<F: Spanned + Drop, C: Spanned + Drop, K: Spanned + Drop>(
                 is_async,
             })
         }
-        _ => unreachable!(),
+        node => Ok(Expr::Invalid(into_invalid(node).unwrap())),
     }
 }
 
@@ -298,40 +297,18 @@ pub(crate) fn assemble_pat<F: Spanned + Drop, C: Spanned + Drop, K: Spanned + Dr
             Ok(Pat::Assign { span, left, right })
         }
         Node::PatExpr(id) => Ok(Pat::Expr(pop_expr(built, id))),
-        Node::PatInvalid(i) => Ok(Pat::Invalid(i)),
-        _ => unreachable!(),
+        node => Ok(Pat::Invalid(into_invalid_pat(node).unwrap())),
     }
 }
 
-/// What is assigned to as it is, from its node.
-pub(crate) fn assemble_simple<F: Spanned + Drop, C: Spanned + Drop, K: Spanned + Drop>(
-    alloc: Global,
-    built: &mut Vec<Built<F, C, K>>,
-    node: Node<F, C, K>,
-) -> Result<SimpleAssignTarget<Box<Expr<F, C, K>>>, AllocError>
-    requires offers { Offers (slots node) built.old.items }
-    requires simple { view_ok simple (form node) ≡ true }
-    ensures { IfOk result (λ y. Assembled F.place C.place K.place (slots node) (λ at. simple_tree (boxed_tree _ _ _
-        F.place C.place K.place) y ≡ node_tree F.place C.place K.place at node) built.old.items built.new.items) }
-{
-    match node {
-        Node::Ident(id) => Ok(SimpleAssignTarget::Ident(BindingIdent { id })),
-        Node::Member(m) => Ok(SimpleAssignTarget::Member(member(built, m))),
-        Node::SuperProp(p) => Ok(SimpleAssignTarget::SuperProp(super_prop(built, p))),
-        Node::Paren(p) => Ok(SimpleAssignTarget::Paren(paren(built, p))),
-        Node::OptChain(c) => Ok(SimpleAssignTarget::OptChain(chain(alloc, built, c)?)),
-        _ => unreachable!(),
-    }
-}
-
-/// An array or object pattern that is assigned to, from its node.
-pub(crate) fn assemble_pattern<F: Spanned + Drop, C: Spanned + Drop, K: Spanned + Drop>(
+/// What is left of an assignment operator, from its node.
+pub(crate) fn assemble_target<F: Spanned + Drop, C: Spanned + Drop, K: Spanned + Drop>(
     alloc: Global,
     built: &mut Vec<Built<F, C, K>>,
     node: Node<F, C, K>,
 ) -> Result<AssignTarget<F, C, K>, AllocError>
     requires offers { Offers (slots node) built.old.items }
-    requires pattern { view_ok pattern (form node) ≡ true }
+    requires target { is_target (form node) ≡ true }
     ensures { IfOk result (λ y. Assembled F.place C.place K.place (slots node) (λ at. target_tree _ _ _ F.place C.place
         K.place y ≡ node_tree F.place C.place K.place at node) built.old.items built.new.items) }
 {
@@ -344,6 +321,45 @@ pub(crate) fn assemble_pattern<F: Spanned + Drop, C: Spanned + Drop, K: Spanned 
             let props = all(alloc, built, props)?;
             Ok(AssignTarget::Object { span, props })
         }
-        _ => unreachable!(),
+        Node::Ident(id) => Ok(AssignTarget::Simple(SimpleAssignTarget::Ident(BindingIdent { id }))),
+        Node::Member(m) => Ok(AssignTarget::Simple(SimpleAssignTarget::Member(member(built, m)))),
+        Node::SuperProp(p) => Ok(AssignTarget::Simple(SimpleAssignTarget::SuperProp(super_prop(
+            built, p,
+        )))),
+        Node::Paren(p) => Ok(AssignTarget::Simple(SimpleAssignTarget::Paren(paren(built, p)))),
+        node => {
+            let chain = chain(alloc, built, into_chain(node).unwrap())?;
+            Ok(AssignTarget::Simple(SimpleAssignTarget::OptChain(chain)))
+        }
+    }
+}
+
+/// The optional chain that a node is, if it is one.
+fn into_chain<F: Drop, C: Drop, K: Drop>(node: Node<F, C, K>) -> Option<OptChainExpr<ExprId>>
+    ensures { MatchOption result (is_chain node ≡ false) (λ chain. node ≡ nodes.OptChain chain) }
+{
+    match node {
+        Node::OptChain(chain) => Some(chain),
+        _ => None,
+    }
+}
+
+/// The operand that was refused, if the node is one.
+fn into_invalid<F: Drop, C: Drop, K: Drop>(node: Node<F, C, K>) -> Option<Invalid>
+    ensures { MatchOption result (is_invalid node ≡ false) (λ invalid. node ≡ nodes.Invalid invalid) }
+{
+    match node {
+        Node::Invalid(invalid) => Some(invalid),
+        _ => None,
+    }
+}
+
+/// The pattern that was refused, if the node is one.
+fn into_invalid_pat<F: Drop, C: Drop, K: Drop>(node: Node<F, C, K>) -> Option<Invalid>
+    ensures { MatchOption result (is_invalid_pat node ≡ false) (λ invalid. node ≡ nodes.PatInvalid invalid) }
+{
+    match node {
+        Node::PatInvalid(invalid) => Some(invalid),
+        _ => None,
     }
 }

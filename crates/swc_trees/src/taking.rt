@@ -9,13 +9,13 @@ ghost use Rattle.swc_trees.specs.Building.{part_kind, built_kind, built_tree, Ar
 ghost use Rattle.swc_trees.specs.Lifting.{Reads};
 ghost use Rattle.swc_trees.specs.Moving.{TakesOut, boxed_in, pat_in, prop_or_spread_in, prop_node_as, pat_prop_in, pat_prop_node_as, IsHead};
 
-use crate::assembling::{assemble_expr, assemble_pat, assemble_pattern, assemble_simple};
+use crate::assembling::{assemble_expr, assemble_pat, assemble_target};
 use crate::built::{Built, pop_expr, pop_pat};
 use crate::items::{Item, all};
 use crate::pieces::template;
 use crate::refusable::boxed;
 use std::alloc::{AllocError, Global};
-use swc_ast::expr::{AssignTarget, Expr, ExprOrSpread, Tpl};
+use swc_ast::expr::{Expr, ExprOrSpread, Tpl};
 use swc_ast::for_head::ForHead;
 use swc_ast::function::Param;
 use swc_ast::pat::{ObjectPatProp, Pat};
@@ -23,7 +23,7 @@ use swc_ast::prop::{ComputedPropName, PropName, PropOrSpread};
 use swc_ast::spanned::Spanned;
 use swc_nodes::apart::{PartId, Parts, parts_of};
 use swc_nodes::aside::Aside;
-use swc_nodes::node::{ExprId, ForHeadId, Node, PatId, PatPropNode, PropNode, TargetNode};
+use swc_nodes::node::{ExprId, ForHeadId, Node, PatId, PatPropNode, PropNode};
 use swc_nodes::nodes::Nodes;
 
 /// A node that was taken out, and the part that it was taken for.
@@ -266,12 +266,6 @@ fn assemble<F: Spanned + Drop, C: Spanned + Drop, K: Spanned + Drop>(
             Ok(Built::Expr(expr))
         }
         PartId::Pat(_) => Ok(Built::Pat(assemble_pat(alloc, built, node)?)),
-        PartId::Target(TargetNode::Simple(_)) => {
-            let target = assemble_simple(alloc, built, node)?;
-            Ok(Built::Target(AssignTarget::Simple(target)))
-        }
-        PartId::Target(TargetNode::Pat(_)) => {
-            Ok(Built::Target(assemble_pattern(alloc, built, node)?))
-        }
+        PartId::Target(_) => Ok(Built::Target(assemble_target(alloc, built, node)?)),
     }
 }

@@ -33,11 +33,6 @@ returns-in-Ident g c =
     made-is _ c.in-Ident.is (made-none (λ at. ident_expr_tree _ _ _ g.F.Spanned.place g.C.Spanned.place
     g.K.Spanned.place c.in-Ident.i))
 
-pub returns-in-Invalid : goal.returns-in-Invalid
-returns-in-Invalid g c =
-    made-is _ c.in-Invalid.is (made-none (λ at. invalid_tree _ _ _ g.F.Spanned.place g.C.Spanned.place g.K.Spanned.place
-    (record { span = c.in-Invalid.i.span })))
-
 pub returns-in-Str : goal.returns-in-Str
 returns-in-Str g c =
     made-is _ c.in-Str.is (made-none (λ at. lit_expr_tree _ _ _ g.F.Spanned.place g.C.Spanned.place g.K.Spanned.place

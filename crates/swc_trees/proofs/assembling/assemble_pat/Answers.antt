@@ -13,11 +13,6 @@ returns-in-PatIdent g c =
     made-is _ c.in-PatIdent.is (made-none (λ at. ident_pat_tree _ _ _ g.F.Spanned.place g.C.Spanned.place
     g.K.Spanned.place c.in-PatIdent.b))
 
-pub returns-in-PatInvalid : goal.returns-in-PatInvalid
-returns-in-PatInvalid g c =
-    made-is _ c.in-PatInvalid.is (made-none (λ at. invalid_pat_tree _ _ _ g.F.Spanned.place g.C.Spanned.place
-    g.K.Spanned.place c.in-PatInvalid.i))
-
 pub returns-in_ok-elems-in-PatArray : goal.returns-in_ok-elems-in-PatArray
 returns-in_ok-elems-in-PatArray g c =
     made-is _ c.in-PatArray.is (made-one c.in_ok-elems-in-PatArray.ensures
