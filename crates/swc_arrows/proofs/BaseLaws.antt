@@ -330,15 +330,3 @@ module _ {S F C K : Type 0} {model : Model S} {sure : Bool} (hook : Hook F C K) 
     heard = heard_after (on_told {g = h.reader} l t (λ x ts same e told. refl)) h.heard;
     operand = h.operand;
   }
-
-module _ {S : Type 0} {model : Model S} {sure : Bool} where
-  -- from b to c what f reads is what r reads there, where it is known that q read what is before: so it is what w reads
-  pub on_known : {A B : Type 0} {f r w : Reader A} {q : Reader B} {t : B} {b c : Buffer S} → On model sure f r b c
-      → On model sure q (give t) b c → ((x : Scope) (ts us : List TokenAndSpan) → x.head ≡ false
-      → q x ts ≡ Some (t, us) → (y : Scope) (ys : List TokenAndSpan) → r y ys ≡ w y ys) → On model sure f w b c
-  on_known {b = b} {c = c} o p same = record {
-    leads = o.leads;
-    clean = λ l s ys k. o.clean l s ys k
-        ∙ same (scope model b) (p.leads.taken ++ ys) ys refl (p.clean l s ys k) (scope model c) ys;
-    faulty = o.faulty;
-  }

@@ -17,22 +17,11 @@ plain_dot t = refl
 pub plain_chain : (t : TokenAndSpan) → chain_at (Some (plain t)) ≡ chain_at (Some t)
 plain_chain t = rw (plain_dot t.token) refl
 
-link_plain : (b : Bool) (o u : Option TokenAndSpan) → at_token is_question o ≡ false → link_at b o u ≡ link_at b o None
-link_plain b None u h = refl
-link_plain b (Some t) u h = rw h refl
-
 link_chain : (b : Bool) (o u : Option TokenAndSpan) → at_token is_question o ≡ true → link_at b o u ≡ chain_at u
 link_chain b None u h = absurd cc
 link_chain b (Some t) u h = rw (question-is t.token h) refl
 
 module _ {S : Type 0} {model : Model S} where
-  -- no `?` is current
-  pub tells_plain : (laws : Laws model) (b : Buffer S) (n : Bool) (k : Option Link) → k ≡ link_at n (seen b) None
-      → at_token is_question (seen b) ≡ false → Told model (link_here n) k b b
-  tells_plain laws b n k e q =
-      told_here laws b k
-      (λ ts here. ap (λ o. link_at n o (first (rest ts))) here ∙ link_plain n (seen b) (first (rest ts)) q ∙ sym e)
-
   chained : {b c : Buffer S} {k : Option Link} (n : Bool) → Told model (λ ts. chain_at (first (rest ts))) k b c
       → at_token is_question (seen b) ≡ true → Told model (link_here n) k b c
   chained {b} n t q = record {

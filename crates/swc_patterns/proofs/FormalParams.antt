@@ -81,11 +81,6 @@ head_ill (seen.Last rest (Some comma)) x ts h = refl
 head_ill (seen.Earlier rest) x ts h = refl
 
 module _ {F C K : Type 0} where
-  pub params_close_splits : (before : Trees F C K) (x : Scope) (ts : List TokenAndSpan)
-      → params_close before x ts ≡ (expected is_rparen x ts >>= (λ p. Some (listed None p.0 before, p.1)))
-  unfolding params_close
-  params_close_splits before x ts = refl
-
   pub rest_end_splits : (s : Span) (t : Tree F C K) (x : Scope) (ts : List TokenAndSpan)
       → rest_end s t x ts ≡ (eaten is_equals x ts >>= (λ p. rest_by s t p.0 p.1))
   unfolding rest_end

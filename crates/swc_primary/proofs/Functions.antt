@@ -61,12 +61,6 @@ module _ {F C K : Type 0} where
   ok_is None s a g b ps = refl
 
 module _ {F C K : Type 0} {fg : Ghosts F} {cg : Ghosts C} {kg : Ghosts K} where
-  -- as the code counts them
-  pub getter-counts : (ns : Nodes F C K fg cg kg) (ps : List (Param PatId))
-      → not (is_some (first_param_pat ps)) ≡ accessor_ok (Some kind.Getter) (trees (map (λ p. pat_at ns p.pat) ps))
-  getter-counts ns [] = refl
-  getter-counts ns (p ∷ ps) = refl
-
   -- a setter that has none isn't as it has to be
   pub missed : (ns : Nodes F C K fg cg kg) (m : Option MethodKind) (ps : List (Param PatId)) → misses_param m ps ≡ true
       → accessor_ok m (trees (map (λ p. pat_at ns p.pat) ps)) ≡ false

@@ -174,23 +174,3 @@ module _ {F C K : Type 0} where
 
 module _ {F C K : Type 0} {fg : Ghosts F} {cg : Ghosts C} {kg : Ghosts K} (hook : Hook F C K)
     (lawful : LawfulHook fg.place cg.place kg.place hook) where
-  -- expressions in parentheses, as the clean parser reads them
-  pub items-clean : {ns : Nodes F C K fg cg kg} {k : ℕ} (s : Span) (list : Listed (ExprOrSpread ExprId)) (x : Scope)
-      (ts us ys : List TokenAndSpan) → Apart k ns (args_parts list.items)
-      → args_inside hook false x ts ≡ Some (args_at ns list, us) →
-      paren_closed (paren_of x s (args_at ns list)) ys
-      ≡ paren_closed (paren_from (first_start ns (map (λ e. e.expr) list.items.items))
-      (last_end ns (map (λ e. e.expr) list.items.items)) x s (args_at ns list)) ys
-  items-clean {ns} {k} s list x ts us ys a h =
-      let items = list.items.items in
-      let xs = map (λ (e : ExprOrSpread ExprId). e.expr) items in
-      let es = args_at ns list in
-      let ok = read-valid hook lawful (Args false) (with_in x) ts us es (sym (inside_args hook false x ts) ∙ h) in
-      let apart : Apart k ns (flat one_expr xs) = record {
-        chained =
-            ap (λ v. chain (seat_at ns) k v (count ns)) (held-parts items) ∙ a.chained;
-      } in
-      let Same : Trees F C K → Type 0 = λ hs. seq_of hs ≡ seq_between (first_start ns xs) (last_end ns xs) hs in
-      let same = subst Same (held-trees (tree_of ns) items) (seq-clean xs apart (held-valid (tree_of ns) items ok)) in
-      ap (λ v. paren_closed (λ us. if paren_ok x.syntax.pedantic es then Some
-      (paren_e (to s (span_of es)) v, us) else None) ys) same

@@ -35,10 +35,6 @@ flat-append f [] ys = refl
 flat-append f (x ∷ xs) ys = ap (λ v. f x ++ v) (flat-append f xs ys) ∙ sym (append_assoc (f x) (flat f xs) (flat f ys))
 
 module _ {F C K : Type 0} where
-  pub agrees-first : (at of : ℕ → Tree F C K) (ps qs : List Part) → AreGiven at of (ps ++ qs) → AreGiven at of ps
-  agrees-first at of [] qs h = tt
-  agrees-first at of (p ∷ ps) qs h = (h.0, agrees-first at of ps qs h.1)
-
   pub agrees-self : (of : ℕ → Tree F C K) (ps : List Part) → AreGiven of of ps
   agrees-self of [] = tt
   agrees-self of (p ∷ ps) = (refl, agrees-self of ps)
