@@ -167,11 +167,15 @@ impl<I: Tokens, B: Bodies<I>> Productions<I, B> {
         }
     }
 
-    /// Adds to a list. Refused only when out of memory.
+    /// Adds to a list. The first item takes no more memory than it needs, as many lists have one. Refused only when
+    /// out of memory.
     pub fn add<T: Drop>(&self, list: &mut Vec<T>, item: T) -> PResult<()>
         ensures added { OnOk result (list.new.items ≡ list.old.items ++ item ∷ []) }
         ensures refused { IfErr result (λ e. e ≡ no_memory (last_position self.now.input)) }
     {
+        if list.is_empty() && list.reserve_exact(1).is_err() {
+            return Err(self.input.out_of_memory());
+        }
         match list.push(item) {
             Ok(()) => Ok(()),
             Err(_) => Err(self.input.out_of_memory()),

@@ -22,7 +22,7 @@ use swc_ast::lit::Lit;
 use swc_ast::pat::{Pat, RestPat};
 use swc_ast::spanned::Spanned;
 use swc_context::span::Span;
-use swc_nodes::node::{ExprId, Node};
+use swc_nodes::node::{ExprId, InvalidNode, Node};
 
 /// An expression, from its node.
 pub(crate) fn assemble_expr<F: Spanned + Drop, C: Spanned + Drop, K: Spanned + Drop>(
@@ -253,7 +253,10 @@ fn assemble_call<F: Spanned + Drop, C: Spanned + Drop, K: Spanned + Drop>(
                 is_async,
             })
         }
-        node => Ok(Expr::Invalid(into_invalid(node).unwrap())),
+        node => {
+            let span = into_invalid(node).unwrap().span;
+            Ok(Expr::Invalid(Invalid { span }))
+        }
     }
 }
 
@@ -345,7 +348,7 @@ fn into_chain<F: Drop, C: Drop, K: Drop>(node: Node<F, C, K>) -> Option<OptChain
 }
 
 /// The operand that was refused, if the node is one.
-fn into_invalid<F: Drop, C: Drop, K: Drop>(node: Node<F, C, K>) -> Option<Invalid>
+fn into_invalid<F: Drop, C: Drop, K: Drop>(node: Node<F, C, K>) -> Option<InvalidNode>
     ensures { MatchOption result (is_invalid node ≡ false) (λ invalid. node ≡ nodes.Invalid invalid) }
 {
     match node {
