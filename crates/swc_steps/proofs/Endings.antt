@@ -171,6 +171,3 @@ module _ {F C K : Type 0} where
   held-valid by (x ∷ xs) h =
       let b = both_true {a = is_valid (item_tree by x)} h in
       true_both (item-valid x.spread (by x.expr) b.0) (held-valid by xs b.1)
-
-module _ {F C K : Type 0} {fg : Ghosts F} {cg : Ghosts C} {kg : Ghosts K} (hook : Hook F C K)
-    (lawful : LawfulHook fg.place cg.place kg.place hook) where
