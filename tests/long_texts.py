@@ -3,9 +3,9 @@
 
     tests/long_texts.py [PROGRAM]
 
-PROGRAM is the program show_expr, or the one that the gate built. The texts are short pieces again and again, of 25 and of 50 MB, and patterns that
-are assigned to within others, 5,000 and 10,000 deep, for which the stack may grow as far as the system lets it. Memory is the peak, in bytes for a byte
-of the text. Then texts of 1 MB that are a chain, of operators or of links, are read on a stack of 1 MB. Status 1 where a text isn't read.
+PROGRAM is the program show_expr, or the one that the gate built by Rattle's own compiler. The texts are short pieces again and again, of 25 and of
+50 MB, and patterns that are assigned to within others, 5,000 and 10,000 deep, for which the stack may grow as far as the system lets it. Memory is
+the peak, in bytes for a byte of the text. Then texts of 1 MB that are a chain, of operators or of links, are read on a stack of 1 MB. Status 1 where a text isn't read.
 """
 import os
 import sys
@@ -15,7 +15,7 @@ sys.dont_write_bytecode = True
 from measure import ended, faulty, grow_stack, print_row, run
 from peers import repeated
 
-PROGRAM = Path(__file__).parent.parent / 'crates/show_expr/out/show_expr'
+PROGRAM = Path(__file__).parent.parent / 'crates/show_expr/out/show_expr.by-rattle'
 MB = 1_000_000
 CHAINS = 'operators', 'links', 'optional links'
 WIDTHS = 19, -8, -7, -6, -5, 9

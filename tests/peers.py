@@ -3,7 +3,7 @@
 
     tests/peers.py [PROGRAM]
 
-PROGRAM is the program show_expr, or the one that the gate built. Each text is read in turn by show_expr, which prints the tree, and by acorn, which
+PROGRAM is the program show_expr, or the one that the gate built by Rattle's own compiler. Each text is read in turn by show_expr, which prints the tree, and by acorn, which
 doesn't; by V8 and SpiderMonkey, which compile it, functions too; and by esbuild, which prints it anew. Of each the least processor time of six
 turns counts. Memory is what show_expr takes at its peak, less what it takes for a short text, in bytes for a byte of the text. Twice is its time
 for the text to that for one of half the size. Instructions are those of a text of 100 kB, in millions, as callgrind counts them.
@@ -115,7 +115,7 @@ def cell(value, form='%.2f'):
 
 
 def main():
-    program = os.path.abspath(sys.argv[1] if len(sys.argv) > 1 else os.path.join(HERE, '../crates/show_expr/out/show_expr'))
+    program = os.path.abspath(sys.argv[1] if len(sys.argv) > 1 else os.path.join(HERE, '../crates/show_expr/out/show_expr.by-rattle'))
     os.environ.update(NODE_PATH='/usr/share/nodejs', GOMAXPROCS='1', GOGC='off')
     ratios = {peer: [] for peer in PEERS}
     measure.print_row(WIDTHS, 'text', 'bytes', 'acorn', 'V8', 'SpiderMonkey', 'esbuild', 'twice', 'memory', 'instructions')

@@ -3,6 +3,7 @@ pub mod Assembled
 pub mod Leaves
 pub mod Lifting
 pub mod Lighter
+pub mod OtherKinds
 pub mod Puts
 pub mod Rebuilt
 pub mod Shells

@@ -1,7 +1,7 @@
 // Makes an expression, a pattern or a target of a node and the trees of its parts, which are taken from the end of a
 // list: the last part first.
 // Where memory runs out, it is asked for before a tree is in hand, as far as that goes.
-ghost use Rattle.std.specs.Prelude.{◌≡◌, ◌++◌, true, false, IfOk, MatchOption};
+ghost use Rattle.std.specs.Prelude.{◌≡◌, ◌++◌, true, false, IfOk, MatchResult};
 ghost use Rattle.swc_ast.specs.Tree.{node, cons, nil, cond};
 ghost use Rattle.swc_ast.specs.TreeOf.{expr_tree, pat_tree, target_tree};
 ghost use Rattle.swc_nodes.specs.NodeTree.{node_tree};
@@ -337,32 +337,36 @@ pub(crate) fn assemble_target<F: Spanned + Drop, C: Spanned + Drop, K: Spanned +
     }
 }
 
-/// The optional chain that a node is, if it is one.
-fn into_chain<F: Drop, C: Drop, K: Drop>(node: Node<F, C, K>) -> Option<OptChainExpr<ExprId>>
-    ensures { MatchOption result (is_chain node ≡ false) (λ chain. node ≡ nodes.OptChain chain) }
+/// The optional chain that a node is; a node of another kind comes back.
+#[tactic(auto, using(crate::proofs::OtherKinds::not_chain))]
+fn into_chain<F, C, K>(node: Node<F, C, K>) -> Result<OptChainExpr<ExprId>, Node<F, C, K>>
+    ensures { MatchResult result (λ chain. node ≡ nodes.OptChain chain) (λ other. is_chain node ≡ false) }
 {
     match node {
-        Node::OptChain(chain) => Some(chain),
-        _ => None,
+        Node::OptChain(chain) => Ok(chain),
+        other => Err(other),
     }
 }
 
-/// The operand that was refused, if the node is one.
-fn into_invalid<F: Drop, C: Drop, K: Drop>(node: Node<F, C, K>) -> Option<InvalidNode>
-    ensures { MatchOption result (is_invalid node ≡ false) (λ invalid. node ≡ nodes.Invalid invalid) }
+/// The operand that was refused that a node is; a node of another kind comes back.
+#[tactic(auto, using(crate::proofs::OtherKinds::not_invalid))]
+fn into_invalid<F, C, K>(node: Node<F, C, K>) -> Result<InvalidNode, Node<F, C, K>>
+    ensures { MatchResult result (λ invalid. node ≡ nodes.Invalid invalid) (λ other. is_invalid node ≡ false) }
 {
     match node {
-        Node::Invalid(invalid) => Some(invalid),
-        _ => None,
+        Node::Invalid(invalid) => Ok(invalid),
+        other => Err(other),
     }
 }
 
-/// The pattern that was refused, if the node is one.
-fn into_invalid_pat<F: Drop, C: Drop, K: Drop>(node: Node<F, C, K>) -> Option<Invalid>
-    ensures { MatchOption result (is_invalid_pat node ≡ false) (λ invalid. node ≡ nodes.PatInvalid invalid) }
+/// The pattern that was refused that a node is; a node of another kind comes back.
+#[tactic(auto, using(crate::proofs::OtherKinds::not_invalid_pat))]
+fn into_invalid_pat<F, C, K>(node: Node<F, C, K>) -> Result<Invalid, Node<F, C, K>>
+    ensures { MatchResult result (λ invalid. node ≡ nodes.PatInvalid invalid)
+        (λ other. is_invalid_pat node ≡ false) }
 {
     match node {
-        Node::PatInvalid(invalid) => Some(invalid),
-        _ => None,
+        Node::PatInvalid(invalid) => Ok(invalid),
+        other => Err(other),
     }
 }

@@ -3,7 +3,8 @@ use Rattle.swc_ast.proofs.Equations.{call_expr_tree, new_tree, tagged_tree, arro
 use Rattle.swc_ast.specs.Tree.{call, new, tagged, arrow, node}
 use Rattle.swc_ast.specs.{Parts.body_tree, TreeOf.boxed_tree}
 use Rattle.swc_nodes.specs.NodeParts.{flat, if_some, one_expr, one_pat, args_parts, body_parts, callee_parts}
-use Rattle.swc_trees.proofs.Assembled.{offers-along, offers-is, offers-first, offers-second, made-two, made-is, ok-is, ok-of}
+use Rattle.swc_trees.proofs.Assembled.{offers-along, offers-is, offers-first, offers-second, made-none, made-two, made-is, ok-is, ok-of}
+use Rattle.swc_trees.proofs.Leaves.{invalid_tree}
 use Rattle.swc_trees.proofs.Agreed.{two, headed}
 use Rattle.swc_trees.proofs.assembling.assemble_call.Goals as goal
 
@@ -84,3 +85,8 @@ returns-in_ok-params-in-Arrow g c =
     (λ at e f. arrow_tree _ _ _ g.F.Spanned.place g.C.Spanned.place g.K.Spanned.place c.in-Arrow.span
     c.in_ok-params-in-Arrow.params c.in_ok-params-in-Arrow.body c.in-Arrow.is_async ∙ ap
     (node (arrow c.in-Arrow.is_async) c.in-Arrow.span) (headed (sym (ap tree (ok-is _ _ _ refl b)) ∙ f) e)))
+
+pub returns-in_default : goal.returns-in_default
+returns-in_default g c =
+    made-is _ (rw c.unwrap.ensures at c.into_invalid.ensures) (made-none (λ at. invalid_tree _ _ _ g.F.Spanned.place
+    g.C.Spanned.place g.K.Spanned.place (record { span = c.unwrap.result.span })))

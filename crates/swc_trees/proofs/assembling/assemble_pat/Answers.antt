@@ -57,3 +57,8 @@ returns-in_ok-left-in-PatAssign g c =
     c.in_ok-left-in-PatAssign.left c.in_ok-left-in-PatAssign.right ∙ ap (node default c.in-PatAssign.span)
     (two e (sym (ap (boxed_tree _ _ _ g.F.Spanned.place g.C.Spanned.place g.K.Spanned.place)
     (ok-is _ _ _ refl c.in_ok-left-in-PatAssign.ensures.1)) ∙ f))))
+
+pub returns-in_default : goal.returns-in_default
+returns-in_default g c =
+    made-is _ (rw c.unwrap.ensures at c.into_invalid_pat.ensures) (made-none (λ at. invalid_pat_tree _ _ _
+    g.F.Spanned.place g.C.Spanned.place g.K.Spanned.place c.unwrap.result))

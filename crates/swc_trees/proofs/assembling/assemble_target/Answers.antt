@@ -36,3 +36,9 @@ pub returns-in-Paren : goal.returns-in-Paren
 returns-in-Paren g c =
     made-is _ c.in-Paren.is (made-one c.paren.ensures (λ at e. simple_target_tree _ _ _ g.F.Spanned.place
     g.C.Spanned.place g.K.Spanned.place (simple.Paren c.paren.result) ∙ e))
+
+pub returns-in_ok-chain-in_default : goal.returns-in_ok-chain-in_default
+returns-in_ok-chain-in_default g c =
+    made-is _ (rw c.unwrap.ensures at c.into_chain.ensures) (made-one c.in_ok-chain-in_default.ensures
+    (λ at e. simple_target_tree _ _ _ g.F.Spanned.place g.C.Spanned.place g.K.Spanned.place
+    (simple.OptChain c.in_ok-chain-in_default.chain) ∙ e))
