@@ -1,5 +1,5 @@
 -- What the calls of a pass leave: its context, and what is left to do.
-use Rattle.std.specs.Prelude.{◌≡◌, ℕ, ◌+◌, ◌*◌, ◌≤◌, List, [], true, false, vec_len}
+use Rattle.std.specs.Prelude.{◌≡◌, ℕ, ◌+◌, ◌*◌, ◌≤◌, List, vec_len}
 use Rattle.swc_bodies.specs.{Deferred.waiting, declared.deferred.Waiting.Waiting}
 use Rattle.swc_context.specs.declared.context.Context.{Context}
 use Rattle.swc_ecma_parser.specs.Calls.{buffer_of, hook_of}

@@ -1,6 +1,6 @@
 -- What the clean parser reads where an assignment expression begins with an operand that may have been the parameters
 -- of an arrow function (13.2.9, 13.3.8, 15.9): the grammar derives it, and so it holds nothing that was refused.
-use Rattle.std.proofs.Common.{◌≡◌, ℕ, Bool, true, false, not, ◌&&◌, ◌||◌, if◌then◌else◌, List, [], ◌∷◌, ◌++◌, Option, Some, None, map, refl, sym, ap, subst, ◌∙◌, arith}
+use Rattle.std.proofs.Common.{◌≡◌, ℕ, Bool, true, false, not, ◌&&◌, ◌||◌, if◌then◌else◌, List, [], ◌∷◌, Option, Some, None, map, refl, sym, ap, subst, ◌∙◌, arith}
 use Rattle.swc_context.specs.{declared.span.Span.Span, declared.word.Word.Word as word}
 use Rattle.swc_input.specs.{declared.token.Token.Token, declared.token.TokenAndSpan.TokenAndSpan, Kinds.at_token, Source.Model, declared.buffer.Buffer.Buffer}
 use Rattle.swc_input.specs.declared.token.Token.TheVariants as token
@@ -23,9 +23,9 @@ use Rattle.swc_nodes.specs.GrowingNodes.{first_start, last_end, Apart}
 use Rattle.swc_nodes.specs.{NodeParts.args_parts, declared.node.ExprId.ExprId, declared.nodes.Nodes.Nodes}
 use Rattle.swc_steps.specs.Args.{args_inside, paren_closed, paren_of, paren_from}
 use Rattle.swc_input.specs.Calls.{Here}
-use Rattle.swc_steps.specs.Parsing.{scope, args_at, Told, On, Heard}
+use Rattle.swc_steps.specs.Parsing.{args_at, Told, On, Heard}
 use Rattle.swc_steps.specs.{Keys.expected, Keys.expected_by, Lists.eaten, Lists.eaten_by, declared.tokens.Listed.Listed}
-use Rattle.swc_steps.proofs.Steps.{Reader, give, on_call_read, on_then, on_told, heard_after, heard_more}
+use Rattle.swc_steps.proofs.Steps.{give, on_call_read, on_then, on_told, heard_after, heard_more}
 use Rattle.swc_steps.proofs.{Args.inside_args, Steps.Inner.inner_is}
 use Rattle.swc_arrows.proofs.Closes.{closed_clean}
 use Rattle.swc_arrows.specs.Readers.{async_base, async_call, base_look, base_plain, before_of, is_of_alone, list_opening, listed_base, of_base, operators_behind}

@@ -1,16 +1,16 @@
 -- What is taken as tokens is taken without the slashes at which regular expressions were found too, and the same is
 -- kept
 -- of it.
-use Rattle.std.proofs.Common.{◌≡◌, ◌≤◌, zero, suc, Bool, true, false, ◌&&◌, List, [], ◌∷◌, ◌++◌, Option, Some, None, refl, sym, ap, ◌∙◌}
+use Rattle.std.proofs.Common.{◌≡◌, ◌≤◌, Bool, true, false, ◌&&◌, List, [], ◌∷◌, ◌++◌, Option, Some, None, refl, sym, ap, ◌∙◌}
 use Rattle.std.proofs.lemmas.Bool.{eqb-true, leb-true}
 use Rattle.std.specs.Prelude.{nat_eq, nat_le}
-use Rattle.swc_context.specs.{declared.operator.AssignOp.AssignOp as assign, declared.operator.BinOpToken.BinOpToken as operator, declared.span.BytePos.BytePos, declared.word.Keyword.Keyword as keyword, declared.word.Word.Word as word}
+use Rattle.swc_context.specs.{declared.operator.AssignOp.AssignOp as assign, declared.operator.BinOpToken.BinOpToken as operator, declared.span.BytePos.BytePos}
 use Rattle.swc_input.specs.Kept.{ends_behind, in_front, cleared, kept}
 use Rattle.swc_input.specs.{declared.token.Token.Token, declared.token.Token.Token as token, declared.token.TokenAndSpan.TokenAndSpan}
 use Rattle.swc_bodies.specs.Laws.{taken-end, taken-next, taken-none, read, value_or, rest_or}
-use Rattle.swc_bodies.specs.Slashes.{is_slash, is_regex, agree, is_pair, is_found_at, unless_found, without_slashes, Replays, ReplayHook, may_end, ends_well}
-use Rattle.swc_bodies.specs.Taking.{sign_of, on_line, sign_at, after, is_end, closed, braced, body, taken_on, taken, function_first, class_first, block_first, token_forms}
-use Rattle.swc_bodies.specs.{declared.place.Sign.Sign, declared.place.Sign.Sign as sign, declared.place.Place.Place, declared.place.Place.Place as place, Body.Body, Readings.no_forms}
+use Rattle.swc_bodies.specs.Slashes.{is_slash, is_regex, agree, is_pair, is_found_at, unless_found, without_slashes, Replays, ReplayHook}
+use Rattle.swc_bodies.specs.Taking.{sign_of, on_line, sign_at, after, body, taken_on, taken, function_first, class_first, block_first, token_forms}
+use Rattle.swc_bodies.specs.{declared.place.Sign.Sign as sign, declared.place.Place.Place, declared.place.Place.Place as place, Body.Body, Readings.no_forms}
 
 pub both : (a b : Bool) → (a && b) ≡ true → (a ≡ true) × (b ≡ true)
 both true true h = (refl, refl)
@@ -230,51 +230,3 @@ no_forms_replay = record {
   class = λ c ts v rest h. cc;
   block = λ c ts v rest h. cc;
 }
-
--- what is taken as tokens ends with `}`
-closing-ends : (t : Token) (b : Bool) → on_line b (sign_of t) ≡ sign.CloseBrace → may_end false t ≡ true
-closing-ends token.RBrace b h = refl
-closing-ends (token.Word (word.Keyword keyword.Function)) true h = cc
-closing-ends (token.Word (word.Keyword keyword.Function)) false h = cc
-closing-ends t true h = cc
-closing-ends t false h = cc
-
-only-closing : (p : Place) (s : Sign) → after p s ≡ Some place.End → s ≡ sign.CloseBrace
-only-closing place.Async sign.Function h = cc
-only-closing place.Async s h = cc
-only-closing (place.Head depth) sign.CloseBrace h = refl
-only-closing (place.Head depth) sign.Close h = closed-head depth h
-  where
-    closed-head : (depth : _) → closed depth ≡ Some place.End → sign.Close ≡ sign.CloseBrace
-    closed-head zero h = cc
-    closed-head (suc depth) h = cc
-only-closing (place.Head depth) sign.Brace h = braced-head depth h
-  where
-    braced-head : (depth : _) → Some (braced depth) ≡ Some place.End → sign.Brace ≡ sign.CloseBrace
-    braced-head zero h = cc
-    braced-head (suc depth) h = cc
-only-closing (place.Head depth) s h = cc
-only-closing (place.Inside depth) sign.CloseBrace h = refl
-only-closing (place.Inside depth) s h = cc
-only-closing place.End s h = cc
-
-module _ (from : BytePos) where
-  ends-on : (t : TokenAndSpan) (ts : List TokenAndSpan) (p : Place) (ks : List TokenAndSpan) (to : BytePos) (v : Body)
-      → is_end p ≡ false → taken_on from (t ∷ ts) p ks to ≡ Some (v, []) → ends_well (t ∷ ts) ≡ true
-  ends-on t [] p ks to v e h = elim (after p (sign_at t))
-      as (λ o. after p (sign_at t) ≡ o → may_end false t.token ≡ true) [
-        | None ↦ (λ k. let none = taken-none from (t ∷ []) p ks to e k in cc)
-        | Some place.End ↦ (λ k. closing-ends t.token t.had_line_break (only-closing p (sign_at t) k))
-        | Some q ↦ (λ k. let n = taken-next from t [] p q ks to k in cc)
-      ] refl
-  ends-on t (u ∷ us) p ks to v e h = elim (after p (sign_at t))
-      as (λ o. after p (sign_at t) ≡ o → ends_well (u ∷ us) ≡ true) [
-        | None ↦ (λ k. let none = taken-none from (t ∷ u ∷ us) p ks to e k in cc)
-        | Some place.End ↦ (λ k.
-            let n = taken-next from t (u ∷ us) p place.End ks to k in
-            let l : [] ≡ u ∷ us =
-            ap (rest_or []) (sym h ∙ n ∙ taken-end from (u ∷ us) (kept ks t) t.span.hi) in absurd cc)
-        | Some q ↦ (λ k.
-            let n = taken-next from t (u ∷ us) p q ks to k in
-            ends-on u us q (kept ks t) t.span.hi v refl (sym n ∙ h))
-      ] refl

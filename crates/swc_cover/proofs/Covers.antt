@@ -1,5 +1,5 @@
 -- What is kept, and what of a pattern that binds stays as it is.
-use Rattle.std.proofs.Common.{◌≡◌, Bool, true, false, ◌&&◌, None, refl, ap, ◌∙◌}
+use Rattle.std.proofs.Common.{◌≡◌, true, ◌&&◌, None, refl, ap, ◌∙◌}
 use Rattle.swc_context.specs.declared.span.Span.{Span}
 use Rattle.swc_ast.specs.Tree.{Kind, hole, ident, array_with, object_with, key_value, binding_prop, rest, default, Tree, node, Trees, nil, cons, span_of}
 use Rattle.swc_ast.specs.Trees.{is_ident}

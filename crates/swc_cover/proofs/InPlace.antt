@@ -8,7 +8,7 @@ use Rattle.swc_cover.proofs.Dressed.{assigned-how, by_node, law-sought, want-hel
 use Rattle.swc_cover.proofs.Fitting.{form-at, stood-at, stood-tree}
 use Rattle.swc_cover.proofs.{Kept.kept-to, Listed.bound-view}
 use Rattle.swc_nodes.proofs.Held.{apart-from, from-apart, from-down, from_self, pat_not_expr}
-use Rattle.swc_nodes.specs.NodeParts.{Form, expr, pat, expr_part, pat_part, form, view_ok}
+use Rattle.swc_nodes.specs.NodeParts.{Form, expr, pat, expr_part, pat_part, view_ok}
 use Rattle.swc_nodes.specs.GrowingNodes.{seat_at, tree_at, first_at, Apart, From, Made}
 use Rattle.swc_nodes.specs.Roles.{Due, becomes_as, expr_due, held_view, part_of_due, suit}
 use Rattle.swc_nodes.specs.Turning.{AllTurned, KeptBelow, Turned, became, kind_of, node_at}

@@ -12,7 +12,7 @@ use Rattle.swc_cover.specs.{Fits.Way, Checking.plain_op, declared.faults.Fault.F
 use Rattle.swc_cover.proofs.Fitting.{Below, chain-in, in-flat, elems_of, props_of, pats_of, pat_props_of, elem-below, prop-in, pat-elem-below, pat-prop-below, nil-by, tree-is, left-shape, left-below}
 use Rattle.swc_cover.proofs.Among.{in-right}
 use Rattle.swc_nodes.specs.NodeTree.{marked_tree, prop_of}
-use Rattle.swc_nodes.specs.NodeParts.{expr, key_parts, expr_part, target_part, flat, item_parts, part_parts}
+use Rattle.swc_nodes.specs.NodeParts.{key_parts, expr_part, target_part, flat, item_parts, part_parts}
 use Rattle.swc_nodes.specs.GrowingNodes.{count, tree_at, From, Stood, seat_at, Apart}
 use Rattle.swc_nodes.specs.{declared.node.ExprId.ExprId, declared.node.PatElem.PatElem, declared.node.PatElem.PatElem as elem, declared.node.PatId.PatId, declared.node.Node.Node, declared.node.Node.Node as n, declared.node.PatPropNode.PatPropNode, declared.node.PatPropNode.PatPropNode as pat_prop, declared.node.PropNode.PropNode, declared.node.PropNode.PropNode as prop, declared.node.TargetNode.TargetNode, declared.node.TargetNode.TargetNode as target, declared.nodes.Nodes.Nodes}
 

@@ -13,7 +13,7 @@ use Rattle.swc_cover.specs.{Fits.Binding, Fits.elems_fit, ReservedNames.names_ok
 use Rattle.swc_nodes.specs.NodeParts.{expr_part, pat_part, flat, item_parts}
 use Rattle.swc_nodes.specs.GrowingNodes.{count, seat_at, tree_at, first_at, Apart, From, Made}
 use Rattle.swc_nodes.specs.{declared.node.ExprId.ExprId, declared.node.PatId.PatId, declared.nodes.Nodes.Nodes}
-use Rattle.swc_input.specs.Calls.{Checks, recorded}
+use Rattle.swc_input.specs.Calls.{Checks}
 use Rattle.swc_steps.specs.declared.productions.Productions.{Productions}
 
 module _ {F C K : Type 0} {fg : Ghosts F} {cg : Ghosts C} {kg : Ghosts K} where

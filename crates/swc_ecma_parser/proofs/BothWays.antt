@@ -1,12 +1,12 @@
 -- From what the two calls promise to the law of the cover grammar and its converse.
-use Rattle.std.proofs.Common.{◌≡◌, ℕ, Bool, true, false, not, ◌||◌, List, [], ◌∷◌, ◌++◌, Option, Some, None, Result, Ok, Err, MatchResult, refl, sym, ap, subst, ◌∙◌}
+use Rattle.std.proofs.Common.{◌≡◌, ℕ, Bool, true, false, not, ◌||◌, List, [], ◌∷◌, ◌++◌, Some, None, Result, Ok, Err, MatchResult, refl, sym, ap, subst, ◌∙◌}
 use Rattle.std.specs.{declared.alloc.Global.Global, declared.vec.Vec.Vec}
 use Rattle.swc_context.specs.{Contexts.view, declared.context.Context.Context, declared.context.EsVersion.EsVersion, declared.context.Syntax.Syntax, declared.error.Error.Error, declared.error.SyntaxError.TheVariants.OutOfMemory}
 use Rattle.swc_input.specs.Buffer as buffer
 use Rattle.swc_input.specs.Buffer.{Known, held, last_position, source}
 use Rattle.swc_input.specs.Listed.{listed_model, listed_laws, listed_state, new_state}
 use Rattle.swc_input.specs.{Kinds.at_token, Laws.Known-after, Laws.Known-Future, Source.Model, declared.buffer.Buffer.Buffer, declared.listed.TokensInput.TokensInput, declared.token.TokenAndSpan.TokenAndSpan}
-use Rattle.swc_ast.specs.Tree.{Tree, node, Trees, nil, cons, erase, erase_all, no_span, trees}
+use Rattle.swc_ast.specs.Tree.{Tree, node, Trees, nil, cons, erase, erase_all, no_span}
 use Rattle.swc_ast.specs.Trees.{items_of, listed, unmarked, unmarked_kind, all_unmarked}
 use Rattle.swc_ast.specs.{Pedantic.none_left, declared.function.Param.Param, declared.pat.Pat.Pat, declared.spanned.Spanned.Ghosts}
 use Rattle.swc_bodies.specs.Readings.{Hook}

@@ -1,7 +1,7 @@
 -- The expression in the head of a `for` (ECMA-262, 14.7.4 and 14.7.5), by what the context says of `for await`: from
 -- what is
 -- read to what is promised.
-use Rattle.std.proofs.Common.{◌≡◌, Bool, true, false, List, Some, Result, Err, ap, ◌∙◌}
+use Rattle.std.proofs.Common.{◌≡◌, Bool, true, false, Some, Result, Err, ap, ◌∙◌}
 use Rattle.std.specs.{declared.alloc.Global.Global, declared.boxed.Box.Box}
 use Rattle.swc_context.specs.{declared.error.Error.Error, declared.span.Span.Span}
 use Rattle.swc_input.specs.{declared.buffer.Buffer.Buffer, Buffer.previous, Source.Model}

@@ -1,5 +1,5 @@
 -- From what the hook reads where a statement is to what the call promises.
-use Rattle.std.proofs.Common.{◌≡◌, ◌<◌, Bool, true, List, [], ◌∷◌, ◌++◌, Some, None, Result, OnOk, sym, subst, ◌∙◌}
+use Rattle.std.proofs.Common.{◌≡◌, ◌<◌, Bool, List, [], ◌++◌, Some, Result, OnOk, sym, subst, ◌∙◌}
 use Rattle.std.proofs.lemmas.List.{append-nil, append_cancel_right}
 use Rattle.swc_context.specs.{declared.error.Error.Error, declared.span.Span.Span}
 use Rattle.swc_input.specs.{declared.buffer.Buffer.Buffer, declared.token.TokenAndSpan.TokenAndSpan, Buffer.to_come, Source.Model}

@@ -3,7 +3,7 @@ use Rattle.std.proofs.Common.{◌≡◌, ℕ, ◌+◌, ◌<◌, ◌≤◌, List,
 use Rattle.std.proofs.lemmas.List.{append_assoc, map-append, take_all, take_more}
 use Rattle.swc_context.specs.{declared.error.Error.Error, declared.span.Span.Span}
 use Rattle.swc_input.specs.{Recordings.Judges, Recordings.NotesAll, Source.Model, declared.buffer.Buffer.Buffer}
-use Rattle.swc_ast.specs.Tree.{Tree, Trees, nil, cons, trees}
+use Rattle.swc_ast.specs.Tree.{Tree, Trees, trees}
 use Rattle.swc_steps.proofs.Emitted.{notes-none, notes-then}
 use Rattle.swc_input.specs.Calls.{Leads}
 use Rattle.swc_patterns.specs.RestFaults.{earlier_faults, faults_before, last_faults, last_refused, last_rest, rest_at, rests_faults, rests_refused}

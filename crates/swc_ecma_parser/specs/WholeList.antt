@@ -1,5 +1,5 @@
 -- All that a listed source gives, read as one expression or as one binding pattern: the headline, in its own words.
-use Rattle.std.specs.Prelude.{◌≡◌, Bool, true, false, not, List, [], map, Option, Some, Result, Ok, Err, IfOk, MatchResult}
+use Rattle.std.specs.Prelude.{◌≡◌, Bool, true, false, not, List, [], map, Some, Result, Ok, Err, IfOk, MatchResult}
 use Rattle.swc_context.specs.{Contexts.view, declared.context.Context.Context, declared.context.Syntax.Syntax, declared.error.Error.Error, declared.error.SyntaxError.TheVariants.OutOfMemory}
 use Rattle.swc_input.specs.{declared.token.TokenAndSpan.TokenAndSpan, Plain.plain, Source.Model, Source.Source}
 use Rattle.swc_ast.specs.{declared.spanned.Spanned.Ghosts, Tree.Tree}

@@ -1,11 +1,11 @@
 -- Lists of faults to which a fault is added, or none; and what the calls that record and refuse ensure, from what they
 -- call.
-use Rattle.std.proofs.Common.{◌≡◌, ◌≢◌, Bool, true, false, not, List, [], ◌∷◌, ◌++◌, Option, Some, None, Result, Ok, Err, OnOk, IfErr, refl, ap, ◌∙◌}
+use Rattle.std.proofs.Common.{◌≡◌, Bool, true, false, not, List, [], ◌∷◌, ◌++◌, Option, Some, None, Result, Ok, Err, OnOk, IfErr, refl, ap, ◌∙◌}
 use Rattle.std.proofs.{lemmas.List.append-nil, lemmas.List.Elements.All-nil, lemmas.List.Elements.All-cons}
-use Rattle.swc_context.specs.{declared.error.Error.Error, declared.error.SyntaxError.SyntaxError, declared.error.SyntaxError.SyntaxError as kind, declared.span.BytePos.BytePos}
+use Rattle.swc_context.specs.{declared.error.Error.Error, declared.span.BytePos.BytePos}
 use Rattle.swc_input.specs.Source.{Model, Laws, Keeps, IsFault, recorded_in, waiting_in}
 use Rattle.swc_input.specs.Buffer.{Read, Lives, Looked, current, source, last_position}
-use Rattle.swc_input.specs.Recording.{Recorded, Refused, no_memory, counted_kind, counted, error_in, is_some, error_here, error_list, error_token, is_fit, refusal}
+use Rattle.swc_input.specs.Recording.{Recorded, Refused, no_memory, error_in, is_some, error_here, error_list, error_token, is_fit, refusal}
 use Rattle.swc_input.specs.{declared.buffer.Buffer.Buffer, declared.token.Token.Token, declared.token.Token.Token as token, declared.token.TokenAndSpan.TokenAndSpan, Laws.keeps_same, Laws.Read-late}
 
 pub keeps_one : (es fs : List Error) (e : Error) → fs ≡ es ++ e ∷ [] → IsFault e → Keeps es fs
@@ -21,15 +21,6 @@ pub keeps_waiting : (m : Bool) (es fs : List Error) (e : Error) → fs ≡ es ++
     → Keeps es fs
 keeps_waiting true es fs e h fault = keeps_same es fs (h ∙ append-nil es)
 keeps_waiting false es fs e h fault = keeps_one es fs e h fault
-
-counted_kind_fault : (k : SyntaxError) → counted_kind k ≢ kind.OutOfMemory
-counted_kind_fault kind.OutOfMemory = λ h. cc
-counted_kind_fault kind.ParserFailed = λ h. cc
-counted_kind_fault k = λ h. cc
-
--- the error of a token, as it counts, is never out of memory
-pub counted_fault : (e : Error) → IsFault (counted e)
-counted_fault e = counted_kind_fault e.kind
 
 fit_error : (t : Token) → not (is_some (error_in t)) ≡ true → error_in t ≡ None
 fit_error (token.Error x) fit = absurd cc

@@ -10,10 +10,6 @@ in_front-some : (late : Bool) (t u : TokenAndSpan) (us : List TokenAndSpan) → 
 in_front-some true t u us = refl
 in_front-some false t u us = refl
 
-in_front-stays : (t : TokenAndSpan) (ts : List TokenAndSpan) → in_front false t ts ≡ t ∷ ts
-in_front-stays t [] = refl
-in_front-stays t (u ∷ us) = refl
-
 -- where the last token isn't late, all stay
 pub all-stay : (at : BytePos) (ts : List TokenAndSpan) → is_late at (slice_get ts (length ts - 1)) ≡ false
     → cleared at ts ≡ ts

@@ -1,11 +1,10 @@
 -- What a refusal may be: never the parser's own failure, and out of memory only where the source has failed.
 use Rattle.std.proofs.Common.{◌≡◌, ◌≢◌, Bool, true, false, not, IsTrue, IsSome, Option, Some, None, refl, sym, ◌∙◌, ap, subst}
 use Rattle.swc_context.specs.{declared.error.Error.Error, declared.error.SyntaxError.SyntaxError, declared.error.SyntaxError.SyntaxError as kind, declared.span.BytePos.BytePos}
-use Rattle.swc_input.specs.Source.{Model, Laws, IsFault}
+use Rattle.swc_input.specs.Source.{Model, Laws}
 use Rattle.swc_input.specs.Buffer.{Looked, current, source, last_position}
-use Rattle.swc_input.specs.Recording.{Refused, no_memory, counted_kind, error_in, error_or, error_here, is_some, is_fit, refusal, unfit}
+use Rattle.swc_input.specs.Recording.{Refused, counted_kind, error_in, error_or, error_here, is_some, is_fit, refusal, unfit}
 use Rattle.swc_input.specs.{declared.buffer.Buffer.Buffer, declared.token.Token.Token, declared.token.Token.Token as token, declared.token.TokenAndSpan.TokenAndSpan, Laws.Looked-served, Laws.Looked-some}
-use Rattle.swc_input.proofs.Emits.{counted_fault}
 
 counted_kind_parser : (k : SyntaxError) → counted_kind k ≢ kind.ParserFailed
 counted_kind_parser kind.OutOfMemory = λ h. cc
@@ -17,22 +16,11 @@ error_or_parser : (t : Token) (e : Error) → e.kind ≢ kind.ParserFailed
 error_or_parser (token.Error x) e own = counted_kind_parser x.kind
 error_or_parser t e own = own
 
-error_or_fault : (t : Token) (e : Error) → IsFault e → IsFault (error_or (error_in t) e)
-error_or_fault (token.Error x) e fault = counted_fault x
-error_or_fault t e fault = fault
-
 pub refusal-kind : (o : Option TokenAndSpan) (f : Bool) (at : BytePos) (e : Error) → e.kind ≢ kind.ParserFailed
     → (refusal o f at e).kind ≢ kind.ParserFailed
 refusal-kind None true at e own = λ h. cc
 refusal-kind None false at e own = own
 refusal-kind (Some t) f at e own = error_or_parser t.token e own
-
-pub refusal-memory : (o : Option TokenAndSpan) (f : Bool) (at : BytePos) (e : Error) → IsFault e
-    → (refusal o f at e).kind ≡ kind.OutOfMemory →
-    (o ≡ None) × (f ≡ true) × (refusal o f at e ≡ no_memory at)
-refusal-memory None true at e fault h = (refl, refl, refl)
-refusal-memory None false at e fault h = absurd (fault h)
-refusal-memory (Some t) f at e fault h = absurd (error_or_fault t.token e fault h)
 
 refusal-failed : (o : Option TokenAndSpan) (f : Bool) (at : BytePos) (e : Error) → o ≡ None → f ≡ true
     → (refusal o f at e).kind ≡ kind.OutOfMemory
@@ -61,15 +49,6 @@ module _ {S : Type 0} (model : Model S) where
   Refused-kind b c e f own r h =
       refusal-kind (current r.here) (model.state (source r.here)).failed (last_position r.here) (e r.here) (own r.here)
       (ap (λ x. x.kind) (sym r.answer) ∙ h)
-
-  -- out of memory is refused where the look met a failed source
-  pub Refused-memory : (b c : Buffer S) (e : Buffer S → Error) (f : Error) → ((here : Buffer S) → IsFault (e here))
-      → (r : Refused model b e f c) → f.kind ≡ kind.OutOfMemory →
-      (current r.here ≡ None) × ((model.state (source r.here)).failed ≡ true) × (f ≡ no_memory (last_position r.here))
-  Refused-memory b c e f fault r h =
-      let m = refusal-memory (current r.here) (model.state (source r.here)).failed (last_position r.here) (e r.here)
-      (fault r.here) (ap (λ x. x.kind) (sym r.answer) ∙ h) in
-      (m.0, m.1, r.answer ∙ m.2)
 
   -- where a look met no token since the source has failed, the refusal is out of memory
   pub Refused-failed : (laws : Laws model) (b h c : Buffer S) (e : Buffer S → Error) (f : Error) → Looked model b h

@@ -173,11 +173,6 @@ module _ {S : Type 0} {model : Model S} (laws : Laws model) where
   }
 
 module _ {S : Type 0} (model : Model S) where
-  -- of a listed source nothing may come but what will
-  pub Known-only : (b : Buffer S) (rest other : List TokenAndSpan) → Known model b rest → Future model b other
-      → other ≡ rest
-  Known-only b rest other k f = f.begins ∙ ap (λ l. held b ++ l) (f.known k.more k.known) ∙ sym k.begins
-
   -- what may come begins with the current token
   pub Future-current : (b : Buffer S) (t : TokenAndSpan) (rest : List TokenAndSpan) → b.cur ≡ Some t
       → Future model b rest → (r : List TokenAndSpan) × (rest ≡ plain t ∷ r)

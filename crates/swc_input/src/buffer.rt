@@ -41,6 +41,7 @@ impl<I: Drop> Drop for Buffer<I> {
 }
 
 /// Puts a token in a place. (Dropping what was there has a case for each kind of token.)
+#[inline(always)]
 fn put(place: &mut Option<TokenAndSpan>, token: Option<TokenAndSpan>)
     ensures { place.new ≡ token }
 {
@@ -183,8 +184,9 @@ impl<I: Tokens> Buffer<I> {
         requires { current self.old ≡ None }
         ensures { Looked I.model self.old self.new }
     {
-        if let Some(token) = self.next.take() {
-            put(&mut self.cur, Some(token));
+        if self.next.is_some() {
+            let token = self.next.take();
+            put(&mut self.cur, token);
             return;
         }
         let token = ask(&mut self.iter);

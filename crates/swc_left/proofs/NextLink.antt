@@ -1,13 +1,11 @@
 -- Which link comes next, by the current token, and by the one after a `?`.
-use Rattle.std.proofs.Common.{◌≡◌, Bool, true, false, Option, Some, None, refl, sym, ap, ◌∙◌}
-use Rattle.swc_context.specs.declared.error.Error.{Error}
-use Rattle.swc_input.specs.{declared.buffer.Buffer.Buffer, declared.token.Token.Token, declared.token.Token.Token as token, declared.token.TokenAndSpan.TokenAndSpan, Plain.plain, Plain.plain_token, Source.Model, Source.Laws, Kinds.at_token}
+use Rattle.std.proofs.Common.{◌≡◌, Bool, true, Option, Some, None, refl, ap, ◌∙◌}
+use Rattle.swc_input.specs.{declared.buffer.Buffer.Buffer, declared.token.Token.Token, declared.token.Token.Token as token, declared.token.TokenAndSpan.TokenAndSpan, Plain.plain, Plain.plain_token, Source.Model, Kinds.at_token}
 use Rattle.swc_grammar.specs.{Clean.first, Tokens.is_dot, Tokens.is_question, Words.rest}
 use Rattle.swc_grammar.proofs.Only.{question-is}
 use Rattle.swc_left.specs.declared.left.Link.{Link}
 use Rattle.swc_left.specs.Links.{link_at, chain_at, link_here}
 use Rattle.swc_steps.specs.Parsing.{seen, seen_of, Told}
-use Rattle.swc_steps.proofs.Ahead.{told_here}
 
 plain_dot : (t : Token) → is_dot (plain_token t) ≡ is_dot t
 plain_dot (token.Template raw cooked) = refl

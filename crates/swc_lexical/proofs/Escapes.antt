@@ -1,5 +1,5 @@
 -- The value of digits of base 16.
-use Rattle.std.proofs.Common.{◌≡◌, ℕ, zero, suc, ◌+◌, ◌-◌, ◌<◌, ◌≤◌, List, [], ◌∷◌, length, drop, slice_get, Option, Some, None, refl, sym, ap, ◌∙◌, arith, length-drop}
+use Rattle.std.proofs.Common.{◌≡◌, ℕ, zero, suc, ◌+◌, ◌<◌, ◌≤◌, List, [], ◌∷◌, length, drop, slice_get, Option, Some, None, refl, sym, ap, ◌∙◌, arith, length-drop}
 use Rattle.swc_lexical.specs.Escapes.{hex_from, hex_at, capped, HexTo}
 
 pub HexTo_begin : (bs : List ℕ) → HexTo bs 0 0

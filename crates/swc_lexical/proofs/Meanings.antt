@@ -1,5 +1,5 @@
 -- What texts mean.
-use Rattle.std.proofs.Common.{◌≡◌, ℕ, zero, suc, ◌+◌, ◌-◌, ◌<◌, ◌≤◌, Bool, List, [], ◌∷◌, ◌++◌, length, drop, Option, Some, None, IfSome, refl, sym, ap, ◌∙◌, arith, length-drop, append_assoc}
+use Rattle.std.proofs.Common.{◌≡◌, ℕ, zero, suc, ◌+◌, ◌-◌, ◌<◌, ◌≤◌, Bool, List, [], ◌∷◌, ◌++◌, length, drop, Option, None, IfSome, refl, sym, ap, ◌∙◌, arith, length-drop, append_assoc}
 use Rattle.std.proofs.lemmas.List.{drop-drop}
 use Rattle.swc_lexical.specs.declared.escape.Meaning.{Meaning}
 use Rattle.swc_lexical.specs.Meanings.{meaning_from, meaning, piece, given, left, lone, text_of, MeansTo}

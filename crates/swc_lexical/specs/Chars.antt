@@ -1,5 +1,5 @@
 -- Characters (ECMA-262, 12.2, 12.3 and 12.7), as a text in UTF-8 begins with them.
-use Rattle.std.specs.Prelude.{ℕ, Bool, true, false, ◌&&◌, ◌||◌, if◌then◌else◌, nat_eq, nat_lt, nat_le, List, Option, Some, None, length}
+use Rattle.std.specs.Prelude.{ℕ, Bool, ◌&&◌, ◌||◌, if◌then◌else◌, nat_eq, nat_lt, nat_le, List, Option, Some, None, length}
 use Rattle.std.specs.Char.{is_ascii_alphabetic, is_ascii_digit}
 use Rattle.ucd_derived.specs.Binary.{is_id_start, is_id_continue}
 use Rattle.bstr.specs.Utf8.{decoded}

@@ -1,5 +1,5 @@
 -- Comments (ECMA-262, 12.4).
-use Rattle.std.specs.Prelude.{ℕ, ◌+◌, Bool, not, ◌&&◌, if◌then◌else◌, nat_lt, List, Option, Some, None, length}
+use Rattle.std.specs.Prelude.{ℕ, ◌+◌, not, ◌&&◌, if◌then◌else◌, nat_lt, List, Option, Some, None, length}
 use Rattle.swc_lexical.specs.{Runs.is_at, Runs.run, Chars.plain_len}
 
 -- how many bytes come before a line terminator, or before the end: `//` and they are a comment

@@ -1,5 +1,5 @@
 -- Escapes (ECMA-262, 12.9.4 and 12.7).
-use Rattle.std.specs.Prelude.{◌≡◌, ◌≤◌, length, ℕ, suc, ◌+◌, ◌*◌, ◌-◌, Bool, ◌&&◌, not, if◌then◌else◌, nat_eq, nat_lt, nat_le, List, [], ◌∷◌, Option, Some, None, slice_get, drop}
+use Rattle.std.specs.Prelude.{◌≡◌, ◌≤◌, length, ℕ, ◌+◌, ◌*◌, ◌-◌, ◌&&◌, not, if◌then◌else◌, nat_eq, nat_lt, nat_le, List, [], ◌∷◌, Option, Some, None, slice_get, drop}
 use Rattle.swc_lexical.specs.{Numbers.is_digit, declared.number.Base.TheVariants.Decimal, declared.number.Base.TheVariants.Octal, declared.escape.Meaning.Meaning, declared.escape.Meaning.TheVariants.Code, declared.escape.Meaning.TheVariants.Nothing, Chars.terminator_len, Chars.first_char}
 use Rattle.swc_lexical.specs.Runs.{is_at, test_at, run}
 

@@ -1,5 +1,5 @@
 -- Names (ECMA-262, 12.7).
-use Rattle.std.specs.Prelude.{ℕ, ◌+◌, Bool, true, false, ◌&&◌, ◌||◌, if◌then◌else◌, nat_eq, nat_lt, nat_le, List, Option, Some, None, slice_get, drop}
+use Rattle.std.specs.Prelude.{ℕ, ◌+◌, Bool, ◌&&◌, ◌||◌, if◌then◌else◌, nat_eq, nat_lt, nat_le, List, Option, Some, None, slice_get, drop}
 use Rattle.swc_lexical.specs.Runs.{is_at, run}
 use Rattle.swc_lexical.specs.Chars.{size_if, starts_name, continues_name, starts_plain, continues_plain}
 use Rattle.swc_lexical.specs.{PlainNames.fitting, Escapes.unicode_escape, Escapes.longer}

@@ -1,5 +1,5 @@
 -- Numbers (ECMA-262, 12.9.3).
-use Rattle.std.specs.Prelude.{ℕ, ◌+◌, Bool, true, false, not, ◌&&◌, ◌||◌, if◌then◌else◌, nat_eq, nat_le, List, Option, Some, None, drop}
+use Rattle.std.specs.Prelude.{ℕ, ◌+◌, Bool, ◌&&◌, ◌||◌, if◌then◌else◌, nat_eq, nat_le, List, Option, Some, None, drop}
 use Rattle.std.specs.Char.{is_ascii_digit, is_ascii_hexdigit}
 use Rattle.swc_lexical.specs.declared.number.Base.{Base}
 use Rattle.swc_lexical.specs.declared.number.Base.TheVariants.{Binary, Octal, Decimal, Hexadecimal}

@@ -1,5 +1,5 @@
 -- Regular expressions (ECMA-262, 12.9.5).
-use Rattle.std.specs.Prelude.{ℕ, ◌+◌, Bool, if◌then◌else◌, nat_eq, List, Option, Some, None, drop}
+use Rattle.std.specs.Prelude.{ℕ, ◌+◌, if◌then◌else◌, nat_eq, List, Option, Some, None, drop}
 use Rattle.swc_lexical.specs.{Runs.is_at, Runs.run, Chars.plain_len}
 
 -- a backslash and such a byte

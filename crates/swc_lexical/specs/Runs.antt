@@ -1,5 +1,5 @@
 -- Pieces, one after another, at the beginning of a text.
-use Rattle.std.specs.Prelude.{◌≡◌, ℕ, zero, suc, ◌+◌, ◌-◌, ◌≤◌, Bool, false, nat_eq, List, [], ◌∷◌, Option, Some, None, slice_get, length, drop}
+use Rattle.std.specs.Prelude.{◌≡◌, ℕ, zero, suc, ◌+◌, ◌≤◌, Bool, false, nat_eq, List, [], ◌∷◌, Option, Some, None, slice_get, length, drop}
 
 -- whether a byte is there that passes the test
 abbrev pub passes : (ℕ → Bool) → Option ℕ → Bool

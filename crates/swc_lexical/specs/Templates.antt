@@ -1,5 +1,5 @@
 -- The texts of templates (ECMA-262, 12.9.6).
-use Rattle.std.specs.Prelude.{ℕ, Bool, true, false, ◌||◌, ◌&&◌, if◌then◌else◌, nat_lt, nat_le, length, List, [], ◌∷◌, Option, Some, None}
+use Rattle.std.specs.Prelude.{ℕ, Bool, ◌||◌, ◌&&◌, if◌then◌else◌, nat_lt, nat_le, length, List, Option, Some, None}
 use Rattle.swc_lexical.specs.{Runs.is_at, Runs.run, Escapes.escape_len}
 
 -- a backquote, or `${`

@@ -6,7 +6,7 @@ use Rattle.swc_context.specs.declared.operator.AssignOp.{AssignOp, AssignOp as o
 use Rattle.swc_context.specs.declared.span.Span.{Span}
 use Rattle.swc_ast.specs.Tree.{Tree, span_of}
 use Rattle.swc_ast.specs.declared.expr.ExprOrSpread.{ExprOrSpread}
-use Rattle.swc_nodes.specs.NodeParts.{Part, View, Form, expr, pat, simple, pattern, expr_part, flat, form, if_some, item_parts, key_parts, one_expr, pat_elem_part, pat_prop_parts, prop_parts, slots, target_part, view_ok}
+use Rattle.swc_nodes.specs.NodeParts.{Part, View, Form, expr, pat, expr_part, flat, form, if_some, item_parts, key_parts, one_expr, pat_elem_part, pat_prop_parts, prop_parts, slots, target_part, view_ok}
 use Rattle.swc_nodes.specs.Recasting.{all_none, elems_for, item_for, left_for, one_or_none, part_as, part_for, prop_for, props_for, turned}
 use Rattle.swc_nodes.specs.Roles.{Due, again_as, assigned_as, becomes_as, bound_as, by_op, dues_by, dues_of, elem_dues, expr_due, held_view, is_empty, item_dues, keep, left_due, left_role, new_view, part_dues, pat_elem_dues, pat_prop_dues, prop_dues, rebound_as, rest_as, rest_role, suit, suits, turns}
 use Rattle.swc_nodes.specs.Turning.{kind_of, IsRecast}

@@ -1,5 +1,5 @@
 -- What nodes stand for whose literals were marked with their commas.
-use Rattle.std.proofs.Common.{◌≡◌, ℕ, suc, ◌+◌, ◌<◌, ◌≤◌, true, List, [], ◌∷◌, ◌++◌, map, length, take, drop, Option, Some, None, refl, sym, ap, subst, ◌∙◌, arith, length-append, ⊎_elim}
+use Rattle.std.proofs.Common.{◌≡◌, ℕ, suc, ◌<◌, ◌≤◌, true, List, [], ◌∷◌, ◌++◌, map, length, take, drop, Option, Some, None, refl, sym, ap, subst, ◌∙◌, arith, length-append, ⊎_elim}
 use Rattle.std.proofs.lemmas.Bool.{cases_lt, le-leb}
 use Rattle.std.proofs.lemmas.List.{append-nil, drop_all, get_or_append_left, get_or_at, get_or_past, length-map, length-take-le, take-append-drop, take-take, take_at}
 use Rattle.std.specs.{Prelude.slice_index_or, declared.alloc.Global.Global, declared.vec.Vec.Vec}

@@ -1,18 +1,18 @@
 -- One node that became what it is to goes on from any nodes in which its parts did.
-use Rattle.std.proofs.Common.{◌≡◌, ℕ, suc, ◌+◌, ◌<◌, ◌≤◌, true, List, [], ◌∷◌, ◌++◌, map, length, take, drop, refl, sym, ap, ◌∙◌, arith}
+use Rattle.std.proofs.Common.{◌≡◌, ℕ, suc, ◌+◌, ◌<◌, ◌≤◌, true, List, [], ◌∷◌, ◌++◌, length, take, drop, sym, ap, ◌∙◌, arith}
 use Rattle.std.proofs.lemmas.List.{get_or_default, get_or-take, length-take-le, map-append, take-append-drop}
 use Rattle.swc_context.specs.declared.span.Span.{Span}
 use Rattle.swc_ast.specs.Parts.{no_tree}
 use Rattle.swc_ast.specs.Tree.{Tree, span_of}
-use Rattle.swc_nodes.specs.NodeParts.{Part, View, one_expr, expr, simple, form, slots, view_ok}
+use Rattle.swc_nodes.specs.NodeParts.{Part, View, one_expr, expr, form, slots, view_ok}
 use Rattle.swc_nodes.specs.NodeTree.{marked_tree}
 use Rattle.swc_nodes.specs.NumberedTrees.{Seat, chain, floor, ordered, seat}
 use Rattle.swc_nodes.specs.Onward.{turned_parts, Met, Promise}
 use Rattle.swc_nodes.specs.Recasting.{turned}
 use Rattle.swc_nodes.specs.Roles.{Due, becomes_as, dues_of, suits}
 use Rattle.swc_nodes.specs.Settled.{seat_in, tree_in}
-use Rattle.swc_nodes.specs.Turning.{bare_tree, kind_of, no_node, node_at, own_place, became, IsRecast, Law, OfKind, PartsIn, RecastIn}
-use Rattle.swc_nodes.specs.{declared.node.Node.Node, declared.node.Node.Node as n, declared.role.Role.Role, declared.role.Role.Role as role}
+use Rattle.swc_nodes.specs.Turning.{bare_tree, kind_of, no_node, node_at, own_place, became, IsRecast, OfKind, PartsIn, RecastIn}
+use Rattle.swc_nodes.specs.{declared.node.Node.Node, declared.node.Node.Node as n, declared.role.Role.Role}
 use Rattle.swc_nodes.proofs.Along.{Same, node-along}
 use Rattle.swc_nodes.proofs.Becoming.{form-is, kind-alone, place-alone, recast-alike, slots-are, Alike, HeldPlace, SamePlace}
 use Rattle.swc_nodes.proofs.Chains.{both_true, Fitting, fitting, chain-bound, chain-both, chain-first, chain-second, chain-one, chain-same, floor-both, floor-under}

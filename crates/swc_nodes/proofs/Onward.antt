@@ -10,7 +10,7 @@ use Rattle.swc_nodes.specs.NumberedTrees.{Seat, chain, floor, found, ordered, se
 use Rattle.swc_nodes.specs.Onward.{cleared, no_nodes, turned_parts, Met, Promise}
 use Rattle.swc_nodes.specs.Roles.{Due}
 use Rattle.swc_nodes.specs.Settled.{seat_in, tree_in, IsSettled, Ranges}
-use Rattle.swc_nodes.specs.Turning.{no_node, node_at, Became, Law}
+use Rattle.swc_nodes.specs.Turning.{no_node, node_at, Became}
 use Rattle.swc_nodes.specs.{Recasting.turned, declared.node.Node.Node, declared.role.Role.Role, declared.turning.Settled.Settled}
 use Rattle.swc_nodes.proofs.Chains.{both_true, true_both, fitting, chain-bound, chain-both, chain-same, chain-up, floor-both}
 use Rattle.swc_nodes.proofs.Standing.{after_append, after_keeps, after_length, ordered_both, seat_between}

@@ -85,9 +85,6 @@ module _ {F C K : Type 0} (at : ℕ → Seat F C K) where
       true_both b.0 (chain-first-param (suc q.at) ps xs p hi e b.1)
 
 module _ {F C K : Type 0} {fg : Ghosts F} {cg : Ghosts C} {kg : Ghosts K} where
-  pub apart-front : {ns : Nodes F C K fg cg kg} {k : ℕ} (ps qs : List Part) → Apart k ns (ps ++ qs) → Apart k ns ps
-  apart-front {ns} {k} ps qs a = record { chained = chain-front (seat_at ns) k ps qs (count ns) a.chained }
-
   -- parts, and the parameters of a setter after them, of which it has the first
   pub setter-apart : {ns : Nodes F C K fg cg kg} {k : ℕ} (ps : List Part) (xs : List (Param PatId)) (p : PatId) →
       first_param_pat xs ≡ Some p → Apart k ns (ps ++ flat param_parts xs) → Apart k ns (ps ++ one_pat p)

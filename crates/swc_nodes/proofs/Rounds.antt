@@ -10,7 +10,7 @@ use Rattle.swc_nodes.specs.Onward.{cleared, no_nodes, up_to, AllDone, AllKept, A
 use Rattle.swc_nodes.specs.Recasting.{turned}
 use Rattle.swc_nodes.specs.Roles.{Due, becomes_as, part_of_due, suit}
 use Rattle.swc_nodes.specs.Settled.{seat_in, tree_in, DroppedFrom, Ranges}
-use Rattle.swc_nodes.specs.Turning.{node_at, became, Law}
+use Rattle.swc_nodes.specs.Turning.{node_at, became}
 use Rattle.swc_nodes.specs.{declared.node.Node.Node, declared.turning.Settled.Settled}
 use Rattle.swc_nodes.proofs.Becoming.{suit-first, suit-second}
 use Rattle.swc_nodes.proofs.Chains.{both_true, fitting, chain-bound, chain-both, chain-first, chain-one, chain-same, chain-second, chain-up}

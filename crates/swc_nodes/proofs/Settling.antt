@@ -1,11 +1,11 @@
 -- Nodes from which nothing below a number is reached have the same seats over whatever is below it.
-use Rattle.std.proofs.Common.{◌≡◌, ℕ, suc, ◌+◌, ◌≤◌, true, List, [], ◌∷◌, ◌++◌, length, refl, sym, ap, ◌∙◌}
+use Rattle.std.proofs.Common.{◌≡◌, ℕ, suc, ◌≤◌, true, List, [], ◌∷◌, ◌++◌, length, refl, sym, ap, ◌∙◌}
 use Rattle.std.proofs.Common.{arith, length-append}
 use Rattle.std.proofs.lemmas.Bool.{le-leb}
 use Rattle.swc_context.specs.declared.span.Span.{Span}
 use Rattle.swc_nodes.specs.NodeTree.{marked_tree}
 use Rattle.swc_nodes.specs.NodeParts.{Part, slots, form, view_ok}
-use Rattle.swc_nodes.specs.NumberedTrees.{Seat, chain, fits, floor, found, no_seat, ordered, seat, seats_after}
+use Rattle.swc_nodes.specs.NumberedTrees.{Seat, chain, floor, found, no_seat, ordered, seat, seats_after}
 use Rattle.swc_nodes.specs.NumberedTrees.{start_refused, end_refused}
 use Rattle.swc_nodes.specs.declared.node.Node.{Node}
 use Rattle.swc_nodes.specs.declared.node.Node.TheVariants as n

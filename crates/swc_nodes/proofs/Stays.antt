@@ -3,13 +3,13 @@ use Rattle.std.proofs.Common.{◌≡◌, ℕ, suc, ◌+◌, ◌<◌, ◌≤◌, 
 use Rattle.std.proofs.lemmas.List.{get_or_past, length-take-le, map-append, take-append-drop}
 use Rattle.swc_context.specs.declared.span.Span.{Span}
 use Rattle.swc_ast.specs.Tree.{Tree}
-use Rattle.swc_nodes.specs.NodeParts.{Part, form, slots, view_ok}
-use Rattle.swc_nodes.specs.NumberedTrees.{Seat, chain, floor, found, no_seat, ordered, seat, seats_after}
+use Rattle.swc_nodes.specs.NodeParts.{Part, slots, view_ok}
+use Rattle.swc_nodes.specs.NumberedTrees.{Seat, chain, floor, found, no_seat, ordered, seats_after}
 use Rattle.swc_nodes.specs.Onward.{turned_parts, Met, Promise}
 use Rattle.swc_nodes.specs.Roles.{Due, dues_of, keep, part_of_due}
 use Rattle.swc_nodes.specs.Settled.{seat_in, tree_in, IsSettled}
-use Rattle.swc_nodes.specs.Turning.{node_at, Law}
-use Rattle.swc_nodes.specs.{Recasting.turned, declared.node.Node.Node, declared.role.Role.Role as role, declared.turning.Settled.Settled}
+use Rattle.swc_nodes.specs.Turning.{node_at}
+use Rattle.swc_nodes.specs.{Recasting.turned, declared.node.Node.Node, declared.turning.Settled.Settled}
 use Rattle.swc_nodes.proofs.Chains.{both_true, Fitting, chain-bound, chain-both, chain-first, chain-second, chain-one, chain-same, floor-both}
 use Rattle.swc_nodes.proofs.DuesApart.{dues-apart}
 use Rattle.swc_nodes.proofs.Onward.{became-both, became-same, floor-same, seat-front, seat-here}

@@ -1,5 +1,5 @@
 -- What is said of lists of nodes that became what they are to, said of nodes.
-use Rattle.std.proofs.Common.{◌≡◌, ℕ, true, List, [], map, length, take, drop, refl, sym, ap, subst, ◌∙◌, arith, length-append}
+use Rattle.std.proofs.Common.{◌≡◌, ℕ, true, List, [], map, length, take, drop, sym, ap, subst, ◌∙◌, arith, length-append}
 use Rattle.std.proofs.lemmas.Bool.{le-leb}
 use Rattle.std.proofs.lemmas.List.{length-take-le, take-append-drop}
 use Rattle.swc_ast.specs.declared.spanned.Spanned.{Ghosts}

@@ -2,7 +2,7 @@
 use Rattle.std.proofs.Common.{◌≡◌, Bool, true, false, not, ◌&&◌, List, [], ◌∷◌, ◌++◌, Some, None, ℕ, ◌≤◌, map, length, refl, sym, ap, subst, ◌∙◌, arith}
 use Rattle.std.specs.{declared.alloc.Global.Global, declared.vec.Vec.Vec, Option.is_some, Prelude.Option}
 use Rattle.swc_context.specs.{Contexts.method_block, Contexts.method_params, declared.span.Span.Span}
-use Rattle.swc_input.specs.{declared.buffer.Buffer.Buffer, declared.token.TokenAndSpan.TokenAndSpan, Source.Model, Buffer.context}
+use Rattle.swc_input.specs.{declared.buffer.Buffer.Buffer, declared.token.TokenAndSpan.TokenAndSpan, Source.Model}
 use Rattle.swc_ast.specs.Tree.{Tree, node, Trees, nil, cons, trees, function, block as block_kind}
 use Rattle.swc_ast.specs.Trees.{to, function_e, block_e, params_e, items_of, has_items, is_rest}
 use Rattle.swc_ast.specs.{Parts.leaf, Parts.param_tree, declared.function.Param.Param, declared.spanned.Spanned.Ghosts}

@@ -1,7 +1,7 @@
 -- Which primary expression a token begins (13.2), and what opening a literal does to the buffer.
 use Rattle.std.specs.Prelude.{◌≡◌, Bool, true, false, ◌&&◌, if◌then◌else◌, List, Option, Some, None}
 use Rattle.swc_context.specs.{declared.context.Context.Context, declared.span.BytePos.BytePos, declared.span.Span.Span, declared.word.Word.Word as word, Spans.from_to}
-use Rattle.swc_input.specs.{declared.token.Token.Token, declared.token.TokenAndSpan.TokenAndSpan, Buffer.context, Kinds.at_token, Kinds.is_hash}
+use Rattle.swc_input.specs.{declared.token.Token.Token, declared.token.TokenAndSpan.TokenAndSpan, Kinds.at_token, Kinds.is_hash}
 use Rattle.swc_input.specs.declared.token.Token.TheVariants as token
 use Rattle.swc_ast.specs.Trees.{array_e, object_e, items_of, comma_of}
 use Rattle.swc_ast.specs.{Tree.Tree, Tree.span_of, declared.lit.Lit.Lit, declared.lit.Lit.Lit as lit}

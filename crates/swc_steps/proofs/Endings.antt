@@ -1,22 +1,20 @@
 -- Where what was read begins and ends: it holds nothing that was refused, so that its place says it.
-use Rattle.std.proofs.Common.{◌≡◌, ℕ, suc, Bool, true, false, ◌&&◌, if◌then◌else◌, List, [], ◌∷◌, ◌++◌, Option, Some, None, map, length, ◌≤◌, refl, sym, ap, subst, ◌∙◌, arith}
+use Rattle.std.proofs.Common.{◌≡◌, ℕ, suc, Bool, true, false, ◌&&◌, List, [], ◌∷◌, ◌++◌, Option, Some, None, map, length, ◌≤◌, refl, sym, ap, subst, ◌∙◌, arith}
 use Rattle.std.specs.Prelude.{slice_index_or}
 use Rattle.swc_context.specs.{Spans.from_to, declared.span.BytePos.BytePos, declared.span.Span.Span}
 use Rattle.swc_input.specs.declared.token.TokenAndSpan.{TokenAndSpan}
-use Rattle.swc_ast.specs.Tree.{Tree, node, Trees, trees, invalid, span_of}
-use Rattle.swc_ast.specs.Trees.{is_valid, are_valid, ends_in_invalid, begins_in_invalid, unary_e, update_e, bin_e, cond_e, to, last_place, seq_e, seq_of, paren_e, paren_ok}
+use Rattle.swc_ast.specs.Tree.{Tree, node, trees, invalid, span_of}
+use Rattle.swc_ast.specs.Trees.{is_valid, are_valid, ends_in_invalid, begins_in_invalid, unary_e, update_e, bin_e, cond_e, last_place, seq_e, seq_of}
 use Rattle.swc_ast.specs.{Parts.item_of, Parts.item_tree, declared.expr.ExprOrSpread.ExprOrSpread, declared.spanned.Spanned.Ghosts}
 use Rattle.swc_bodies.specs.Readings.{Hook, LawfulHook}
-use Rattle.swc_grammar.specs.{Clean.run, Clean.sym as at, Scope.Scope, Symbols.Symbol, Symbols.Args, Tokens.with_in}
+use Rattle.swc_grammar.specs.{Clean.run, Clean.sym as at, Scope.Scope, Symbols.Symbol}
 use Rattle.swc_grammar.proofs.{Good.valid, Sound.sound}
-use Rattle.swc_nodes.specs.NodeParts.{Part, flat, one_expr, expr_part, args_parts}
-use Rattle.swc_nodes.specs.GrowingNodes.{count, seat_at, start_at, end_at, first_start, last_end, Apart, From, Grows}
-use Rattle.swc_nodes.specs.{Lists.seq_between, NumberedTrees.fits, NumberedTrees.chain, declared.node.ExprId.ExprId, declared.nodes.Nodes.Nodes}
+use Rattle.swc_nodes.specs.NodeParts.{Part, flat, one_expr, expr_part}
+use Rattle.swc_nodes.specs.GrowingNodes.{seat_at, start_at, end_at, first_start, last_end, Apart, From, Grows}
+use Rattle.swc_nodes.specs.{Lists.seq_between, NumberedTrees.fits, declared.node.ExprId.ExprId, declared.nodes.Nodes.Nodes}
 use Rattle.swc_nodes.proofs.Edges.{start-clean, end-clean, start-later}
-use Rattle.swc_nodes.proofs.{Chains.both_true, Chains.true_both, Held.from-apart, Held.tree-later, Sequences.held-trees, Sequences.held-parts}
-use Rattle.swc_steps.specs.Args.{paren_of, paren_from, paren_closed, args_inside}
-use Rattle.swc_steps.specs.{Readers.begun_if, Parsing.tree_of, Parsing.args_at, declared.tokens.Listed.Listed}
-use Rattle.swc_steps.proofs.Args.{inside_args}
+use Rattle.swc_nodes.proofs.{Chains.both_true, Chains.true_both, Held.from-apart, Held.tree-later}
+use Rattle.swc_steps.specs.{Readers.begun_if, Parsing.tree_of}
 
 -- ---- a tree that holds nothing that was refused neither begins nor ends in such a place
 

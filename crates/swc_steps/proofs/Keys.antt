@@ -2,7 +2,7 @@
 use Rattle.std.specs.Prelude.{◌≡◌, Bool, true, false, ◌&&◌, ◌||◌, if◌then◌else◌, List, [], ◌∷◌, ◌++◌, Some, None, Result, Ok, Err, IfOk}
 use Rattle.std.proofs.Common.{refl, sym, ap, ◌∙◌, arith}
 use Rattle.swc_context.specs.{Contexts.method_block, declared.error.Error.Error, declared.span.Span.Span}
-use Rattle.swc_input.specs.{declared.buffer.Buffer.Buffer, declared.token.Token.Token, declared.token.Token.Token as token, declared.token.TokenAndSpan.TokenAndSpan, Buffer.context, Kinds.at_token, Source.Model}
+use Rattle.swc_input.specs.{declared.buffer.Buffer.Buffer, declared.token.Token.Token, declared.token.Token.Token as token, declared.token.TokenAndSpan.TokenAndSpan, Kinds.at_token, Source.Model}
 use Rattle.swc_ast.specs.{Parts.prop_name_tree, Tree.Tree, declared.prop.PropName.PropName as prop_name, declared.prop.PropName.PropName, declared.spanned.Spanned.Ghosts, Trees.to, Trees.computed_e}
 use Rattle.swc_bodies.specs.Readings.{Hook, LawfulHook, begins, begins_function, is_function_here, is_function, is_async, is_brace, is_class}
 use Rattle.swc_grammar.specs.Rule.{gives, take, check}

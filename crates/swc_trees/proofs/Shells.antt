@@ -1,5 +1,5 @@
 -- Trees become nodes, each before those of its parts; and these are put in, the last made first.
-use Rattle.std.proofs.Common.{◌≡◌, ℕ, suc, ◌+◌, true, List, [], ◌∷◌, ◌++◌, map, take, drop, length, reverse, Ok, refl, sym, ap, subst, ◌∙◌, arith}
+use Rattle.std.proofs.Common.{◌≡◌, ℕ, ◌+◌, true, List, [], ◌∷◌, ◌++◌, map, take, drop, length, reverse, Ok, refl, sym, ap, subst, ◌∙◌, arith}
 use Rattle.std.proofs.lemmas.Bool.{le-leb}
 use Rattle.std.proofs.lemmas.List.{map-append, length-append, length-map, length-take-le, length-drop, reverse-append, take-append-drop, take-map, drop-map, take_at, drop_at}
 use Rattle.std.specs.{declared.alloc.Global.Global, declared.vec.Vec.Vec}

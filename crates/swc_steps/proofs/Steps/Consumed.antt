@@ -1,5 +1,5 @@
 -- What is consumed, what is kept, and what a call does to the buffer by itself.
-use Rattle.std.proofs.Common.{◌≡◌, ◌≢◌, ℕ, ◌≤◌, ◌<◌, List, [], ◌∷◌, ◌++◌, Option, Some, None, Result, Ok, Err, OnOk, IfErr, MatchOption, length, refl, sym, ap, subst, ◌∙◌, arith, length-append}
+use Rattle.std.proofs.Common.{◌≡◌, ◌≢◌, ◌≤◌, ◌<◌, List, [], ◌∷◌, ◌++◌, Option, Some, None, Result, Ok, Err, OnOk, IfErr, MatchOption, length, refl, sym, ap, subst, ◌∙◌, arith, length-append}
 use Rattle.swc_context.specs.{declared.context.Context.Context, declared.context.Syntax.Syntax, declared.error.Error.Error, declared.span.BytePos.BytePos, declared.span.Span.Span, declared.error.SyntaxError.TheVariants.OutOfMemory, Contexts.view as deciding}
 use Rattle.swc_input.specs.Source.{Model, Laws, Keeps}
 use Rattle.swc_input.specs.Buffer.{Took, Read, Lives, Served, Bumped, to_come, current, context}

@@ -1,5 +1,5 @@
 -- Checks, and faults that are recorded unless all is well.
-use Rattle.std.proofs.Common.{◌≡◌, ◌<◌, Bool, true, false, ◌||◌, ◌&&◌, not, List, [], ◌∷◌, ◌++◌, Some, None, Result, Ok, Err, OnOk, MatchResult, IsSome, refl, sym, ap, ◌∙◌, arith}
+use Rattle.std.proofs.Common.{◌≡◌, ◌<◌, Bool, true, false, ◌||◌, ◌&&◌, not, List, [], ◌++◌, Some, None, Result, Ok, Err, OnOk, MatchResult, IsSome, refl, sym, ap, ◌∙◌, arith}
 use Rattle.swc_context.specs.declared.error.Error.{Error}
 use Rattle.swc_input.specs.Source.{Model, Laws}
 use Rattle.swc_input.specs.Buffer.{Known, current}

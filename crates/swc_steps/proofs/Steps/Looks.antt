@@ -5,7 +5,7 @@ use Rattle.swc_context.specs.declared.error.SyntaxError.TheVariants.{OutOfMemory
 use Rattle.swc_context.specs.{declared.error.Error.Error, declared.span.Span.Span}
 use Rattle.swc_input.specs.Buffer.{Served, Looked, Bumped, Future, Known, source, current, last_position}
 use Rattle.swc_input.specs.Laws.{held_some, Looked-served, Looked-some, Read-late, Known-Future, Future-current, Future-end}
-use Rattle.swc_input.specs.Recording.{Seen, refusal, error_in, is_some, is_fit, no_memory}
+use Rattle.swc_input.specs.Recording.{Seen, error_in, is_some, is_fit, no_memory}
 use Rattle.swc_input.specs.{declared.buffer.Buffer.Buffer, declared.token.Token.Token, declared.token.TokenAndSpan.TokenAndSpan, Plain.plain, Plain.plain_token, Source.Model, Source.Laws, Kinds.at_token}
 use Rattle.swc_input.specs.declared.token.Token.TheVariants as token
 use Rattle.swc_grammar.specs.{Parts.lit_of, Clean.first, Clean.no_error}

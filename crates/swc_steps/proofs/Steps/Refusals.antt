@@ -1,5 +1,5 @@
 -- Refusals, and what stands in for what was refused.
-use Rattle.std.proofs.Common.{◌≡◌, ◌≢◌, ◌<◌, Bool, true, false, List, [], None, Result, Ok, Err, OnOk, IfErr, refl, sym, ap, ◌∙◌, ⊎_elim, arith}
+use Rattle.std.proofs.Common.{◌≡◌, ◌≢◌, ◌<◌, Bool, false, List, [], None, Result, Ok, Err, OnOk, IfErr, refl, sym, ap, ◌∙◌, ⊎_elim, arith}
 use Rattle.std.proofs.lemmas.Bool.{cases_lt}
 use Rattle.swc_context.specs.{declared.error.Error.Error, declared.error.SyntaxError.TheVariants.OutOfMemory, declared.error.SyntaxError.TheVariants.ParserFailed}
 use Rattle.swc_input.specs.{declared.buffer.Buffer.Buffer, declared.token.TokenAndSpan.TokenAndSpan, Source.Model, Source.Laws, Buffer.Looked, Laws.Known-after, Laws.Known-Future, Kinds.at_token}

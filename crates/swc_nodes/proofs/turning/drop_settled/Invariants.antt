@@ -1,4 +1,4 @@
-use Rattle.std.proofs.Common.{ℕ, ◌≤◌, length}
+use Rattle.std.proofs.Common.{◌≤◌, length}
 use Rattle.swc_nodes.proofs.turning.drop_settled.Given as goal
 
 abbrev pub invariant-loop-len : goal.invariant-loop-len

@@ -1,4 +1,4 @@
-use Rattle.std.proofs.Common.{ℕ, map}
+use Rattle.std.proofs.Common.{map}
 use Rattle.swc_nodes.specs.Roles.{due}
 use Rattle.swc_nodes.proofs.Going.{Going}
 use Rattle.swc_nodes.proofs.turning.turn_root.Given as goal

@@ -1,5 +1,4 @@
 use Rattle.std.proofs.Common.{false, refl, ap}
-use Rattle.swc_context.specs.Spans.{in_order}
 use Rattle.swc_steps.proofs.Emitted.{emit-noted, notes-none}
 use Rattle.swc_steps.proofs.Steps as s
 use Rattle.swc_steps.specs.Parsing.{scope}

@@ -1,4 +1,4 @@
-use Rattle.swc_trees.proofs.Leaves.{this_tree, fn_tree, class_tree, meta_tree, private_expr_tree, ident_expr_tree, lit_expr_tree, invalid_tree}
+use Rattle.swc_trees.proofs.Leaves.{this_tree, fn_tree, class_tree, meta_tree, private_expr_tree, ident_expr_tree, lit_expr_tree}
 use Rattle.swc_trees.proofs.Assembled.{made-none, made-is}
 use Rattle.swc_ast.specs.declared.lit.Lit.TheVariants as lit
 use Rattle.swc_trees.proofs.assembling.assemble_expr.Goals as goal

@@ -1,4 +1,4 @@
-use Rattle.std.proofs.Common.{map, refl, arith, rules}
+use Rattle.std.proofs.Common.{map, arith, rules}
 use Rattle.swc_nodes.specs.Walking.{part_of}
 use Rattle.swc_trees.proofs.Lifting.{lifting-starts, lifting-step, lifting-left, lifting-ends, next-within, next-left}
 use Rattle.swc_trees.proofs.taking.lift.Goals as goal

@@ -1,4 +1,3 @@
-use Rattle.std.proofs.Common.{◌≡◌}
 use Rattle.statement_trees.specs.Contexts.{work, SameModule}
 use Rattle.statement_trees.proofs.reader.Reader.rest_of_list.Given as goal
 
