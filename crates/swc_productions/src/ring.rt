@@ -680,7 +680,7 @@ pub fn parse_unary_expr<I: Tokens, B: Bodies<I>>(
     if ops::is_await(&p.input) {
         let start = p.cur_span();
         tokens::skip(&mut p.input);
-        return parse_await(p, room, start);
+        return parse_await_expr(p, room, start);
     }
     let expr = parse_lhs_expr(p, room)?;
     ops::parse_update_postfix(p, expr)
@@ -688,7 +688,7 @@ pub fn parse_unary_expr<I: Tokens, B: Bodies<I>>(
 
 /// `await` (ECMA-262, 15.8), which is at `start`, and its operand; or the identifier `await` (13.1).
 #[cycle(productions)]
-fn parse_await<I: Tokens, B: Bodies<I>>(
+fn parse_await_expr<I: Tokens, B: Bodies<I>>(
     p: &mut Productions<I, B>,
     room: usize,
     start: Span,

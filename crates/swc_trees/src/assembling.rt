@@ -13,7 +13,9 @@ ghost use Rattle.swc_trees.specs.Kinds.{is_compound, is_operation, is_choice, is
 use crate::built::{Built, pop_expr, pop_if_some, pop_target};
 use crate::items::{all, boxed_part, boxed_pat};
 use crate::parts::both;
-use crate::pieces::{args_if_some, arrow_body, callee, chain, member, paren, super_prop, template};
+use crate::pieces::{
+    args_if_some, arrow_body, chain, member, paren, pop_callee, super_prop, template,
+};
 use crate::refusable::boxed;
 use std::alloc::{AllocError, Global};
 use swc_ast::expr::{AssignTarget, Expr, Invalid, OptChainExpr, SimpleAssignTarget};
@@ -218,13 +220,9 @@ fn assemble_call<F: Spanned + Drop, C: Spanned + Drop, K: Spanned + Drop>(
     ensures { AssemblesExpr F.place C.place K.place node built.old.items result built.new.items }
 {
     match node {
-        Node::Call {
-            span,
-            callee: called,
-            args,
-        } => {
+        Node::Call { span, callee, args } => {
             let args = all(alloc, built, args)?;
-            let callee = callee(built, called);
+            let callee = pop_callee(built, callee);
             Ok(Expr::Call { span, callee, args })
         }
         Node::New { span, callee, args } => {

@@ -100,7 +100,7 @@ pub(crate) fn super_part<F: Spanned + Drop, C: Spanned + Drop, K: Spanned + Drop
 }
 
 /// What is called.
-pub(crate) fn callee<F: Spanned + Drop, C: Spanned + Drop, K: Spanned + Drop>(
+pub(crate) fn pop_callee<F: Spanned + Drop, C: Spanned + Drop, K: Spanned + Drop>(
     built: &mut Vec<Built<F, C, K>>,
     callee: Callee<ExprId>,
 ) -> Callee<Box<Expr<F, C, K>>>

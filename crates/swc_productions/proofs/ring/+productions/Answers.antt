@@ -1891,14 +1891,14 @@ parse_unary_expr-returns-then-is_await g t c =
     let first = c.skip-then-is_await.ensures.took.1 in
     let start = c.cur_span-start-then-is_await.result in
     let place = s.place_was first start c.cur_span-start-then-is_await.ensures in
-    let r = c.parse_await.result in
-    let h = c.parse_await.ensures in
+    let r = c.parse_await_expr.result in
+    let h = c.parse_await_expr.ensures in
     m.after {m = record c.args.p.now { input = c.look.new.input }} r
     (s.on_seen {g = await_expr _} c.in_ok-look.ensures.looks
     (λ x ts same e. update.await_picked _ x ts (ap
     (at_token is_await) e ∙ sym c.is_await.ensures.value ∙ c.if-is_await.true))) (grows-same _)
     (m.yes r
-    (update.parses_first g.I.Tokens.model g.B.Bodies.is_faithful (tree_of c.parse_await.new.p.nodes) _
+    (update.parses_first g.I.Tokens.model g.B.Bodies.is_faithful (tree_of c.parse_await_expr.new.p.nodes) _
     (await_tail g.B.BodyForms.forms start) _ r g.met.I.Tokens.laws first
     (λ x ts. update.await_opens _ (plain first.was) x ts ∙ ap (λ v. await_tail g.B.BodyForms.forms v x ts) (sym place))
     h.reads)
@@ -1931,15 +1931,15 @@ parse_unary_expr-returns g t c =
     c.in_ok-expr.ensures.reads c.parse_lhs_expr.ensures.grows
     (λ x. from-down c.in_ok-expr.ensures.from.above) c.parse_update_postfix.ensures)
 
-pub parse_await-returns-in_err-is_await_name : goal.parse_await-returns-in_err-is_await_name
-parse_await-returns-in_err-is_await_name g t c =
+pub parse_await_expr-returns-in_err-is_await_name : goal.parse_await_expr-returns-in_err-is_await_name
+parse_await_expr-returns-in_err-is_await_name g t c =
     m.refused_more c.from_residual.ensures.1
     (s.unheard_call _ (prefix.await_splits _ c.args.start)
     (c.in_err-is_await_name.ensures.names g.B.Bodies.is_faithful))
     (grows-same _)
 
-pub parse_await-returns-then-branch : goal.parse_await-returns-then-branch
-parse_await-returns-then-branch g t c =
+pub parse_await_expr-returns-then-branch : goal.parse_await_expr-returns-then-branch
+parse_await_expr-returns-then-branch g t c =
     let start = c.args.start in
     m.on_after {m = record c.args.p.now { input = c.is_await_name.new.input }} c.parse_await_ident.result
     (s.on_to {h = await_ident start} (s.on_call _ (prefix.await_splits g.B.BodyForms.forms start)
@@ -1947,21 +1947,21 @@ parse_await-returns-then-branch g t c =
     (λ x ts. ap (λ b. await_by_name g.B.BodyForms.forms start b x ts) c.if-branch.true))
     (grows-same _) c.parse_await_ident.ensures
 
-pub parse_await-returns-in_err-check_await : goal.parse_await-returns-in_err-check_await
-parse_await-returns-in_err-check_await g t c =
+pub parse_await_expr-returns-in_err-check_await : goal.parse_await_expr-returns-in_err-check_await
+parse_await_expr-returns-in_err-check_await g t c =
     m.refused_more c.from_residual-in_err-check_await.ensures.1
     (s.unheard_memory (s.forgoes_later (c.in_ok-is_await_name.ensures.names g.B.Bodies.is_faithful).leads
     c.in_err-check_await.ensures.checks)) (grows-same _)
 
-pub parse_await-returns-in_err-less : goal.parse_await-returns-in_err-less
-parse_await-returns-in_err-less g t c =
+pub parse_await_expr-returns-in_err-less : goal.parse_await_expr-returns-in_err-less
+parse_await_expr-returns-in_err-less g t c =
     m.refused_more c.from_residual-in_err-less.ensures.1
     (s.unheard_memory (s.forgoes_later (s.leads_then (c.in_ok-is_await_name.ensures.names g.B.Bodies.is_faithful).leads
     c.in_ok-check_await.ensures.checks.leads)
     (s.forgoes_here g.met.I.Tokens.laws _ _ _ c.in_err-less.ensures.refused))) (grows-same _)
 
-pub parse_await-returns-in_err-arg : goal.parse_await-returns-in_err-arg
-parse_await-returns-in_err-arg g t c =
+pub parse_await_expr-returns-in_err-arg : goal.parse_await_expr-returns-in_err-arg
+parse_await_expr-returns-in_err-arg g t c =
     let start = c.args.start in
     let now = c.is_await_name.new.input in
     m.refused_more c.from_residual-in_err-arg.ensures.1
@@ -1975,8 +1975,8 @@ parse_await-returns-in_err-arg g t c =
     (s.unheard_call (λ x p. Some (await_e (to start (span_of p.0)) p.0, p.1)) (λ x ts. refl)
     (s.unheard_inner c.in_err-arg.ensures.reads)))) c.parse_unary_expr.ensures.grows
 
-pub parse_await-returns : goal.parse_await-returns
-parse_await-returns g t c =
+pub parse_await_expr-returns : goal.parse_await_expr-returns
+parse_await_expr-returns g t c =
     let start = c.args.start in
     let now = c.is_await_name.new.input in
     m.on_after {m = record c.args.p.now { input = now }} c.made.result

@@ -79,8 +79,8 @@ decreases-parse_operand g l = l.room * 20 + 12
 abbrev pub decreases-parse_unary_expr : goal.decreases-parse_unary_expr
 decreases-parse_unary_expr g l = l.room * 20 + 11
 
-abbrev pub decreases-parse_await : goal.decreases-parse_await
-decreases-parse_await g l = l.room * 20 + 0
+abbrev pub decreases-parse_await_expr : goal.decreases-parse_await_expr
+decreases-parse_await_expr g l = l.room * 20 + 0
 
 abbrev pub decreases-parse_plain_operand : goal.decreases-parse_plain_operand
 decreases-parse_plain_operand g l = l.room * 20 + 9

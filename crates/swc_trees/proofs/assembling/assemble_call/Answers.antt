@@ -10,19 +10,19 @@ use Rattle.swc_trees.proofs.assembling.assemble_call.Goals as goal
 
 pub all-requires : goal.all-requires
 all-requires g c =
-    offers-second (callee_parts c.in-Call.called) (args_parts c.in-Call.args) (offers-is c.in-Call.is c.requires.offers)
+    offers-second (callee_parts c.in-Call.callee) (args_parts c.in-Call.args) (offers-is c.in-Call.is c.requires.offers)
 
-pub callee-callee-requires : goal.callee-callee-requires
-callee-callee-requires g c =
-    offers-first (callee_parts c.in-Call.called) (args_parts c.in-Call.args)
+pub pop_callee-callee-requires : goal.pop_callee-callee-requires
+pop_callee-callee-requires g c =
+    offers-first (callee_parts c.in-Call.callee) (args_parts c.in-Call.args)
     (offers-is c.in-Call.is c.requires.offers) c.in_ok-args-in-Call.ensures
 
 pub returns-in_ok-args-in-Call : goal.returns-in_ok-args-in-Call
 returns-in_ok-args-in-Call g c =
-    made-is _ c.in-Call.is (made-two (callee_parts c.in-Call.called)
-    (args_parts c.in-Call.args) c.in_ok-args-in-Call.ensures c.callee-callee.ensures
+    made-is _ c.in-Call.is (made-two (callee_parts c.in-Call.callee)
+    (args_parts c.in-Call.args) c.in_ok-args-in-Call.ensures c.pop_callee-callee.ensures
     (λ at e f. call_expr_tree _ _ _ g.F.Spanned.place g.C.Spanned.place g.K.Spanned.place c.in-Call.span
-    c.callee-callee.result c.in_ok-args-in-Call.args ∙ ap (node call c.in-Call.span) (headed e f)))
+    c.pop_callee-callee.result c.in_ok-args-in-Call.args ∙ ap (node call c.in-Call.span) (headed e f)))
 
 pub args_if_some-requires : goal.args_if_some-requires
 args_if_some-requires g c =
