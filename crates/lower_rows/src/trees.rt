@@ -284,11 +284,12 @@ fn put_tpl(
         quasis,
     } = tpl;
     let exprs = put_exprs(nodes, alloc, exprs)?;
-    let node = Node::Tpl(Tpl {
+    let tpl = Tpl {
         span,
         exprs,
         quasis,
-    });
+    };
+    let node = Node::Tpl(Box::new(alloc, tpl)?);
     if nodes.is_apart(&node) {
         return Ok(Some(ExprId(nodes.push(node)?)));
     }

@@ -15,7 +15,7 @@ use Rattle.swc_nodes.specs.GrowingNodes.{count, seat_at, tree_at, bare_at, Apart
 use Rattle.swc_nodes.specs.{NumberedTrees.floor, NodeParts.Part, declared.commas.TrailingCommas.TrailingCommas, declared.node.ExprId.ExprId, declared.nodes.Nodes.Nodes}
 use Rattle.swc_nodes.specs.Commas as recall
 use Rattle.swc_nodes.specs.declared.node.Node.TheVariants as n
-use Rattle.swc_nodes.proofs.{Chains.chain-down, Chains.floor-under, Standing.cut_kept, Standing.grows-same, Unmarked.unmarked-node}
+use Rattle.swc_nodes.proofs.{Chains.chain-down, Chains.floor-under, Standing.cut_kept, Standing.grows-same, Unmarked.unmarked-tpl}
 use Rattle.swc_steps.specs.declared.tokens.Listed.{Listed}
 use Rattle.swc_input.specs.Calls.{Loud}
 use Rattle.swc_steps.specs.Parsing.{args_at, Heard, Unheard, Parses}
@@ -155,7 +155,7 @@ module _ {F C K : Type 0} {fg : Ghosts F} {cg : Ghosts C} {kg : Ghosts K} (ns : 
   list-bare l = ap (λ v. node (args_with l.trailing_comma) no_span v) (items-bare (tree_at ns) l.items.items)
 
   pub tpl-bare : (t : Tpl ExprId) → unmarked (tpl_at ns t) ≡ tpl_tree (λ e. bare_at ns e.0) t
-  tpl-bare t = unmarked-node fg.place cg.place kg.place (tree_at ns) (n.Tpl t)
+  tpl-bare t = unmarked-tpl (λ e. tree_at ns e.0) (λ e. bare_at ns e.0) (λ e. refl) t
 
   -- the items in boxes, with the comma put beside them
   pub moved-list : (M : Error → Type 0) (o : Option Span) (answer : Result (Listed (ExprOrSpread ExprId)) Error)

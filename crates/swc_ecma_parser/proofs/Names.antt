@@ -180,7 +180,7 @@ module _ {F C K : Type 0} (fun_at : F → Span) (class_at : C → Span) (block_a
       (items b at xs.items)
   node_names (n.New s c xs) = ap (λ v. covers_by b (at c.0) ++ v) (append-nil _ ∙ args_if b at xs)
   node_names (n.OptChain c) = append-nil _ ∙ base_names b at c.base.value
-  node_names (n.Tpl t) = tpl_names b at t
+  node_names (n.Tpl t) = tpl_names b at t.value
   node_names (n.TaggedTpl s t q) = ap (λ v. covers_by b (at t.0) ++ v) (append-nil _ ∙ tpl_names b at q.value)
   node_names (n.Yield s a d) = append-nil _ ∙ if_there b at (λ (e : ExprId). at e.0) one_expr (expr_same b at) a
   node_names (n.PatArray s elems) =

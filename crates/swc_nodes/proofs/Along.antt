@@ -188,7 +188,7 @@ module _ {F C K : Type 0} where
           ) refl
       node-along (n.New s c xs) h = rw (h.0, if-along args_parts (args_tree ats) (args_tree bys) args-along xs h.1) refl
       node-along (n.OptChain c) h = rw (base-along c.base.value h) refl
-      node-along (n.Tpl t) h = tpl-along t h
+      node-along (n.Tpl t) h = tpl-along t.value h
       node-along (n.TaggedTpl s t q) h = rw (h.0, tpl-along q.value h.1) refl
       node-along (n.Arrow s ps b a) h =
           rw (

@@ -275,7 +275,7 @@ module _ {F C K : Type 0} (fun_at : F → Span) (class_at : C → Span) (block_a
       ap (λ t. node new s (cons t (cons (or_hole (args_tree (λ (e : ExprId). by e.0)) xs) nil))) (same_first h)
       ∙ ap (λ t. node new s (cons (marked_by m (at c.0)) (cons t nil))) (args_if m at by xs (same_rest h))
   an_expr (n.OptChain c) h e = ap (λ t. node (opt_chain c.optional) c.span (cons t nil)) (a_base m at by c.base.value h)
-  an_expr (n.Tpl t) h e = a_tpl m at by t h
+  an_expr (n.Tpl t) h e = a_tpl m at by t.value h
   an_expr (n.TaggedTpl s t q) h e =
       ap (λ v. node tagged s (cons v (cons (tpl_tree (λ e. by e.0) q.value) nil))) (same_first h)
       ∙ ap (λ v. node tagged s (cons (marked_by m (at t.0)) (cons v nil))) (a_tpl m at by q.value (same_rest h))

@@ -156,7 +156,7 @@ module _ {F C K : Type 0} (fun_at : F → Span) (class_at : C → Span) (block_a
   node-commas (n.Call s c xs) = both at (callee_parts c) (args_parts xs) _ _ (callee_commas at c) (items at xs.items)
   node-commas (n.New s c xs) = both at (one_expr c) (if_some args_parts xs) _ _ refl (args_if at xs)
   node-commas (n.OptChain c) = base_commas at c.base.value
-  node-commas (n.Tpl t) = tpl-commas at t
+  node-commas (n.Tpl t) = tpl-commas at t.value
   node-commas (n.TaggedTpl s t q) = both at (one_expr t) (flat one_expr q.value.exprs.items) _ _ refl
       (tpl-commas at q.value)
   node-commas (n.Arrow s ps b a) = listed at (λ (p : PatId). at p.0) one_pat (λ p. refl) ps.items

@@ -65,7 +65,7 @@ module _ {F C K : Type 0} where
     unmarked-callee (callee.Expr e) = same e
     unmarked-callee c = refl
 
-    unmarked-tpl : (t : Tpl X) → unmarked (tpl_tree f t) ≡ tpl_tree g t
+    pub unmarked-tpl : (t : Tpl X) → unmarked (tpl_tree f t) ≡ tpl_tree g t
     unmarked-tpl t = ap (node tpl t.span) (unmarked-texts f g same t.quasis.items t.exprs.items)
 
     unmarked-body : (block_at : K → Span) (b : BlockStmtOrExpr X K)
@@ -146,7 +146,7 @@ module _ {F C K : Type 0} (fun_at : F → Span) (class_at : C → Span) (block_a
       rw (unmarked-callee expr_now expr_bare expr-same c, unmarked-items expr_now expr_bare expr-same xs.items) refl
   unmarked-node (n.New s c xs) = rw (unmarked-args expr_now expr_bare expr-same xs) refl
   unmarked-node (n.OptChain c) = rw (unmarked-base expr_now expr_bare expr-same c.base.value) refl
-  unmarked-node (n.Tpl t) = unmarked-tpl expr_now expr_bare expr-same t
+  unmarked-node (n.Tpl t) = unmarked-tpl expr_now expr_bare expr-same t.value
   unmarked-node (n.TaggedTpl s t q) = rw (unmarked-tpl expr_now expr_bare expr-same q.value) refl
   unmarked-node (n.Arrow s ps b a) =
       rw (

@@ -332,12 +332,13 @@ impl<F: Spanned + Drop, C: Spanned + Drop, K: Spanned + Drop> Nodes<F, C, K> {
             → Made k self.new (expr_part id)
             (node tpl (from_to start end) (tpl_trees (tree_at self.old) quasis exprs))) }
     {
-        let span = Span { lo: start, hi: end };
-        Ok(ExprId(self.push(Node::Tpl(Tpl {
-            span,
+        let tpl = Tpl {
+            span: Span { lo: start, hi: end },
             exprs,
             quasis,
-        }))?))
+        };
+        let tpl = Box::new(self.allocator(), tpl)?;
+        Ok(ExprId(self.push(Node::Tpl(tpl))?))
     }
 
     /// A template with a tag (ECMA-262, 13.3.11): the template goes from `start` to `end`, positions in bytes.

@@ -314,7 +314,7 @@ impl<F: Spanned, C: Spanned, K: Spanned> Numbered<F, C, K> for Node<F, C, K> {
             Node::Call { callee, args, .. } => renumber_both::<F, C, K, _, _>(callee, args, ids),
             Node::New { callee, args, .. } => renumber_both::<F, C, K, _, _>(callee, args, ids),
             Node::OptChain(link) => <_ as Numbered<F, C, K>>::renumber(&mut *link.base, ids),
-            Node::Tpl(tpl) => <_ as Numbered<F, C, K>>::renumber(tpl, ids),
+            Node::Tpl(tpl) => <_ as Numbered<F, C, K>>::renumber(&mut **tpl, ids),
             Node::TaggedTpl { tag, tpl, .. } => {
                 renumber_both::<F, C, K, _, _>(tag, &mut **tpl, ids)
             }

@@ -26,7 +26,10 @@ shown_some t =
 module _ {F C K : Type 0} where
   -- the parts that are shown come first among the parts
   pub shown_first : (x : Node F C K) → (rest : List Part) × (slots x ≡ shown x ++ rest)
-  shown_first (n.Tpl t) = (flat one_expr (drop (length t.quasis.items) t.exprs.items), shown_some t)
+  shown_first (n.Tpl t) = (
+    flat one_expr (drop (length t.value.quasis.items) t.value.exprs.items),
+    shown_some t.value,
+  )
   shown_first (n.TaggedTpl s t q) = (
     flat one_expr (drop (length q.value.quasis.items) q.value.exprs.items),
     ap (λ v. expr_part t ∷ v) (shown_some q.value),

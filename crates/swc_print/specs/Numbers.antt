@@ -20,7 +20,7 @@ tpl_shown t = flat one_expr (take (length t.quasis.items) t.exprs.items)
 
 -- the parts of a node whose text is shown
 abbrev pub shown : {F C K : Type 0} → Node F C K → List Part
-shown (n.Tpl t) = tpl_shown t
+shown (n.Tpl t) = tpl_shown t.value
 shown (n.TaggedTpl s t q) = one_expr t ++ tpl_shown q.value
 shown x = slots x
 

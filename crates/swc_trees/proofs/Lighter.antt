@@ -180,7 +180,7 @@ module _ {F C K : Type 0} (fun_at : F → Span) (class_at : C → Span) (block_a
   parts-lighter (n.New s c xs) = let w = weights-some at args_parts
       (args_tree (expr_of fun_at class_at block_at at)) args-lighter xs in omega arith
   parts-lighter (n.OptChain c) = let w = base-lighter c.base.value in omega arith
-  parts-lighter (n.Tpl t) = tpl-lighter t
+  parts-lighter (n.Tpl t) = tpl-lighter t.value
   parts-lighter (n.TaggedTpl s t q) = let w = tpl-lighter q.value in omega arith
   parts-lighter (n.Arrow s ps b a) =
       let u = weights-append at (flat one_pat ps.items) (body_parts b.value) in

@@ -80,7 +80,7 @@ fn assemble_compound<F: Spanned + Drop, C: Spanned + Drop, K: Spanned + Drop>(
         Node::Member(m) => Ok(Expr::Member(member(built, m))),
         Node::SuperProp(p) => Ok(Expr::SuperProp(super_prop(built, p))),
         Node::OptChain(c) => Ok(Expr::OptChain(chain(alloc, built, c)?)),
-        Node::Tpl(t) => Ok(Expr::Tpl(template(alloc, built, t)?)),
+        Node::Tpl(t) => Ok(Expr::Tpl(template(alloc, built, Box::into_inner(t))?)),
         node => assemble_operation(alloc, built, node),
     }
 }

@@ -102,7 +102,7 @@ fn split_expr<F: Spanned + Drop, C: Spanned + Drop, K: Spanned + Drop>(
         Expr::Member(m) => Ok(Node::Member(split_member(alloc, built, m)?)),
         Expr::SuperProp(p) => Ok(Node::SuperProp(split_super_prop(alloc, built, p)?)),
         Expr::OptChain(c) => Ok(Node::OptChain(split_chain(alloc, built, c)?)),
-        Expr::Tpl(t) => Ok(Node::Tpl(split_tpl(alloc, built, t)?)),
+        Expr::Tpl(t) => Ok(Node::Tpl(boxed(alloc, split_tpl(alloc, built, t))?)),
         Expr::Unary { span, op, arg } => split_unary(alloc, built, *span, *op, arg),
         Expr::Update {
             span,

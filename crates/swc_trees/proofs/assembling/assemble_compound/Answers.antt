@@ -1,7 +1,8 @@
 use Rattle.std.proofs.Common.{ap, ◌∙◌}
 use Rattle.swc_ast.proofs.Equations.{array_tree, object_tree, seq_tree, member_expr_tree, super_prop_expr_tree, opt_chain_tree, tpl_expr_tree}
 use Rattle.swc_trees.proofs.Leaves.{paren_expr_tree}
-use Rattle.swc_trees.proofs.Assembled.{made-one, made-is}
+use Rattle.swc_nodes.specs.NodeParts.{flat, one_expr}
+use Rattle.swc_trees.proofs.Assembled.{made-one, made-is, offers-along, offers-is}
 use Rattle.swc_ast.specs.Tree.{array, object, seq, node, trees}
 use Rattle.swc_trees.proofs.assembling.assemble_compound.Goals as goal
 
@@ -45,8 +46,12 @@ returns-in_ok-chain-in-OptChain g c =
     (λ at e. opt_chain_tree _ _ _ g.F.Spanned.place g.C.Spanned.place g.K.Spanned.place
     c.in_ok-chain-in-OptChain.field-0 ∙ e))
 
+pub template-requires : goal.template-requires
+template-requires g c =
+    offers-along (λ q. flat one_expr q.exprs.items) c.into_inner.ensures (offers-is c.in-Tpl.is c.requires.offers)
+
 pub returns-in_ok-template-in-Tpl : goal.returns-in_ok-template-in-Tpl
 returns-in_ok-template-in-Tpl g c =
-    made-is _ c.in-Tpl.is (made-one c.in_ok-template-in-Tpl.ensures
+    made-is _ c.in-Tpl.is (made-one (rw c.into_inner.ensures at c.in_ok-template-in-Tpl.ensures)
     (λ at e. tpl_expr_tree _ _ _ g.F.Spanned.place g.C.Spanned.place g.K.Spanned.place
     c.in_ok-template-in-Tpl.field-0 ∙ e))

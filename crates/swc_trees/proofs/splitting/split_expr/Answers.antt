@@ -6,7 +6,7 @@ use Rattle.swc_ast.specs.TreeOf.{expr_tree, boxed_tree, pat_tree, target_tree, p
 use Rattle.swc_nodes.specs.NodeParts.{expr, view_ok}
 use Rattle.swc_trees.proofs.Leaves.{this_tree, fn_tree, class_tree, meta_tree, private_expr_tree, ident_expr_tree, lit_expr_tree, invalid_tree, unary_tree, update_tree, bin_tree, assign_tree, cond_tree, paren_expr_tree, await_tree, yield_tree}
 use Rattle.swc_trees.proofs.Whole.{some-out, same-some, fn-out, class-out, arrow-out}
-use Rattle.swc_trees.proofs.Splits.{split-none, split-one, split-tree}
+use Rattle.swc_trees.proofs.Splits.{split-is, split-none, split-one, split-tree}
 use Rattle.swc_trees.proofs.Agreed.{read-two, read-three, read-four}
 use Rattle.swc_trees.proofs.splitting.split_expr.Goals as goal
 
@@ -236,8 +236,8 @@ returns-in_ok-split_chain-in-OptChain g c = split-one c.in_ok-split_chain-in-Opt
       view = refl;
     })
 
-pub returns-in_ok-split_tpl-in-Tpl : goal.returns-in_ok-split_tpl-in-Tpl
-returns-in_ok-split_tpl-in-Tpl g c = split-one c.in_ok-split_tpl-in-Tpl.ensures refl
+pub returns-in_ok-boxed-in-Tpl : goal.returns-in_ok-boxed-in-Tpl
+returns-in_ok-boxed-in-Tpl g c = split-one (split-is c.split_tpl.ensures c.in_ok-boxed-in-Tpl.ensures) refl
     (λ at e. record {
       stands = e ∙ (ap (λ v0. tpl_tree
           (boxed_tree _ _ _ g.F.Spanned.place g.C.Spanned.place g.K.Spanned.place) v0) c.in-Tpl.t-is ∙ sym

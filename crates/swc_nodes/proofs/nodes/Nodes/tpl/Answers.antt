@@ -3,4 +3,6 @@ use Rattle.swc_nodes.proofs.Lists.{list-made}
 use Rattle.swc_nodes.proofs.nodes.Nodes.tpl.Goals as goal
 
 pub returns-clause-made : goal.returns-clause-made
-returns-clause-made g c = list-made _ refl c.requires.apart c.in_ok-push.ensures.added
+returns-clause-made g c =
+    let is = c.in_ok-tpl.ensures.ok in
+    rw is at (list-made _ refl (rw is c.requires.apart) c.in_ok-push.ensures.added)
