@@ -7,8 +7,8 @@
 //! `FILE:LINE:COLUMN: message`, with the line and marks below it; lines and columns are counted from 1, columns in
 //! UTF-16 units.
 //!
-//! The status is 0; 1 where a file is refused; 3 where a file can't be read or written, where memory runs out, and
-//! where the words are others.
+//! The status is 0; 1 where a file is refused; 3 where a file can't be read, where standard output can't be written,
+//! where memory runs out, and where the arguments are bad.
 #![tactic(auto)]
 
 use estree_json::writer::TreeWriter;

@@ -51,7 +51,8 @@ impl<'a> Pieces<'a> {
         }
     }
 
-    /// What is written for a part that isn't there: none is missing in a tree that was read.
+    /// Writes null: for a part that a node may lack, as a hole of an array, and for one that the program doesn't have,
+    /// which is never so for a tree that was read.
     pub(crate) fn missing(&mut self) {
         self.put(Piece::Text("null"));
     }

@@ -124,7 +124,7 @@ impl<'a> Pieces<'a> {
         self.close();
     }
 
-    /// A loop over numbers or values.
+    /// A `for`, also with `in` or `of`.
     fn counted(&mut self, statement: &'a Statement) {
         let span = statement.span;
         match &statement.kind {
@@ -195,7 +195,7 @@ impl<'a> Pieces<'a> {
         }
     }
 
-    /// What is after the beginning of a loop over values, and its end.
+    /// The parts of a `for` with `in` or `of`, and its end.
     fn for_each(&mut self, left: &'a ForTarget, right: ExprId, body: StatementId) {
         self.field("left");
         match left {

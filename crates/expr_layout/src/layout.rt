@@ -15,7 +15,7 @@ use swc_lexer::reader::End;
 ///
 /// All tokens and comments are written as they are in the text, in their order, and so are functions, classes and
 /// blocks as a whole. Between them only blanks and line breaks change: so the layout, read again, gives the same tree,
-/// places apart, and is its own layout.
+/// but for places, and is its own layout.
 ///
 /// **Blanks.** One is on each side of an operator of two or three operands and of `=>`, after a comma, after the colon
 /// of a property, within braces, before a block, and where two words meet. One is on each side of a comment, but none

@@ -46,8 +46,8 @@ pub enum Group {
     Flat,
     /// A statement that ends with another one: on one line if that fits, or indented by 2 columns.
     Statement,
-    /// Statements, members or clauses: never on one line, and indented by 2 columns. To what is around them they are
-    /// what has line breaks, as a text.
+    /// Statements, members or clauses: never on one line, and indented by 2 columns. Their line breaks are to the
+    /// groups around them like those within a unit, which break no group.
     Body,
 }
 
@@ -87,6 +87,7 @@ pub struct Marks {
 }
 
 impl Marks {
+    /// The units, with nothing noted at any of them. The only error is out of memory.
     pub fn new(alloc: Global, whole: Whole, units: Vec<Unit>) -> Result<Marks, AllocError> {
         let nothing = Mark {
             gap: Gap::Nothing,

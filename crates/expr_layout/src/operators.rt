@@ -11,8 +11,8 @@ use swc_ecma_parser::nodes::node::{ExprId, Node, PatPropNode, PropNode};
 use swc_ecma_parser::nodes::nodes::Nodes;
 use swc_ecma_parser::nodes::reached::reached;
 
-/// What is known of a node: of a link, how many members are called in it and in what it is a link of; and whether the
-/// node goes on with a group that begins outside, of a chain if it is a link.
+/// What is known of a node: of a link of a chain, how many members are called in it and in the links before it; whether
+/// the node `goes_on` with the group of the node that it is a part of; and whether that group is a chain.
 #[derive(Clone, Copy)]
 struct Known {
     calls: usize,

@@ -26,7 +26,7 @@ pub enum Kind {
     Close,
     /// `,`
     Comma,
-    /// A number, which a dot right after it would be read as a part of.
+    /// A number: a dot right after it would be read as a part of it.
     Number,
     /// `;`
     Semicolon,

@@ -3,7 +3,7 @@
 //!     formatter [script|module|commonjs]
 //!     formatter expr [script|module|strict|generator|async]
 //!
-//! With `expr` it is one expression. Without the last word it is a script's.
+//! With `expr`, standard input is read as one expression. Without the last word, it is read as in a script.
 #![tactic(auto)]
 
 use expr_layout::layout::layout as layout_expr;

@@ -2,8 +2,8 @@
 //! standard's productions derive, and with which trees.
 //!
 //! `lists FILE ..` reads the lists of each row of the files. Where they aren't as the row says, it writes the row after
-//! a `-`, and what it should be after a `+`. Then it writes a line a file, with the number of its rows. The status is 1
-//! if a row differs, and 3 if a row or a file can't be read.
+//! a `-`, and what the parser reads after a `+`. Then it writes a line for each file, with the number of its rows. The
+//! status is 1 if a row differs, and 3 if a row or a file can't be read.
 //!
 //! `lists show ROW` writes the lists of one row that the parser reads whole, each with its tree.
 #![tactic(auto)]

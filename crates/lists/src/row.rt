@@ -119,7 +119,7 @@ fn set(mode: &mut Mode, word: &str) -> bool {
     true
 }
 
-/// Changes what a function, no arrow, changes in its body.
+/// Sets the flags of the body of a function that is no arrow function.
 fn enter_function(context: &mut Context) {
     context.in_function = true;
     context.inside_non_arrow_function_scope = true;

@@ -1,4 +1,5 @@
--- The source of the rows: what it gives isn't promised, but that nothing comes after its end, nor after it has failed.
+-- The source of the rows. Nothing is promised of what it gives, but that nothing comes after its end, or after it has
+-- failed.
 use Rattle.std.specs.Prelude.{◌≡◌, ⊤, ℕ, ◌+◌, ◌<◌, ◌≤◌, false, true, List, [], ◌++◌, Option, Some, None, MatchOption, length}
 use Rattle.std.proofs.Common.{refl, ap, ◌∙◌}
 use Rattle.swc_context.specs.declared.context.TokenContexts.{TokenContexts}
@@ -56,7 +57,7 @@ pub record Answered (s : TestInput) (r : Option TokenAndSpan) (t : TestInput) : 
 lawful : (s : TestInput) → IsLawful (test_state s)
 lawful s = record { none_waits = (listed_lawful s.list).none_waits; over = λ m h e. cc }
 
--- nothing was given, and the source is as same as it was
+-- nothing was given, and the source is the same as it was
 pub stays : (s t : TestInput) → t.list.syntax ≡ s.list.syntax → t.list.target ≡ s.list.target → StillOpen s t
     → Gave (test_state s) [] (test_state t)
 stays s t syntax target same = record {

@@ -31,7 +31,7 @@ pub(crate) struct ProgramMarks<'a> {
 /// - semicolons: each statement and each field of a class that one may end has one, right after its last token, and
 ///   there are none between the members of a class.
 ///
-/// So the layout, read again, gives the same tree, places apart, and is its own layout.
+/// So the layout, read again, gives the same tree, but for places, and is its own layout.
 ///
 /// **Lines.** Each statement, member of a class and clause of a `switch` begins a line, and so does the `}` after them,
 /// but in `{}`. Lines in braces, and statements of a clause, are indented by 2 columns more; a block that is alone in a
@@ -49,7 +49,8 @@ pub(crate) struct ProgramMarks<'a> {
 /// **Comments** stay on their lines: one after a statement on its line, and one before a statement on lines of its own.
 /// Comments alone in braces are on the line of these if the text has no line break there.
 ///
-/// Takes time almost in proportion to the text, and goes without recursion over statements, functions and classes.
+/// Takes time almost in proportion to the text, and doesn't recur over statements, functions and classes. The refusals
+/// are those of `Program::read`, and out of memory.
 pub fn layout(alloc: Global, text: &str, goal: Goal) -> Result<String, Refusal> {
     let program = Program::read(alloc, text, goal, LEVELS)?;
     Ok(layout_of(alloc, text, &program)?)

@@ -69,7 +69,7 @@ impl ProgramMarks<'_> {
         self.mark_list(items, true);
     }
 
-    /// Notes a statement of so many words, of what is tested in parentheses, and of another statement.
+    /// Notes a statement that is so many words, something in parentheses, and another statement, as `while (a) b`.
     fn mark_tested(&mut self, place: Span, words: usize, body: StatementId) {
         let first = self.marks.at(place.lo);
         self.marks.set(first.saturating_add(words), Gap::Blank);

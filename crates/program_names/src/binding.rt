@@ -1,4 +1,5 @@
-// What names refer to. Two times the text is gone over from its beginning to its end.
+// What names refer to. The text is gone over twice, from its beginning to its end: for the scopes of the bindings, and
+// for what the names refer to.
 use crate::names::{Name, Use};
 use crate::scope::{Binding, Home, Scope, ScopeId, ScopeKind};
 use std::alloc::{AllocError, Global};
@@ -36,8 +37,7 @@ struct Known<'a> {
     scope: usize,
 }
 
-/// Finds the bindings that names refer to: of those of the innermost scope around a name that binds its text, the
-/// first.
+/// Finds the bindings that names refer to: the first one in the innermost scope around the name that binds its text.
 pub(crate) fn bind<'a>(
     alloc: Global,
     scopes: &[Scope],
@@ -112,7 +112,7 @@ fn sort(events: &mut Vec<Event>) -> Result<(), AllocError> {
     events.sort_by_key(|event: &Event| (event.at, event.what))
 }
 
-/// The bindings with their scopes, by these, and of one scope in the order of the text.
+/// The bindings with their scopes: sorted by scope, and within a scope in the order of the text.
 fn known_of<'a>(
     alloc: Global,
     scopes: &[Scope],

@@ -39,7 +39,7 @@ impl<'a> Collector<'a> {
         }
     }
 
-    /// Adds a function, whose name is bound where it is (15.2.6).
+    /// Adds a function, whose name is bound in the scope that it is in (8.2).
     pub(crate) fn add_declared_function(&mut self, place: Span) -> Result<(), AllocError> {
         let Some(function) = self.program.function(place) else {
             return Ok(());
@@ -51,7 +51,7 @@ impl<'a> Collector<'a> {
         }
     }
 
-    /// Adds a class, which binds its name within itself (15.7.15).
+    /// Adds a class, which binds its name within itself (15.7.14).
     fn add_class_expression(&mut self, place: Span) -> Result<(), AllocError> {
         let Some(class) = self.program.class(place) else {
             return Ok(());
@@ -63,7 +63,7 @@ impl<'a> Collector<'a> {
         }
     }
 
-    /// Adds a class, whose name is bound where it is, and within it too (15.7.14).
+    /// Adds a class, whose name is bound in the scope that it is in (15.7.15), and within the class too (15.7.14).
     pub(crate) fn add_declared_class(&mut self, place: Span) -> Result<(), AllocError> {
         let Some(class) = self.program.class(place) else {
             return Ok(());
@@ -76,7 +76,7 @@ impl<'a> Collector<'a> {
         self.add_name(name, Role::Bound(Home::Innermost))
     }
 
-    /// Adds the scopes of a function, whose place that of `arguments` is. Answers the one around it.
+    /// Adds the scopes of a function. `place` is where its `arguments` are bound. Answers the scope around it.
     fn add_function(&mut self, function: &Function, place: Span) -> Result<ScopeId, AllocError> {
         let span = after_name(&function.name, function.span);
         let around = self.add_around(span, place)?;

@@ -1,4 +1,5 @@
--- The source of a program: what it gives isn't promised, but that nothing comes after its end, nor after it has failed.
+-- The source of a program. Nothing is promised of what it gives, but that nothing comes after its end, or after it has
+-- failed.
 use Rattle.std.specs.Prelude.{◌≡◌, ⊤, ℕ, ◌-◌, ◌<◌, ◌≤◌, false, true, List, [], ◌++◌, Option, Some, None, MatchOption, length}
 use Rattle.std.proofs.Common.{refl, ap, ◌∙◌}
 use Rattle.swc_context.specs.declared.context.TokenContexts.{TokenContexts}

@@ -85,7 +85,8 @@ fn take_brace(partners: &mut Vec<usize>, open: &mut Vec<Open>, at: usize) {
     }
 }
 
-/// Closes the bracket that was opened last. What is after it and has no brace has none.
+/// Closes the bracket that was opened last. A function or a class that begins within it and has had no brace yet gets
+/// none.
 fn close(partners: &mut Vec<usize>, open: &mut Vec<Open>, at: usize) {
     while let Some(inner) = open.pop() {
         if let Open::Bracket(opener) = inner {
@@ -183,8 +184,8 @@ impl Bracketed {
         }
     }
 
-    /// The place of what is in place of the name of the function or the class that begins with the token, if it has
-    /// none.
+    /// The place of the token that is where the name would be of the function or the class that begins with the token;
+    /// `None` if it has a name.
     pub fn missing_name(&self, first: usize) -> Option<Span> {
         let after = self.keyword(first)?.checked_add(1)?;
         let name = match &self.get(after)?.token {

@@ -66,8 +66,9 @@ impl ProgramInput {
         }
     }
 
-    /// Of the function, the class or the block whose first token begins at the place, and was given, nothing but the
-    /// braces comes, where these are in the list and were not given yet.
+    /// Leaves out the rest of the function, the class or the block whose first token begins at the place, and was given
+    /// already: from now on only its braces come. Does nothing if the braces aren't in the list, or if a token after
+    /// the `{` was given.
     pub fn pass_over(&mut self, start: BytePos)
         ensures still { StillOpen self.old self.new }
         ensures lower { tokens_left self.new ≤ tokens_left self.old }
@@ -90,12 +91,13 @@ impl ProgramInput {
         self.list.is_after_static(self.list.index_of(start.0))
     }
 
-    /// The place of what is in place of the name of the function or the class that begins there, if it has none.
+    /// The place of the token that is where the name would be of the function or the class that begins there; `None` if
+    /// it has a name.
     pub fn missing_name(&self, start: BytePos) -> Option<Span> {
         self.list.missing_name(self.list.index_of(start.0))
     }
 
-    /// Notes a number or an escape of old scripts (ECMA-262, 12.9.3.1 and 12.9.4.1), which strict code has none of.
+    /// Notes a number or an escape of old scripts (ECMA-262, 12.9.3.1 and 12.9.4.1), which strict code must not have.
     fn note_legacy(&mut self, token: &TokenAndSpan)
         ensures { self.new ≡ record self.old { legacy = self.new.legacy } }
     {
@@ -117,7 +119,8 @@ impl ProgramInput {
         };
     }
 
-    /// Takes out the first fault of strict code, if one was recorded that waits for a module.
+    /// Takes out a fault of strict code, if there is one: the first number or escape of old scripts, or otherwise the
+    /// first fault that was recorded in strict code and waits for a module.
     pub fn take_strict_fault(&mut self) -> Option<Error> {
         if let Some(fault) = self.legacy.take() {
             return Some(fault);

@@ -18,7 +18,7 @@ use swc_ecma_parser::parser::Parser;
 use swc_lexer::reader::{End, Reader, kind_in};
 use swc_lexer::stack::Start;
 
-/// The nodes of a text, over functions, classes and blocks as their tokens.
+/// The nodes of a text. Functions, classes and blocks in it are kept as their tokens.
 pub type Nodes = NodesOf<TokenBodies>;
 
 /// The tokens of a part of a text, and where it ends.

@@ -36,7 +36,7 @@ fn asked_context(rt: &HostRuntime) -> io::Result<Option<Context>> {
     Ok(asked)
 }
 
-/// The context of the name.
+/// The context of the name: `script`, `module`, `strict`, `generator` or `async`. `None` for any other.
 pub fn context_named(name: &str) -> Option<Context> {
     match name {
         "script" => Some(Context::script()),

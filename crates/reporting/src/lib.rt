@@ -87,7 +87,7 @@ impl Refusal {
         }
     }
 
-    /// The refusal that also tells what isn't closed, unless it tells of something else that isn't.
+    /// The refusal that also tells what isn't closed. One that already does, or is `TooDeep`, stays as it is.
     pub fn with_opener(self, opener: Span) -> Refusal {
         match self {
             Refusal::Fault(fault) => Refusal::Unclosed { fault, opener },

@@ -10,7 +10,7 @@ pub struct Lines {
 }
 
 impl Lines {
-    /// The lines of a text, each of which ends with LF, CR or both (ECMA-262, 12.3).
+    /// The lines of a text, each of which ends with LF, CR or CRLF, as in `LineColumn`.
     pub fn new(alloc: Global, text: &[u8]) -> Result<Lines, AllocError> {
         let mut starts = Vec::new(alloc);
         for at in 0..text.len() {

@@ -59,9 +59,9 @@ impl Ending {
         self.legacy
     }
 
-    /// The refusal by a fault of the parser, which `is_too_deep` or not: where the lexer has a fault in its place,
-    /// that; and where it is at the last token or after it, and something is open that begins elsewhere, it tells of
-    /// that too.
+    /// The refusal for a fault of the parser: `TooDeep` if it `is_too_deep`. Where the lexer has a fault at the same
+    /// place, that fault is told instead. Where the fault is at the last token or after it, and what opens elsewhere
+    /// isn't closed, the refusal tells of that too.
     pub fn refusal(self, fault: Error, is_too_deep: bool) -> Refusal {
         if is_too_deep {
             return Refusal::TooDeep(fault.span());
@@ -97,8 +97,8 @@ fn legacy_in(tokens: &[TokenAndSpan]) -> Option<Error> {
     None
 }
 
-/// What is open after the last token, as far as the end there is its fault: where the innermost bracket opens that
-/// isn't closed; where the lexer has a fault there, where the template opens whose text that is.
+/// Where the innermost bracket opens that isn't closed after the last token. If that token is a fault of the lexer, it
+/// is instead where the template opens whose text the fault is in, if it is in one.
 fn open_at_end(alloc: Global, tokens: &[TokenAndSpan]) -> Result<Option<Span>, AllocError> {
     let mut open: Vec<(What, Span)> = Vec::new(alloc);
     let mut has_fault = false;

@@ -28,8 +28,8 @@ const NO_HEADING: Heading<'static> = Heading {
 
 /// Writes the text of a file with what its rows answer now: each row before it is answered.
 ///
-/// A line with no ` | ` is for its reader. One that ends with `:` is a heading, `calls | setting:`, and the lines after
-/// it that are indented by four blanks are rows of it, `text | answer`. Any other line is a row by itself,
+/// A line with no ` | ` is a note to the reader. One that ends with `:` is a heading, `calls | setting:`, and the lines
+/// after it that are indented by four blanks are rows of it, `text | answer`. Any other line is a row by itself,
 /// `calls | setting | text | answer`. What is answered in another manner, if it isn't the same, follows the row,
 /// indented by eight.
 ///

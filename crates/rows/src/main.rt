@@ -19,9 +19,10 @@ use std::io::{ErrorKind, Read, Write};
 use std::process::ExitCode;
 use std::{env, fs, io, str};
 
-/// The status where a row isn't as its file has it, and where a file or a row can't be read.
+/// The status where a row isn't as its file has it.
 const OTHERWISE: u8 = 1;
 
+/// The status where a file or a row can't be read.
 const UNREAD: u8 = 3;
 
 /// What is on standard input.

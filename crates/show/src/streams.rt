@@ -6,12 +6,12 @@ use std::alloc::Global;
 use std::io;
 use std::io::{Read, Write};
 
-/// The refusal of an input that can't be read, and of an output that can't be written.
+/// The error of an input that can't be read, and of an output that can't be written.
 #[derive(Drop, Debug)]
 pub struct Failed;
 
-/// An input, of which nothing is known but what it says itself: so what is proved over any input holds of one that
-/// never fails too.
+/// An input. Nothing is known of it but what it states itself: so what is proved for any input also holds for one that
+/// never fails.
 pub trait Input {
     ghost use Rattle.std.specs.Prelude.{◌≡◌, ℕ, List, Option, IfOk, IfSome, OnErr};
 
@@ -42,7 +42,7 @@ impl<R: Read> Input for R {
     }
 }
 
-/// An output, of which nothing is known in the same way.
+/// An output. As with `Input`, nothing is known of it but what it states itself.
 pub trait Output {
     ghost use Rattle.std.specs.Prelude.{OnErr};
 

@@ -23,7 +23,8 @@ fn texts<'a>(rt: &HostRuntime, arguments: &'a [String]) -> Result<Vec<&'a str>, 
     Ok(all)
 }
 
-/// Arguments that can't be read, as those that are no UTF-8, are bad arguments: `run` says so of none.
+/// Arguments that can't be read, for example because they aren't UTF-8, are bad arguments: `run` is then called with
+/// none, and writes the usage.
 fn main(rt: HostRuntime) -> ExitCode {
     let arguments = arguments(&rt).unwrap_or_else(|_| Vec::new(rt.alloc()));
     let texts = texts(&rt, &arguments).unwrap_or_else(|_| Vec::new(rt.alloc()));

@@ -29,7 +29,7 @@ pub(crate) enum Line<'a> {
 }
 
 /// The tree of a program, as text (ECMA-262, 14 to 16): `Program::read`, with `LEVELS`, and a line for each statement,
-/// clause and member.
+/// clause and member. The refusals are those of `Program::read`, and out of memory.
 pub fn tree_of(alloc: Global, text: &str, goal: Goal) -> Result<String, Refusal> {
     let program = Program::read(alloc, text, goal, LEVELS)?;
     let mut outline = Outline {

@@ -18,7 +18,7 @@ pub record Collected (s t : Passes) : Type 0 where
   pub none : kept_bodies t.reader ≡ []
   pub waits : t.waiting.items ≡ s.waiting.items ++ reverse (kept_bodies s.reader)
 
--- a pass left no body to the hook, and those that wait wait still, before those that it met
+-- a pass left no body to the hook, and those that waited still wait, before those that it met
 pub record Passed (s t : Passes) : Type 0 where
   pub none : kept_bodies t.reader ≡ []
   pub waits : (met : List Waiting) × (t.waiting.items ≡ s.waiting.items ++ met)

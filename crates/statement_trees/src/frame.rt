@@ -29,9 +29,9 @@ pub(crate) struct List {
 pub(crate) enum Owner {
     /// A program.
     Program,
-    /// The block of a function, whose `}` stays.
+    /// The block of a function. Its `}` isn't consumed.
     Function,
-    /// A static block of a class, whose `}` stays.
+    /// A static block of a class. Its `}` isn't consumed.
     StaticBlock,
     /// A block that began there.
     Block(BytePos),

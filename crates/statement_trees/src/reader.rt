@@ -228,7 +228,7 @@ impl Reader {
         Ok(expr)
     }
 
-    /// Puts off what is to be done after what comes next.
+    /// Puts off a frame, until what comes next was read.
     pub(crate) fn put_off(&mut self, frame: Frame) -> PResult<()>
         ensures context { context_of self.new ≡ context_of self.old }
         ensures adds { work self.new ≤ work self.old + 1 }
@@ -237,7 +237,7 @@ impl Reader {
         self.kept(pushed)
     }
 
-    /// Puts off a statement that has a part, which comes next.
+    /// Puts off the rest of a statement, until its next part was read.
     pub(crate) fn put_off_part(&mut self, start: BytePos, part: Part) -> PResult<()>
         ensures context { context_of self.new ≡ context_of self.old }
         ensures adds { work self.new ≤ work self.old + 2 }
@@ -254,7 +254,8 @@ impl Reader {
         self.frames.pop()
     }
 
-    /// Whether a list in braces ends after an item: its `}` is consumed, or else a comma.
+    /// Whether a list in braces ends after an item. Consumes a comma, if there is one, and the `}` at the end of the
+    /// list; any other token after the item is refused.
     pub(crate) fn ends_braces(&mut self) -> PResult<bool>
         ensures context { context_of self.new ≡ context_of self.old }
         ensures lower { work self.new ≤ work self.old }

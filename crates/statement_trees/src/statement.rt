@@ -15,7 +15,8 @@ use swc_ecma_parser::input::token::Token;
 use swc_ecma_parser::nodes::node::ExprId;
 
 impl Reader {
-    /// Reads statements up to what begins none. A prologue that has `"use strict"` makes what is after it strict.
+    /// Reads statements, up to `}`, `case`, `default` or the end of the tokens. After `"use strict"` in the prologue
+    /// the rest of the list is strict code. Then the context from before is put back.
     pub(crate) fn list(&mut self, owner: Owner) -> PResult<Vec<StatementId>>
         ensures context { context_of self.new ≡ context_of self.old }
     {
@@ -26,7 +27,7 @@ impl Reader {
         Ok(std::mem::replace(&mut self.list, Vec::new(self.alloc)))
     }
 
-    /// Reads statements up to what begins none, after which the code may be strict.
+    /// Reads statements as `list` does, but leaves the context, which may be strict then.
     fn rest_of_list(&mut self, owner: Owner) -> PResult<()>
         ensures module { SameModule self.old self.new }
     {
@@ -98,7 +99,8 @@ impl Reader {
         }
     }
 
-    /// Reads a statement that is a part of another one, which is no declaration but a function.
+    /// Reads a statement that is a part of another one. A declaration by `class`, `const` or `let` is refused: `{` is
+    /// wanted.
     fn body(&mut self) -> PResult<()>
         ensures context { context_of self.new ≡ context_of self.old }
         ensures falls { OnOk result (work self.new + 3 ≤ work self.old) }
@@ -380,7 +382,7 @@ impl Reader {
         Ok(Some(self.expr()?))
     }
 
-    /// What is thrown, on the line of the word.
+    /// What is thrown. After a line break the current token is refused, as `TS1109`.
     #[tactic(auto, unfolding(crate::specs::Contexts::effort))]
     fn thrown(&mut self) -> PResult<ExprId>
         ensures context { context_of self.new ≡ context_of self.old }

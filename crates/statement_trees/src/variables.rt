@@ -30,8 +30,8 @@ fn word_of(kind: VariableKind) -> Keyword {
 }
 
 impl Reader {
-    /// `var`, `let` or `const`, with names and their values (14.3). In the head of a `for` one may be alone before `of`
-    /// or `in`; says whether it is.
+    /// `var`, `let` or `const`, with names and their values (14.3). In the head of a `for`, a single name or pattern
+    /// without a value may be before `of` or `in`: the second answer says whether it is.
     pub(crate) fn variables(
         &mut self,
         kind: VariableKind,
@@ -62,8 +62,8 @@ impl Reader {
         Ok((variables, is_alone))
     }
 
-    /// A name or a pattern that is declared, and its value or nothing. The flag says that there may be one alone, and
-    /// then that it is.
+    /// A name or a pattern that is declared, and its value or nothing. `is_alone` says whether it may be a single one
+    /// before `of` or `in`, and afterwards whether it is.
     fn declarator(&mut self, kind: VariableKind, is_alone: &mut bool) -> PResult<Declarator>
         ensures context { context_of self.new ≡ context_of self.old }
         ensures lower { work self.new ≤ work self.old }

@@ -11,7 +11,7 @@ use swc_ecma_parser::context::word::{Keyword, Word};
 use swc_ecma_parser::input::token::Token;
 
 impl Reader {
-    /// Whether the word is current, which is no keyword.
+    /// Whether the word, which is no keyword, is current.
     pub(crate) fn at_word(&mut self, word: &str) -> bool
         ensures current { result ≡ true → IsSome (current (buffer_of self.new.parser)) }
         ensures context { context_of self.new ≡ context_of self.old }
@@ -23,7 +23,7 @@ impl Reader {
         }
     }
 
-    /// Consumes the word where it is current, which is no keyword. Says whether it did.
+    /// Consumes the word, which is no keyword, if it is current. Says whether it did.
     pub(crate) fn eat_word(&mut self, word: &str) -> bool
         ensures context { context_of self.new ≡ context_of self.old }
         ensures lower { work self.new ≤ work self.old }
@@ -87,7 +87,7 @@ impl Reader {
         matches!(input.cur(), Some(Token::Word(_))) && matches!(input.peek(), Some(Token::Colon))
     }
 
-    /// Whether a declaration begins with the keyword that is current: `import` doesn't before `(` and `.`.
+    /// Whether an import declaration begins here: `import`, but not before `(` or `.`.
     pub(crate) fn at_import(&mut self) -> bool
         ensures context { context_of self.new ≡ context_of self.old }
         ensures lower { work self.new ≤ work self.old }

@@ -1,4 +1,4 @@
--- What the clean parser reads of the body of an arrow function (15.3, 15.9), as the code goes it.
+-- What the clean parser reads of the body of an arrow function (15.3, 15.9), as the code does it.
 use Rattle.std.specs.Prelude.{◌≡◌, Bool, true, false, List, [], ◌∷◌, Some, None}
 use Rattle.std.proofs.Common.{refl, sym, ap, ◌∙◌}
 use Rattle.swc_context.specs.{Contexts.arrow_body, declared.span.Span.Span}

@@ -45,7 +45,7 @@ module _ {S : Type 0} {model : Model S} {sure : Bool} where
     none = h.none;
   }
 
-  -- reading f is reading whatever one likes, after it
+  -- where f is doomed, what it goes on with may be any reader g
   unfoldable pub doomed_on : {A : Type 0} {f g : Reader A} {b c : Buffer S} → Doomed model sure f b c
       → On model sure f g b c
   doomed_on h = record {

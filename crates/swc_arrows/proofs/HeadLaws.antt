@@ -188,8 +188,8 @@ module _ {F C K : Type 0} (hook : Hook F C K) (x : Scope) where
 
   -- ---- `async`, a name, and `=>`
 
-  -- after `async`: the name is `of` alone exactly where the head of a `for await` may take `async` for a name, if it
-  -- is one of these
+  -- after `async`: the name is `of` alone exactly where the head of a `for await` may take `async` for a name, if it is
+  -- one of these
   of_alone : (us : List TokenAndSpan) → is_of_alone x.context us ≡ false
       → (before_of_here x (first us) && not (at_token is_arrow (second us))) ≡ false
   of_alone [] h = refl

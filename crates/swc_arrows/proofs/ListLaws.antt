@@ -1,4 +1,4 @@
--- What the clean parser reads after a list in parentheses, as the code goes it (13.2.9, 15.3, 15.9).
+-- What the clean parser reads after a list in parentheses, as the code does it (13.2.9, 15.3, 15.9).
 use Rattle.std.proofs.Common.{◌≡◌, Bool, true, false, not, ◌&&◌, if◌then◌else◌, List, [], ◌∷◌, Option, Some, None, ℕ, map, refl, sym, ap, subst, ◌∙◌}
 use Rattle.std.specs.Prelude.{is_some}
 use Rattle.swc_context.specs.{declared.span.BytePos.BytePos, declared.span.Span.Span}

@@ -14,7 +14,7 @@ use swc_context::atom::Atom;
 use swc_context::operator::{AssignOp, BinaryOp, UnaryOp, UpdateOp};
 use swc_context::span::Span;
 
-/// Which of the two (ECMA-262, 13.3.12).
+/// Which meta-property it is (ECMA-262, 13.3.12).
 #[derive(Drop)]
 pub enum MetaPropKind {
     /// `new.target`

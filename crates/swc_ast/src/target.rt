@@ -17,9 +17,9 @@ pub trait ExprExt<F: Spanned, C: Spanned, K: Spanned> {
 
     /// Whether it may be left of an operator that writes, as `=` or `++`, and is no pattern (ECMA-262, 8.6.4).
     ///
-    /// That may an identifier, in strict code neither `eval` nor `arguments`; a property of
-    /// `super`; a member whose object is no link of an optional chain and, if it is a member, may
-    /// are there too; and any of these in parentheses.
+    /// These may: an identifier, but in strict code neither `eval` nor `arguments`; a property of `super`; a member,
+    /// unless its object is a link of an optional chain, or a member that may not itself; and any of these in
+    /// parentheses.
     fn is_valid_simple_assignment_target(&self, strict: bool) -> bool
         ensures { result ≡ is_target strict (expr_tree _ _ _ F.place C.place K.place (inner self.now)) }
     {

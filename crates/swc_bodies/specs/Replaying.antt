@@ -1,6 +1,5 @@
 -- What is taken as tokens is taken without the slashes at which regular expressions were found too, and the same is
--- kept
--- of it.
+-- kept of it.
 use Rattle.std.proofs.Common.{◌≡◌, ◌≤◌, Bool, true, false, ◌&&◌, List, [], ◌∷◌, ◌++◌, Option, Some, None, refl, sym, ap, ◌∙◌}
 use Rattle.std.proofs.lemmas.Bool.{eqb-true, leb-true}
 use Rattle.std.specs.Prelude.{nat_eq, nat_le}

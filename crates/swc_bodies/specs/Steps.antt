@@ -14,8 +14,7 @@ wanting k = None
 
 module _ {S : Type 0} (model : Model S) where
   -- Why no body was answered: out of memory, at the end of the token consumed last; or the current token, which may not
-  -- be in the
-  -- body, or is an error token, or the end.
+  -- be in the body, or is an error token, or the end.
   pub data NoBody (e : Error) (c : Buffer S) : Type 0 where
     wanted_memory : e ≡ no_memory (last_position c) → NoBody e c
     refused_token : (b : Buffer S) (k : SyntaxError) → wanting k ≡ Some wanted.LBrace

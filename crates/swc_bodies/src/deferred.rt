@@ -41,8 +41,8 @@ pub struct Waiting {
 /// put after the bodies that still wait: so a loop that ends when `pop` answers `None` reads all, however deep they
 /// are.
 ///
-/// Tokens are moved, and none is copied. Over all these passes a token is moved once for each body that it is in:
-/// so their cost grows with the square of how deep bodies are in one another, and with that alone.
+/// Tokens are moved, and none is copied. Over all these passes a token is moved once for each body that it is in: at
+/// most as many times as bodies are nested there.
 #[derive(Drop)]
 pub struct DeferredBodies {
     taker: TokenBodies,

@@ -100,12 +100,11 @@ fn take_body<I: Tokens>(alloc: Global, first: Place, input: &mut Buffer<I>) -> P
 /// token is moved, and none is copied. Before one is kept, those kept at the end that end after its
 /// start are dropped: where the tokens come in order, all are kept.
 ///
-/// A closing bracket before the brace, where none is open, is refused as `Unexpected` with `{`, at
-/// that token, and isn't consumed; so is what follows `async` and isn't `function` on the same line. The end of the
-/// tokens is refused as `Eof`, an empty span where the token consumed last ends. An error token is
-/// consumed, and its error is the refusal. Out of memory, and 2^64 - 1 open brackets, are refused as
-/// `OutOfMemory`, an empty span at that place too. What was taken before a refusal stays consumed.
-/// The hook records no fault itself.
+/// A closing bracket before the brace, where none is open, is refused as `Unexpected` with `{`, at that token, and
+/// isn't consumed; so is what follows `async` and isn't `function` on the same line. The end of the tokens is refused
+/// as `Eof`, an empty span where the token consumed last ends. An error token is consumed, and its error is the
+/// refusal. Out of memory, and 2^64 - 1 open brackets, are refused as `OutOfMemory`, an empty span at that place too.
+/// What was taken before a refusal stays consumed. The hook records no fault itself.
 #[derive(Drop)]
 pub struct TokenBodies {
     alloc: Global,

@@ -24,7 +24,7 @@ impl fmt::Display for Explained<'_> {
 
 impl Error {
     /// The fault in words, to be printed, where `text` is the text in which the fault is. The text at the fault's span
-    /// is shown in quotes, up to 40 bytes of it. An empty span, and one at the end of the text, is the end of the text.
+    /// is shown in quotes, up to 40 bytes of it. An empty span, or one after the end, is shown as the end of the text.
     pub fn explain<'a>(&'a self, text: &'a [u8]) -> Explained<'a> {
         Explained { error: self, text }
     }
@@ -66,8 +66,8 @@ impl Error {
     }
 }
 
-/// What was found: its text in quotes, which are double ones around a single one, or the end of the text. Of a
-/// character that can't be seen the number is shown.
+/// What was found: its text in quotes, or the end of the text. The quotes are double if the text has a single quote. A
+/// character that can't be seen is shown by its number.
 #[derive(Clone, Copy)]
 struct Found<'a> {
     /// The text that was found, which is empty at the end.

@@ -5,15 +5,16 @@ use crate::error::Error;
 use crate::span::Span;
 use std::fmt;
 
-/// How many characters of a line are shown at most, and how many of them before the place.
+/// How many characters of a line are shown at most.
 const WIDTH: usize = 120;
 
+/// How many of these are shown at most before the place.
 const BEFORE: usize = 60;
 
 /// Two lines, to be printed: the line of the text in which a place begins, and `^` below each character of the place,
-/// or one `^` for an empty place. Of a long line 120 characters around the place are shown. Lines end with LF, CR,
-/// CRLF, LS or PS (ECMA-262, 12.3). A tab is kept, and bytes that aren't UTF-8 and other control characters are shown
-/// as U+FFFD.
+/// or one `^` for an empty place. At most 120 characters of a line are shown, at most 60 of them before the place.
+/// Lines end with LF, CR, CRLF, LS or PS (ECMA-262, 12.3). A tab is kept, and bytes that aren't UTF-8 and other control
+/// characters are shown as U+FFFD.
 #[derive(Clone, Copy)]
 pub struct Frame<'a> {
     text: &'a [u8],

@@ -8,7 +8,7 @@ use Rattle.swc_nodes.specs.GrowingNodes.{count, seat_at, first_at, Apart, From, 
 use Rattle.swc_nodes.specs.{Turning.KeptBelow, NumberedTrees.floor, NodeParts.Part, declared.nodes.Nodes.Nodes}
 
 module _ {F C K : Type 0} {fg : Ghosts F} {cg : Ghosts C} {kg : Ghosts K} where
-  -- what was appended is refined, from no number below those that there were: as if nodes were appended alone
+  -- what was appended is refined, from no number below those that were there: as if nodes were appended alone
   pub grows-kept : {ns ms ks : Nodes F C K fg cg kg} {k : ℕ} → Grows ns ms → count ns ≤ k → KeptTo k ms ks → Grows ns ks
   grows-kept {ns} {ms} {ks} {k} g le h =
       let n = count ns in

@@ -189,8 +189,6 @@ module _ {F C K : Type 0} {fg : Ghosts F} {cg : Ghosts C} {kg : Ghosts K} where
       ∙ ap (λ v. verdict w (marked_tree fg.place cg.place kg.place (tree_at ns) (n.Assign s o v r))) q
       ∙ pattern-verdict ns w s o u r h (left-shape (target.Pat u) b.from))
 
-  -- ---- all else
-
   -- ---- patterns, once more
 
   pat-elem-by : {ns : Nodes F C K fg cg kg} {i j : ℕ} {x : Node F C K} (s : Span) (elems : Vec (Option PatElem) Global)

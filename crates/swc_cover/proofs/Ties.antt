@@ -31,7 +31,7 @@ two-ifs true true a d f = refl
 two-ifs true false a d f = refl
 two-ifs false c a d f = refl
 
--- what is under a test of its own, and what it is put before
+-- an answer that two tests ask for, and what is made of it
 guarded : {A B : Type 0} (b c : Bool) (a : A) (f : A → B) → ((if b then answer c a else None) >>> (λ x. Some (f x))) ≡
     answer (b && c) (f a)
 guarded true true a f = refl

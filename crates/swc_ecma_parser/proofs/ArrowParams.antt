@@ -34,7 +34,7 @@ use Rattle.swc_productions.proofs.ByThemselves.{args_counted, arguments_splits}
 use Rattle.swc_ecma_parser.specs.ArrowParams.{arrow_params_at, params_items, arrow_params_of}
 use Rattle.swc_ecma_parser.specs.Promise.{keep_items, only_items}
 
--- ---- the grammar's production, as the code goes it: a list that is read as arguments are, and then made parameters of
+-- ---- the production, as the code follows it: a list that is read as arguments are, and then made into parameters
 
 module _ {F C K : Type 0} where
   -- the list as parameters, by the grammar, and as the code checks and makes them
@@ -162,7 +162,7 @@ module _ {S F C K : Type 0} {fg : Ghosts F} {cg : Ghosts C} {kg : Ghosts K} {mod
       (refines_at list (apart-down (args_parts list.items) a)
       (read-valid hook lawful (Arguments false) x ts us (args_at ns list) e)) ys
 
-  -- its items were checked, and made parameters of
+  -- its items were checked, and made into parameters
   params_heard : {d : Buffer S} (ps : Trees F C K) → ps ≡ want_items (items_at ns list.items.items)
       → Checks model (is_clear (params_verdict list.trailing_comma (items_at ns list.items.items))
       && names_ok (context model c) ps) c d → Heard model sure (params_items hook) (node args no_span ps) b d
@@ -195,7 +195,7 @@ module _ {S F C K : Type 0} {fg : Ghosts F} {cg : Ghosts C} {kg : Ghosts K} {mod
 module _ {S H F C K : Type 0} {fg : Ghosts F} {cg : Ghosts C} {kg : Ghosts K} {model : Model S} {sure : Bool}
     (hook : Hook F C K)
     (lawful : LawfulHook fg.place cg.place kg.place hook) where
-  -- a list was read, and was made parameters of, or not
+  -- a list was read, and made into parameters, or not
   pub params-made : {p q : Productions S H F C K fg cg kg} (m : Productions S H F C K fg cg kg)
       (list : Listed (ExprOrSpread ExprId)) (r : Result (Vec PatId Global) Error)
       → Heard model sure (run hook (at (Arguments false))) (args_at m.nodes list) p.input m.input

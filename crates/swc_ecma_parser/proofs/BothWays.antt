@@ -43,7 +43,7 @@ module _ {F C K : Type 0} where
   kept-items : (t : Tree F C K) → items_of (only_items t) ≡ all_unmarked (items_of t)
   kept-items (node k s ts) = refl
 
-  -- in trees that are the same, places apart, the same is left
+  -- in trees that are the same but for places, the same is left
   same-done : (ts us : Trees F C K) → erase_all ts ≡ erase_all us → none_left ts ≡ none_left us
   same-done ts us h = sym (all-covers-erased ts) ∙ ap none_left h ∙ all-covers-erased us
 

@@ -1,6 +1,5 @@
 -- Readings that are finished: no cover name is left in what they give, where the syntax is pedantic. From an answer
--- that was looked
--- through for such names to what is promised of it.
+-- that was looked through for such names to what is promised of it.
 use Rattle.std.proofs.Common.{◌≡◌, ◌≢◌, ℕ, Bool, true, false, not, ◌||◌, if◌then◌else◌, List, [], ◌∷◌, Some, None, Result, Ok, Err, IfOk, OnOk, MatchResult, refl, sym, ap, subst, ◌∙◌}
 use Rattle.swc_context.specs.{declared.error.Error.Error, declared.error.SyntaxError.TheVariants.OutOfMemory, declared.span.Span.Span}
 use Rattle.swc_input.specs.{Buffer.last_position, Recording.no_memory, Source.Model, declared.buffer.Buffer.Buffer, declared.token.TokenAndSpan.TokenAndSpan}

@@ -1,6 +1,5 @@
 -- The expression in the head of a `for` (ECMA-262, 14.7.4 and 14.7.5), by what the context says of `for await`: from
--- what is
--- read to what is promised.
+-- what is read to what is promised.
 use Rattle.std.proofs.Common.{◌≡◌, Bool, true, false, Some, Result, Err, ap, ◌∙◌}
 use Rattle.std.specs.{declared.alloc.Global.Global, declared.boxed.Box.Box}
 use Rattle.swc_context.specs.{declared.error.Error.Error, declared.span.Span.Span}

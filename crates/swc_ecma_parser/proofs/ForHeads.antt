@@ -34,7 +34,7 @@ use Rattle.swc_ecma_parser.specs.Promise.{Complete, Derivation, Finished, Unmarr
 use Rattle.swc_ecma_parser.proofs.Finished.{finished, finished-from, finished-into, finished-parses, parts-told, parts-told-bare}
 use Rattle.swc_steps.proofs.Steps as steps
 
--- ---- the definition, as the code goes it
+-- ---- the definition, as the code follows it
 
 sees_first : (ts : List TokenAndSpan) → sees is_each ts ≡ at_token is_each_word (first ts)
 sees_first [] = refl
@@ -53,7 +53,7 @@ module _ {F C K : Type 0} where
   abbrev pub tail_made : Tree F C K → Reader (ForHead F C K)
   tail_made e x ts = if sees is_each ts then made e x ts else Some (for_expr e, ts)
 
-  -- an assignment is looked into by no one
+  -- an assignment stays whole
   whole_assign : (e : Tree F C K) → (stands_whole AssignPat e && is_assign e) ≡ is_assign e
   whole_assign (node (array_with c) s ts) = refl
   whole_assign (node (object_with c) s ts) = refl
@@ -70,7 +70,7 @@ module _ {F C K : Type 0} where
   by_clear true p us = refl
   by_clear false p us = refl
 
-  -- what holds nothing that was refused is written to as the code checks it, and is what it makes of it
+  -- what holds nothing that was refused is written to where the code's check passes it, as what the code makes of it
   target_made : (x : Scope) (e : Tree F C K) (ts : List TokenAndSpan) → is_valid e ≡ true → Formed e
       → (if is_assign e then None else written (as_pat (target x.context.strict) e) ts) ≡ made e x ts
   target_made x e ts v f =
@@ -204,7 +204,7 @@ module _ {F C K : Type 0} where
 abbrev pub read_head : {F C K : Type 0} → Hook F C K → Bool → (ForHead F C K → ForHead F C K) → Reader (ForHead F C K)
 read_head hook is_await strip = finished (λ c h. head_done c (strip h)) (for_head hook is_await)
 
--- What derives heads, beside the heads with their marks of commas: heads that `strip` leaves of them.
+-- What derives heads, besides the heads with their marks of commas: heads that `strip` leaves of them.
 pub record DerivesAs {F C K : Type 0} (hook : Hook F C K) (is_await : Bool) (derives : Derivation (ForHead F C K))
     (strip : ForHead F C K → ForHead F C K) : Type 0 where
   pub into : (c : Scope) (xs ys : List TokenAndSpan) (m : ForHead F C K) → ReadsHead hook is_await c xs ys m

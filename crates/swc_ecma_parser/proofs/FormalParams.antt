@@ -108,12 +108,12 @@ module _ {F C K : Type 0} (hook : Hook F C K) where
   abbrev pub read_params : Reader (Tree F C K)
   read_params = finished items_done (run hook (at Params))
 
--- goes on where they are
+-- reading goes on where no cover name is left
 module _ {F C K : Type 0} where
   abbrev if_done : Scope → Tree F C K × List TokenAndSpan → Out (Tree F C K)
   if_done c p = if items_done c p.0 then Some p else None
 
-  -- whether some are doesn't hang on the parenthesis
+  -- whether cover names are left doesn't depend on the parenthesis
   abbrev pats_done : Scope → Trees F C K → Bool
   pats_done c pats = not c.syntax.pedantic || none_left pats
 
@@ -194,7 +194,7 @@ module _ {S F C K : Type 0} {fg : Ghosts F} {cg : Ghosts C} {kg : Ghosts K} (mod
   params-alone (Err e) (Ok y) u each (same, stays) l n = absurd cc
   params-alone (Err e) (Err x) u each (same, stays) l n = tt
 
--- What derives parameters, beside the trees with their marks of commas: trees that `strip` leaves of them.
+-- What derives parameters, besides the trees with their marks of commas: trees that `strip` leaves of them.
 pub record Derives {F C K : Type 0} (hook : Hook F C K) (derives : Derivation (Tree F C K))
     (strip : Trees F C K → Trees F C K) : Type 0 where
   pub into : (c : Scope) (xs ys : List TokenAndSpan) (s : Span) (m : Trees F C K)

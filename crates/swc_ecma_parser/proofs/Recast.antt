@@ -1,4 +1,4 @@
--- What expressions become that were put after all nodes, marked with their commas, and made patterns of.
+-- What becomes of expressions that were put after all nodes, marked with their commas, and made into patterns.
 use Rattle.std.proofs.Common.{◌≡◌, ℕ, ◌≤◌, Bool, true, false, List, take, Option, Some, None, Result, Ok, Err, IfOk, IfErr, refl, sym, ap, ◌∙◌, arith}
 use Rattle.std.proofs.lemmas.List.{take_all, take-take}
 use Rattle.std.specs.{Prelude.if◌then◌else◌, Option.is_some, declared.alloc.Global.Global, declared.boxed.Box.Box, declared.vec.Vec.Vec}
@@ -58,7 +58,7 @@ arrow-params-are c None ps h = absurd cc
 arrow-params-are c (Some qs) ps h = ap (λ v. Some v) (sym (from-if (arrow_params_ok c qs) qs ps h))
 
 module _ {F C K : Type 0} {fg : Ghosts F} {cg : Ghosts C} {kg : Ghosts K} where
-  -- nodes that there were stay while others are put after them, marked and changed
+  -- nodes that were there stay while others are put after them, marked and changed
   kept-through : {ns ms ls qs : Nodes F C K fg cg kg} {j : ℕ} {m : Marker} → Grows ns ms → Marks m (count ns) ms ls
       → count ns ≤ j → KeptTo j ls qs → KeptTo (count ns) ns qs
   kept-through {ns} {ms} {ls} {qs} {j} g w le k = record {

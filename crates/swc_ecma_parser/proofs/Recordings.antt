@@ -108,7 +108,7 @@ module _ {S : Type 0} (model : Model S) where
     pub appends : is_silent (state_of model b) ≡ false → is_fit (current b) ≡ true → (d : Buffer S)
         → Appends model rest c d → Appends model all b d
 
--- of places, none is left after the last; and before it one, and then the others
+-- of the faults at places, none is left after the last; before it that of the next place, and then the others
 pub none-left : (ss : List Span) (i : ℕ) → length ss ≤ i → cover_faults (drop i ss) ≡ []
 none-left ss i le = ap cover_faults (drop_of_length-le ss le)
 

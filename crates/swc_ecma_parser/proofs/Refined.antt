@@ -75,7 +75,7 @@ module _ {S H A X T F C K : Type 0} {fg : Ghosts F} {cg : Ghosts C} {kg : Ghosts
     tree = tt;
   })
 
--- ---- the nodes are cut back to those that there were
+-- ---- the nodes are cut back to those that were there
 
 module _ {F C K : Type 0} {fg : Ghosts F} {cg : Ghosts C} {kg : Ghosts K} where
   pub cut-kept : {ns ms : Nodes F C K fg cg kg} (ls : Nodes F C K fg cg kg) → KeptTo (count ns) ns ms

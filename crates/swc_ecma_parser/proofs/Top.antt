@@ -117,7 +117,7 @@ pub right_of : (a b : Bool) → (a && b) ≡ true → b ≡ true
 right_of true b h = h
 right_of false b h = cc
 
--- what leaves trees well
+-- what leaves trees grouped and valid
 pub record Leaves {F C K : Type 0} (strip : Tree F C K → Tree F C K) : Type 0 where
   pub grouped : (t : Tree F C K) → is_grouped t ≡ true → is_grouped (strip t) ≡ true
   pub valid : (t : Tree F C K) → is_valid t ≡ true → is_valid (strip t) ≡ true

@@ -22,7 +22,7 @@ module _ {F C K : Type 0} where
   abbrev pub param_patterns : Ghosts F → Ghosts C → Ghosts K → Vec (Param (Pat F C K)) Global → Trees F C K
   param_patterns fg cg kg w = pats_of fg.place cg.place kg.place w
 
-  -- the same patterns, places apart
+  -- the same patterns, but for places
   abbrev pub Same : Ghosts F → Ghosts C → Ghosts K → Vec (Pat F C K) Global → Vec (Param (Pat F C K)) Global → Type 0
   Same fg cg kg v w = erase_all (patterns fg cg kg v) ≡ erase_all (param_patterns fg cg kg w)
 

@@ -94,10 +94,9 @@ parser_failed at = record { span = at; kind = ParserFailed }
 
 module _ {S H F C K T : Type 0} {fg : Ghosts F} {cg : Ghosts C} {kg : Ghosts K} where
   -- What a call does that makes no node, from the parser p to q, where it answers r. A parser that ran out of memory
-  -- does nothing, and
-  -- refuses as `ParserFailed` at the token consumed last (`again`). Of any other Effect says what is done to the
-  -- buffer, and it has failed
-  -- from now on where it refuses when out of memory, and only there (`fails`). What is remembered of commas stays.
+  -- does nothing, and refuses as `ParserFailed` at the token consumed last (`again`). Of any other Effect says what is
+  -- done to the buffer, and it has failed from now on where it refuses when out of memory, and only there (`fails`).
+  -- What is remembered of commas stays.
   pub record Called (Effect : Buffer S → Result T Error → Buffer S → Type 0) (p : Parser S H F C K fg cg kg)
       (r : Result T Error) (q : Parser S H F C K fg cg kg) : Type 0 where
     pub again : has_failed p ≡ true → (q ≡ p) × (r ≡ Err (parser_failed (previous (buffer_of p))))
@@ -152,8 +151,7 @@ module _ {S F C K : Type 0} (fun_at : F → Span) (class_at : C → Span) (block
 
 module _ {S H F C K : Type 0} {fg : Ghosts F} {cg : Ghosts C} {kg : Ghosts K} where
   -- What a call does that makes an object literal of properties, as `Called` has it of those that remember no comma; on
-  -- Ok the comma after
-  -- the last is remembered at the literal's start.
+  -- Ok the comma after the last is remembered at the literal's start.
   pub record Makes (span : Span) (props : List (PropOrSpread F C K)) (comma : Option Span)
       (p : Parser S H F C K fg cg kg) (r : Result (Box (Expr F C K) Global) Error)
       (q : Parser S H F C K fg cg kg) : Type 0 where
@@ -165,10 +163,8 @@ module _ {S H F C K : Type 0} {fg : Ghosts F} {cg : Ghosts C} {kg : Ghosts K} wh
 
 module _ {S F C K : Type 0} (model : Model S) (fun_at : F → Span) (class_at : C → Span) (block_at : K → Span) where
   -- An object pattern is made of properties. Rests among them are checked first (`notes`): their faults are recorded,
-  -- in their order, and
-  -- no others, and then a last one over no identifier is refused. So nothing is where the last property alone is one,
-  -- over an identifier,
-  -- and no comma comes after it (`checks`).
+  -- in their order, and no others, and then a last one over no identifier is refused. So nothing is where the last
+  -- property alone is one, over an identifier, and no comma comes after it (`checks`).
   pub record MakesPattern (span : Span) (props : List (ObjectPatProp F C K)) (comma : Option Span) (b : Buffer S)
       (r : Result (Pat F C K) Error) (c : Buffer S) : Type 0 where
     pub checks : ContinuesAlone model (λ _. tt) (rests_checked

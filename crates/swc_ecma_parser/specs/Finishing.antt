@@ -35,8 +35,7 @@ module _ {S : Type 0} (model : Model S) where
       (λ e. (r ≡ Err e) × (c ≡ b))
 
 -- An answer that the parser p has read was moved out of the nodes, and those from `start` on were cut off. The parser q
--- has failed if it
--- ran out of memory.
+-- has failed if it ran out of memory.
 pub record HandsOut {S H F C K X T : Type 0} {fg : Ghosts F} {cg : Ghosts C} {kg : Ghosts K} (parts : X → List Part)
     (start : ℕ)
     (p : Parser S H F C K fg cg kg) (answer : Result X Error) (by : (ℕ → Tree F C K) → X → Tree F C K)
@@ -57,8 +56,7 @@ module _ {S H F C K X : Type 0} {fg : Ghosts F} {cg : Ghosts C} {kg : Ghosts K} 
       (buffer_of p) answer checked b
 
   -- What is left of it was kept among the nodes; after a refusal those from `start` on were cut off. The parser q has
-  -- failed if it ran out
-  -- of memory.
+  -- failed if it ran out of memory.
   pub record KeepsChecked (r : Result X Error) (q : Parser S H F C K fg cg kg) : Type 0 where
     pub at : Buffer S
     pub checked : Result X Error

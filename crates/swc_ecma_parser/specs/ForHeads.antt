@@ -73,8 +73,7 @@ module _ {F C K : Type 0} {fg : Ghosts F} {cg : Ghosts C} {kg : Ghosts K} where
 -- ---- the promise
 
 -- What a head begins with, as an expression in boxes: derived where `in` is no operator, and `async` before `of` is, in
--- the
--- head of a `for await`, an identifier.
+-- the head of a `for await`, an identifier.
 abbrev pub ReadsPrefix : {F C K : Type 0} → Hook F C K → Symbol → Derivation (Tree F C K)
 ReadsPrefix hook s = Finished covers_done (λ c xs ys t. ReadsUnmarked hook s (in_own_for c) xs ys t)
 
@@ -89,8 +88,8 @@ prefix_in_boxes {fg = fg} {cg = cg} {kg = kg} = record {
 }
 
 -- What a call promises that reads such an expression, from the parser p to q, where it answers r: as any other
--- expression is promised, and
--- over a listed source, with a faithful hook, also one that is derived up to `of` or `in` is answered.
+-- expression is promised, and over a listed source, with a faithful hook, also one that is derived up to `of` or `in`
+-- is answered.
 pub record PromisedPrefix {S H F C K : Type 0} {fg : Ghosts F} {cg : Ghosts C} {kg : Ghosts K} (model : Model S)
     (sure : Bool) (hook : Hook F C K)
     (p : Parser S H F C K fg cg kg) (r : Result (Box (ExprOf F C K) Global) Error)
@@ -102,8 +101,7 @@ pub record PromisedPrefix {S H F C K : Type 0} {fg : Ghosts F} {cg : Ghosts C} {
 
 module _ {S F C K : Type 0} (model : Model S) (derives : Derivation (ForHead F C K)) where
   -- Between b and c tokens were consumed from which the head is derived: with whatever may follow, and with the next
-  -- token of
-  -- that alone, by which it is told which of the two it is.
+  -- token of that alone, by which it is told which of the two it is.
   pub record DerivesHead (h : ForHead F C K) (b c : Buffer S) : Type 0 where
     pub consumed : List TokenAndSpan
     pub read : Read model b consumed c
@@ -111,8 +109,7 @@ module _ {S F C K : Type 0} (model : Model S) (derives : Derivation (ForHead F C
     pub alone : (ys : List TokenAndSpan) → Future model c ys → derives (scope model b) (consumed ++ next ys) (next ys) h
 
 -- How a call answers a head: which head an answer stands for, by the nodes that the parser then has; what derives such
--- heads, finished;
--- what is left in them of a head with its marks of commas; and what becomes of the nodes.
+-- heads, finished; what is left in them of a head with its marks of commas; and what becomes of the nodes.
 pub record HeadAnswer (T F C K : Type 0) (fg : Ghosts F) (cg : Ghosts C) (kg : Ghosts K) : Type 1 where
   pub head : Nodes F C K fg cg kg → T → ForHead F C K
   pub derives : Hook F C K → Bool → Derivation (ForHead F C K)
@@ -140,8 +137,8 @@ head_by_number = record {
 module _ {S F C K : Type 0} (model : Model S) (hook : Hook F C K) (is_await : Bool)
     (strip : ForHead F C K → ForHead F C K) where
   -- Between b and c the commas of literals were remembered, one after another, and no other: of those of a head that
-  -- has its marks, of
-  -- which `strip` leaves h. Where faults are recorded at all, and none was, it is derived from the tokens consumed.
+  -- has its marks, of which `strip` leaves h. Where faults are recorded at all, and none was, it is derived from the
+  -- tokens consumed.
   pub record RemembersHead (h : ForHead F C K) (b c : Buffer S) (old new : TrailingCommas) : Type 0 where
     pub marked : ForHead F C K
     pub same : strip marked ≡ h
@@ -154,26 +151,22 @@ pub record HeadPromise {S T F C K : Type 0} (model : Model S) (sure : Bool) (der
     (view : T → ForHead F C K)
     (b : Buffer S) (r : Result T Error) (c : Buffer S) : Type 0 where
   -- One token at least was consumed, or it refuses, and what was consumed isn't lost; the context is what it was, no
-  -- recorded fault was
-  -- taken out, and no `OutOfMemory` recorded.
+  -- recorded fault was taken out, and no `OutOfMemory` recorded.
   pub reads : Consumes model b r c
   -- It is a target where `of` or `in` comes next, and an expression elsewhere: faults or not, but where the syntax is
-  -- pedantic if no fault
-  -- was recorded.
+  -- pedantic if no fault was recorded.
   pub which : IfOk r (λ h. ((scope model b).syntax.pedantic ≡ true → Unmarred model b c)
       → is_for_target (view h) ≡ at_token is_each_word (seen c))
   -- What is answered with no fault recorded is derived from the tokens consumed, by the token that follows.
   pub sound : Loud model b → IfOk r (λ h. Unmarred model b c → DerivesHead model derives (view h) b c)
   -- Over a listed source, with a faithful hook: what is derived from the tokens to come, up to the end, `of`, `in`, `;`
-  -- or `)`, is answered,
-  -- with no fault recorded, and what follows it is left; or the answer is out of memory.
+  -- or `)`, is answered, with no fault recorded, and what follows it is left; or the answer is out of memory.
   pub complete : sure ≡ true → Complete model derives view HeadStops b r c
   -- No other head is derived up to such a token, nor up to another one of these than what was answered.
   pub one_head : sure ≡ true → Loud model b → (ts ys : List TokenAndSpan) (h : ForHead F C K) → Known model b ts
       → derives (scope model b) ts ys h → HeadStops ys → IfOk r (λ x. (h ≡ view x) × Known model c ys)
   -- In what was answered with no fault recorded operators group as their levels say, it holds no `Invalid`, and private
-  -- names are where
-  -- they may if the syntax is pedantic.
+  -- names are where they may if the syntax is pedantic.
   pub grouped : Loud model b → IfOk r (λ h. Unmarred model b c → is_grouped (head_tree (view h)) ≡ true)
   pub valid : Loud model b → IfOk r (λ h. Unmarred model b c → is_valid (head_tree (view h)) ≡ true)
   pub privates : Loud model b → (scope model b).syntax.pedantic ≡ true

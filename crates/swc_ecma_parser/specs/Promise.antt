@@ -1,8 +1,6 @@
 -- What the calls of a parser promise, by the written grammar alone. What is derived at a buffer is derived in its
--- scope: by
--- the context without the four flags that decide nothing (`view`), and the syntax. The context itself, with all its
--- flags,
--- is after each call what it was before.
+-- scope: by the context without the four flags that decide nothing (`view`), and the syntax. The context itself, with
+-- all its flags, is after each call what it was before.
 use Rattle.std.specs.Prelude.{◌≡◌, ◌≢◌, Bool, true, false, not, ◌||◌, ◌&&◌, List, [], ◌∷◌, ◌++◌, map, Option, Some, None, Result, Err, IfOk, OnOk, ◌<◌, MatchResult}
 use Rattle.std.specs.{declared.alloc.Global.Global, declared.boxed.Box.Box, declared.vec.Vec.Vec}
 use Rattle.swc_context.specs.{declared.error.Error.Error, declared.error.SyntaxError.TheVariants.OutOfMemory, declared.span.Span.Span}
@@ -55,11 +53,9 @@ abbrev pub Anywhere : List TokenAndSpan → Type 0
 Anywhere ys = Unit {0}
 
 -- Where a reading of the symbol may stop, so that `Promised` has it answered: of a key, of arguments, of a template, of
--- a pattern, of a
--- rest and of an arrow function's parameters anywhere, of a property before `,` and `}`, of a left-hand side before
--- what is no link of it
--- and no `=>`, of the others at the end and before what can't go on with them. Of the other symbols nothing is promised
--- by it.
+-- a pattern, of a rest and of an arrow function's parameters anywhere, of a property before `,` and `}`, of a left-hand
+-- side before what is no link of it and no `=>`, of the others at the end and before what can't go on with them. Of the
+-- other symbols nothing is promised by it.
 abbrev pub EndsAt : Symbol → List TokenAndSpan → Type 0
 EndsAt Key ys = Unit {0}
 EndsAt (Arguments i) ys = Unit {0}
@@ -99,8 +95,7 @@ EndsAt ParamsTail ys = ⊥
 EndsAt (ArrowBody is_async) ys = ⊥
 
 -- An identifier reference, where a word comes first that isn't reserved, or `let`. The other words are taken too, with
--- faults that
--- wait where the code is no module's.
+-- faults that wait where the code is no module's.
 abbrev pub RefersIfFree : Derivation Spelling
 RefersIfFree c xs ys n = at_token (may_be_reference c.context) (first xs) ≡ true → ReadsName Reference c xs ys n
 
@@ -122,16 +117,14 @@ module _ {S T A : Type 0} (model : Model S) (derives : Derivation A) (view : T �
   Sound b r c = Loud model b → IfOk r (λ x. Unmarred model b c → Derives (view x) b c)
 
   -- Over a listed source: what is derived from the tokens to come, up to where a reading may stop, is answered, with no
-  -- fault
-  -- recorded, and what follows it is left; or the answer is out of memory.
+  -- fault recorded, and what follows it is left; or the answer is out of memory.
   abbrev pub Complete : (List TokenAndSpan → Type 0) → Buffer S → Result T Error → Buffer S → Type 0
   Complete stops b r c = Loud model b → (ts ys : List TokenAndSpan) (t : A) → Known model b ts
       → derives (scope model b) ts ys t
       → stops ys → MatchResult r (λ x. (view x ≡ t) × Known model c ys × Unmarred model b c) (λ e. e.kind ≡ OutOfMemory)
 
   -- Between b and c tokens were consumed from which nothing is derived but t: as a list of their own, if a reading may
-  -- stop at its end,
-  -- and with what may follow them, if a reading may stop before that.
+  -- stop at its end, and with what may follow them, if a reading may stop before that.
   pub record DerivesOnly (stops : List TokenAndSpan → Type 0) (t : A) (b c : Buffer S) : Type 0 where
     pub consumed : List TokenAndSpan
     pub read : Read model b consumed c
@@ -145,8 +138,7 @@ module _ {S T A : Type 0} (model : Model S) (derives : Derivation A) (view : T �
 
 module _ {S F C K T : Type 0} (model : Model S) (view : T → Tree F C K) where
   -- In a tree answered with no fault recorded operators group as their levels say, and none of `??` is directly over or
-  -- under one
-  -- of `||` or `&&`.
+  -- under one of `||` or `&&`.
   abbrev pub Grouped : Buffer S → Result T Error → Buffer S → Type 0
   Grouped b r c = Loud model b → IfOk r (λ x. Unmarred model b c → is_grouped (view x) ≡ true)
 
@@ -155,15 +147,13 @@ module _ {S F C K T : Type 0} (model : Model S) (view : T → Tree F C K) where
   Valid b r c = Loud model b → IfOk r (λ x. Unmarred model b c → is_valid (view x) ≡ true)
 
   -- Where the syntax is pedantic, in a tree answered with no fault recorded `#` and a name are on the left of `in`
-  -- alone (ECMA-262,
-  -- 13.10.1), or name a link.
+  -- alone (ECMA-262, 13.10.1), or name a link.
   abbrev pub PrivatesPlaced : Buffer S → Result T Error → Buffer S → Type 0
   PrivatesPlaced b r c = Loud model b → (scope model b).syntax.pedantic ≡ true
       → IfOk r (λ x. Unmarred model b c → privates_ok false (view x) ≡ true)
 
   -- A pattern answered with no fault recorded binds names alone: initialisers and keys apart it holds no expression,
-  -- and rests in object
-  -- patterns hold a name.
+  -- and rests in object patterns hold a name.
   abbrev pub Bound : Buffer S → Result T Error → Buffer S → Type 0
   Bound b r c = Loud model b → IfOk r (λ x. Unmarred model b c → binds_names any (view x) ≡ true)
 
@@ -183,10 +173,8 @@ pub data PropOrRest {F C K : Type 0} (reads : Symbol → Derivation (Tree F C K)
   as-rest : reads Rest c xs ys t → PropOrRest reads c xs ys t
 
 -- How a call answers trees: which tree an answer stands for, by the nodes that the parser then has; what derives such
--- trees, which are
--- finished if the call answers a whole, and trees with their marks of commas, finished or not; what is left in them of
--- a tree with its
--- marks; and what becomes of the nodes.
+-- trees, which are finished if the call answers a whole, and trees with their marks of commas, finished or not; what is
+-- left in them of a tree with its marks; and what becomes of the nodes.
 pub record Answer (T F C K : Type 0) (fg : Ghosts F) (cg : Ghosts C) (kg : Ghosts K) : Type 1 where
   pub tree : Nodes F C K fg cg kg → T → Tree F C K
   pub derives : Hook F C K → Symbol → Derivation (Tree F C K)
@@ -306,8 +294,7 @@ arrow_params_in_boxes {F} {C} {K} {fg = fg} {cg = cg} {kg = kg} = record {
 }
 
 -- By the number of a new node, which has the marks: nodes were appended alone, or after a refusal none. Of what has the
--- number, which
--- tree it stands for and which part it is.
+-- number, which tree it stands for and which part it is.
 abbrev pub numbered : {N F C K : Type 0} {fg : Ghosts F} {cg : Ghosts C} {kg : Ghosts K}
     → (Nodes F C K fg cg kg → N → Tree F C K) → (N → Part) → Answer N F C K fg cg kg
 numbered tree part = record {
@@ -355,8 +342,8 @@ arrow_params_by_number = record {
 module _ {S F C K : Type 0} (model : Model S) (derives : Derivation (Tree F C K))
     (strip : Tree F C K → Tree F C K) where
   -- Between b and c the commas of literals were remembered, one after another, and no other: of those of a tree that
-  -- has its marks, of
-  -- which `strip` leaves t. Where faults are recorded at all, and none was, it is derived from the tokens consumed.
+  -- has its marks, of which `strip` leaves t. Where faults are recorded at all, and none was, it is derived from the
+  -- tokens consumed.
   pub record RemembersAll (t : Tree F C K) (b c : Buffer S) (old new : TrailingCommas) : Type 0 where
     pub marked : Tree F C K
     pub same : strip marked ≡ t
@@ -372,12 +359,10 @@ pub record Promised {S H T F C K : Type 0} {fg : Ghosts F} {cg : Ghosts C} {kg :
   -- A parser that ran out of memory does nothing, and refuses as `ParserFailed` at the token consumed last.
   pub again : has_failed p ≡ true → (q ≡ p) × (r ≡ Err (parser_failed (previous (buffer_of p))))
   -- Any other reads: one token at least was consumed, or it refuses, and what was consumed isn't lost; the context is
-  -- what it was, no
-  -- recorded fault was taken out, and no `OutOfMemory` recorded.
+  -- what it was, no recorded fault was taken out, and no `OutOfMemory` recorded.
   pub reads : has_failed p ≡ false → Consumes model (buffer_of p) r (buffer_of q)
   -- What is answered is what the grammar derives, and finished if the answer is a whole; and where the hook is
-  -- faithful, what is derived so
-  -- is answered.
+  -- faithful, what is derived so is answered.
   pub sound : has_failed p ≡ false → Sound model (answer.derives hook s) (answer.tree (nodes_of q)) (buffer_of p) r
       (buffer_of q)
   pub complete : has_failed p ≡ false → sure ≡ true
@@ -398,8 +383,7 @@ pub record Promised {S H T F C K : Type 0} {fg : Ghosts F} {cg : Ghosts C} {kg :
   pub fails : has_failed p ≡ false → has_failed q ≡ wants_memory r
 
 -- What a call on a name does and promises, from b to c: by the calls of swc_ident, and that what is answered is what
--- the grammar
--- derives, and the other way.
+-- the grammar derives, and the other way.
 pub record PromisedName {S T : Type 0} (model : Model S) (Names : Buffer S → Result T Error → Buffer S → Type 0)
     (derives : Derivation Spelling) (kind : NameKind) (view : T → Spelling) (b : Buffer S) (r : Result T Error)
     (c : Buffer S) : Type 0 where
@@ -437,8 +421,7 @@ abbrev pub pats_of : {F C K : Type 0} → (F → Span) → (C → Span) → (K �
 pats_of {F} {C} {K} fun class block ps = trees (map (λ p. pat_tree F C K fun class block p.pat) ps.items)
 
 -- How a call answers parameters: which patterns an answer stands for, by the nodes that the parser then has; what
--- derives them,
--- finished; what is left in them of patterns with their marks of commas; and what becomes of the nodes.
+-- derives them, finished; what is left in them of patterns with their marks of commas; and what becomes of the nodes.
 pub record ParamsAnswer (T F C K : Type 0) (fg : Ghosts F) (cg : Ghosts C) (kg : Ghosts K) : Type 1 where
   pub pats : Nodes F C K fg cg kg → T → Trees F C K
   pub derives : Hook F C K → Symbol → Derivation (Tree F C K)
@@ -465,8 +448,7 @@ params_by_number = record {
 
 module _ {S F C K : Type 0} (model : Model S) (derives : Derivation (Tree F C K)) where
   -- Between b and c tokens were consumed from which, and a `)` that comes next, the parameters are derived that are
-  -- these patterns: with
-  -- whatever may follow, and as a list of their own.
+  -- these patterns: with whatever may follow, and as a list of their own.
   pub record DerivesParams (pats : Trees F C K) (b c : Buffer S) : Type 0 where
     pub consumed : List TokenAndSpan
     pub read : Read model b consumed c
@@ -501,8 +483,7 @@ module _ {S F C K : Type 0} (model : Model S) where
     pub list : t ≡ listed None close.span pats
 
 -- What a call on parameters promises, from the parser p to q, where it answers r. The `)` that closes them stays;
--- without it nothing is
--- derived, and what is answered is promised to be patterns alone.
+-- without it nothing is derived, and what is answered is promised to be patterns alone.
 pub record PromisedParams {S H T F C K : Type 0} {fg : Ghosts F} {cg : Ghosts C} {kg : Ghosts K} (model : Model S)
     (sure : Bool)
     (hook : Hook F C K) (answer : ParamsAnswer T F C K fg cg kg) (p : Parser S H F C K fg cg kg) (r : Result T Error)
@@ -510,15 +491,13 @@ pub record PromisedParams {S H T F C K : Type 0} {fg : Ghosts F} {cg : Ghosts C}
   -- A parser that ran out of memory does nothing, and refuses as `ParserFailed` at the token consumed last.
   pub again : has_failed p ≡ true → (q ≡ p) × (r ≡ Err (parser_failed (previous (buffer_of p))))
   -- Any other acts: what was consumed isn't lost; the context is what it was, no recorded fault was taken out, and no
-  -- out of memory
-  -- recorded.
+  -- out of memory recorded.
   pub acts : has_failed p ≡ false → Acts model (buffer_of p) r (buffer_of q)
   -- What is answered with no fault recorded is derived from the tokens consumed and a `)` after them.
   pub sound : has_failed p ≡ false → Loud model (buffer_of p) → IfOk r (λ v. Unmarred model (buffer_of p) (buffer_of q)
       → DerivesParams model (answer.derives hook Params) (answer.pats (nodes_of q) v) (buffer_of p) (buffer_of q))
   -- Over a listed source, with a faithful hook: what is derived from the tokens to come, with the `)` that closes it,
-  -- is answered, with
-  -- no fault recorded, and the `)` and what follows it is left; or the answer is out of memory.
+  -- is answered, with no fault recorded, and the `)` and what follows it is left; or the answer is out of memory.
   pub complete : has_failed p ≡ false → sure ≡ true → Loud model (buffer_of p)
       → (ts ys : List TokenAndSpan) (t : Tree F C K) → Known model (buffer_of p) ts
       → answer.derives hook Params (scope model (buffer_of p)) ts ys t → MatchResult r
@@ -529,8 +508,8 @@ pub record PromisedParams {S H T F C K : Type 0} {fg : Ghosts F} {cg : Ghosts C}
       → IfOk r (λ v. Unmarred model (buffer_of p) (buffer_of q)
       → DerivesOnlyParams model (answer.derives hook Params) (answer.pats (nodes_of q) v) (buffer_of p) (buffer_of q))
   -- Whether a `)` comes next or not: in the patterns answered with no fault recorded operators group as their levels
-  -- say, they hold no
-  -- `Invalid`, private names are where they may be if the syntax is pedantic, and the patterns bind names alone.
+  -- say, they hold no `Invalid`, private names are where they may be if the syntax is pedantic, and the patterns bind
+  -- names alone.
   pub grouped : has_failed p ≡ false → Loud model (buffer_of p)
       → IfOk r (λ v. Unmarred model (buffer_of p) (buffer_of q) → are_grouped (answer.pats (nodes_of q) v) ≡ true)
   pub valid : has_failed p ≡ false → Loud model (buffer_of p)
@@ -556,8 +535,7 @@ abbrev pub ReadsBody : {V : Type 0} → Reading V → Derivation V
 ReadsBody reads c xs ys v = reads c.context xs ≡ Some (v, ys)
 
 -- What a call does and promises by which the hook reads a function, a class or a block where a statement is, from b to
--- c, where it
--- answers r. A source that failed is out of memory.
+-- c, where it answers r. A source that failed is out of memory.
 pub record HookReads {S V : Type 0} (model : Model S) (sure : Bool) (reads : Reading V) (b : Buffer S)
     (r : Result V Error)
     (c : Buffer S) : Type 0 where

@@ -1,6 +1,5 @@
 -- An expression that was read while its tokens were kept, and what is kept of them read again: the law of replay, in
--- its
--- own words.
+-- its own words.
 use Rattle.std.specs.Prelude.{◌≡◌, Bool, true, false, List, [], Result, Ok, IfOk, MatchResult}
 use Rattle.std.specs.{declared.alloc.Global.Global, declared.boxed.Box.Box}
 use Rattle.swc_context.specs.{Contexts.view, declared.context.Context.Context, declared.context.Syntax.Syntax, declared.error.Error.Error, declared.error.SyntaxError.TheVariants.OutOfMemory}
@@ -49,8 +48,7 @@ module _ {S H F C K : Type 0} {fg : Ghosts F} {cg : Ghosts C} {kg : Ghosts K} (m
     pub look : Called (SeesEnd (capturing_model model)) behind at_end p
 
   -- From p to q the tokens that its source kept were handed out, with the source's context and syntax, and it keeps
-  -- none
-  -- of them. The source within it stays, and so does all else of the parser.
+  -- none of them. The source within it stays, and so does all else of the parser.
   pub record HandsOut (tokens : List TokenAndSpan) (c : Context) (x : Syntax)
       (p q : Parser (Capturing S) H F C K fg cg kg)
       : Type 0 where
@@ -85,8 +83,7 @@ pub record ReadsTwice {S H F C K : Type 0} {fg : Ghosts F} {cg : Ghosts C} {kg :
 module _ {S H F C K : Type 0} {fg : Ghosts F} {cg : Ghosts C} {kg : Ghosts K} (model : Model S) (sure : Bool)
     (hook : Hook F C K) (s : S) where
   -- An expression with the tree t was read cleanly of all that the source s gives: p is the parser that read it. What
-  -- is
-  -- kept of that was read again, by a parser that is q after it.
+  -- is kept of that was read again, by a parser that is q after it.
   pub record Replayed (t : Tree F C K) (p : Parser (Capturing S) H F C K fg cg kg)
       (again : Result (Box (ExprOf F C K) Global) Error) (q : Parser TokensInput H F C K fg cg kg) : Type 0 where
     -- the tokens that the source gave, up to its end
@@ -101,8 +98,7 @@ module _ {S H F C K : Type 0} {fg : Ghosts F} {cg : Ghosts C} {kg : Ghosts K} (m
     -- after: then all are kept.
     pub all_kept : sure ≡ true → one_by_one consumed → ReadAgain t again q
     -- So it was where they are in the order of the text, and a derivation of all of them takes no slash by itself at
-    -- which
-    -- a regular expression was found,
+    -- which a regular expression was found,
     pub joined : sure ≡ true → in_order consumed ≡ true → {m : Tree F C K}
         → (d : Reads hook Expr (scope_at (model.state s)) consumed [] m) → Joined d → ReadAgain t again q
     -- or the tokens themselves show that: an operand is wanted wherever such a slash is. What the hook reads has to
@@ -111,8 +107,7 @@ module _ {S H F C K : Type 0} {fg : Ghosts F} {cg : Ghosts C} {kg : Ghosts K} (m
         → ReadAgain t again q
 
   -- What is read cleanly of all tokens up to the end, while they are kept, is read again of what is kept of them.
-  -- Faults
-  -- have to be recorded at all.
+  -- Faults have to be recorded at all.
   abbrev pub ReplayLaw : Result (Box (ExprOf F C K) Global) Error → Result Bool Error
       → Parser (Capturing S) H F C K fg cg kg → Result (Box (ExprOf F C K) Global) Error
       → Parser TokensInput H F C K fg cg kg → Type 0

@@ -28,8 +28,7 @@ pub record PromisedVerification {S H T F C K : Type 0} {fg : Ghosts F} {cg : Gho
   pub records : has_failed p ≡ false → Loud model (buffer_of p)
       → OnOk r (RecordsAll model (cover_faults (cover_names given)) (buffer_of p) (buffer_of q))
   -- Where a token is current that holds no error, and where the first one to come of a listed source holds none, or
-  -- none
-  -- is to come: those faults alone, and nothing is consumed.
+  -- none is to come: those faults alone, and nothing is consumed.
   pub current : has_failed p ≡ false → Loud model (buffer_of p) → is_fit (current (buffer_of p)) ≡ true
       → OnOk r (Appends model (cover_faults (cover_names given)) (buffer_of p) (buffer_of q))
   pub listed : has_failed p ≡ false → Loud model (buffer_of p) → (ts : List TokenAndSpan) → Known model (buffer_of p) ts

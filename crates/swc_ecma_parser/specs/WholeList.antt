@@ -25,9 +25,8 @@ pub record Lists (ts : List TokenAndSpan) (s : Source) : Type 0 where
 
 module _ {N F C K : Type 0} {fg : Ghosts F} {cg : Ghosts C} {kg : Ghosts K} where
   -- In the context c, of which four flags decide nothing (`view`), and by the syntax x, what is read of the tokens ts
-  -- as the symbol s: what
-  -- has the number of a tree and whether tokens are left after it, or a refusal; the nodes; and the faults that were
-  -- recorded
+  -- as the symbol s: what has the number of a tree and whether tokens are left after it, or a refusal; the nodes; and
+  -- the faults that were recorded
   pub record Headline (sure : Bool) (hook : Hook F C K) (s : Symbol) (tree : Nodes F C K fg cg kg → N → Tree F C K)
       (c : Context) (x : Syntax) (ts : List TokenAndSpan)
       (read : Result (N × Bool) Error) (nodes : Nodes F C K fg cg kg) (recorded : List Error) : Type 0 where
@@ -39,8 +38,7 @@ module _ {N F C K : Type 0} {fg : Ghosts F} {cg : Ghosts C} {kg : Ghosts K} wher
     pub one_tree : IfOk read (λ r. r.1 ≡ false → recorded ≡ []
         → (t : Tree F C K) → Finished covers_done (Reads hook s) (scope_of (view c) x) ts [] t → t ≡ tree nodes r.0)
     -- Each finished tree that the grammar derives from the whole list is answered, with no token left and no fault
-    -- recorded, or memory
-    -- was wanted. The hook has to be faithful.
+    -- recorded, or memory was wanted. The hook has to be faithful.
     pub complete : sure ≡ true → (t : Tree F C K) → Finished covers_done (Reads hook s) (scope_of (view c) x) ts [] t
         → MatchResult read (λ r. (tree nodes r.0 ≡ t) × (r.1 ≡ false) × (recorded ≡ [])) (λ e. e.kind ≡ OutOfMemory)
 

@@ -35,8 +35,8 @@ pub struct BothWays<B: Bodies<TokensInput>> {
 /// Reads a list of tokens that begins with `(` in both ways (ECMA-262, 15.3 and 15.1): from the parenthesis on as the
 /// parameters of an arrow function (`arrow`), and from the token after it on as formal parameters (`formal`). Each
 /// parser is new, and both hooks are of one type, so that they read the same. `levels` bounds both parsers
-/// (`Parser::limit_nesting`; `usize::MAX` is no bound), which tell whether it was met (`Parser::is_too_deep`). Is
-/// refused only when out of memory; what the calls refuse is in the answer.
+/// (`Parser::limit_nesting`; `usize::MAX` is no bound), which tell whether it was met (`Parser::is_too_deep`).
+/// The call is refused only when out of memory; what the calls refuse is in the answer.
 ///
 /// The law of the cover grammar (`cover`). In a script or a strict module, where early errors are on and not ignored:
 /// if the first call reads parameters with no fault recorded, the second reads the same patterns, apart from spans,

@@ -71,8 +71,8 @@ pub type PatOf<B> = Pat<<B as BodyForms>::Fun, <B as BodyForms>::Class, <B as Bo
 /// properties `name = value` of object literals that are left (ECMA-262, 13.2.5.1). Each is recorded as
 /// `AssignProperty`, at the property, in the order of the source. So a tree returned with no fault recorded has none.
 /// Not searched are results that may yet become patterns or parts of them: those of `parse_args_or_pats`, `parse_tpl`,
-/// `parse_prop_name` and `parse_object_prop`. In such a tree `#` and a name are only on the left of `in` (13.10.1), or
-/// name a link (`privates`).
+/// `parse_prop_name` and `parse_object_prop`. In a tree returned with no fault recorded `#` and a name are only on the
+/// left of `in` (13.10.1), or name a link (`privates`).
 pub struct Parser<I: Tokens, B: Bodies<I>> {
     productions: Productions<I, B>,
     commas: TrailingCommas,

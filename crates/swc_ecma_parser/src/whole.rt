@@ -28,18 +28,18 @@ pub struct Whole<N, B: BodyForms> {
     pub nodes: NodesOf<B>,
     /// The faults that were recorded.
     pub recorded: Vec<Error>,
-    /// Whether they are nested too deeply, which is refused as `OutOfMemory`.
+    /// Whether the source is nested more deeply than `levels` allows, which is refused as `OutOfMemory`.
     pub too_deep: bool,
 }
 
 /// Reads a list of tokens as one expression (ECMA-262, 13.16), with a parser of its own, which `levels` bounds
 /// (`Parser::limit_nesting`; `usize::MAX` is no bound).
 ///
-/// Refuses as `Parser::parse_expr` does, and when out of memory. Where early errors are on and not
-/// ignored (`headline`): a tree answered with no token left after it and no fault recorded is one
-/// that the written grammar derives from the list, and the only one; and with a faithful hook each tree that it
-/// derives from the list is answered so, unless memory runs out. Where the syntax is pedantic, that is so of trees in
-/// which no property `name = value` of an object literal is left (ECMA-262, 13.2.5.1).
+/// Refuses as `Parser::parse_expr` does, and when out of memory. Where early errors are on and not ignored
+/// (`headline`): a tree returned with no token left after it and no fault recorded is one that the written grammar
+/// derives from the list, and the only one; and with a faithful hook each tree that it derives from the list is
+/// returned so, unless memory runs out. Where the syntax is pedantic, this holds for trees in which no property
+/// `name = value` of an object literal is left (ECMA-262, 13.2.5.1).
 pub fn parse_whole_expr<B: Bodies<TokensInput>>(
     alloc: Global,
     tokens: Vec<TokenAndSpan>,

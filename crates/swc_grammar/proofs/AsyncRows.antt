@@ -183,8 +183,8 @@ module _ {F C K : Type 0} (hook : Hook F C K) where
   unfolding answer
   await_param_async = refl
 
-  -- async (x = await a) => 1: as an argument, which is read before what is after the list is seen; so in a script,
-  -- and in async code, but not in a function that is none
+  -- async (x = await a) => 1: as an argument, which is read before what is after the list is seen; so in a script, and
+  -- in async code, but not in a function that isn't async
   await_default : (t : Tree F C K) × (answer hook script
       (async ∷ open_at 6 7 ∷ x 7 8 ∷ equals_at 9 10 ∷ await 11 16 ∷ a 17 18 ∷ close_at 18 19 ∷ to_at 20 22 ∷ one 23 24
       ∷ [])
@@ -241,8 +241,8 @@ module _ {F C K : Type 0} (hook : Hook F C K) where
   unfolding answer
   cover_call = refl
 
-  -- so nothing derives it whole, nor does a plain call; but where no assignment expression begins, as an operand, it
-  -- is read
+  -- so nothing derives it whole, nor does a plain call; but where no assignment expression begins, as an operand, it is
+  -- read
   cover_call-refused : {e : Tree F C K}
       → Reads hook Expr script (async ∷ open_at 5 6 ∷ cover_at 6 (close_at 13 14 ∷ [])) [] e → ⊥
   cover_call-refused d = refused hook cover_call d

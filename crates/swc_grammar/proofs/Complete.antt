@@ -48,7 +48,7 @@ pub use Rattle.swc_grammar.proofs.Complete.Primaries.{lit-picks, fn-picks, class
 pub use Rattle.swc_grammar.proofs.{Complete.Operators.private-refused, Complete.LeftSides.links-end}
 
 module _ {F C K : Type 0} (hook : Hook F C K) where
-  -- one clause a production
+  -- one clause per production
   claim-by : {s : Symbol} {c : Scope} {r : Side F C K s} {xs ys : List TokenAndSpan} {t : Answer F C K s}
       → Production s c r → Ran hook s r xs ys t → Claim hook s c xs ys t
   claim-by {s = Primary} {c = c} {xs = xs} {ys = ys} {t = t} p d = λ stop.

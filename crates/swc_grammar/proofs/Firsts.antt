@@ -319,7 +319,7 @@ module _ {F C K : Type 0} where
   under-held (part e d) h = h
   under-held (heard e d) h = h
 
-  -- one clause a production
+  -- one clause per production
   opens : {s : Symbol} {c : Scope} {r : Side F C K s} → Production s c r → Opens (starts s c) r
   opens (ident-expr {c = c}) =
       λ a. under-given _ (reference c a.token a.span) _ (λ n h. (reference-first c a.token a.span n h).1)

@@ -122,8 +122,7 @@ module _ {F C K : Type 0} (hook : Hook F C K) where
   head-refused n s d = let k = head-front d s in absurd cc
 
 -- Of what follows a head its first token decides, and nothing after that: the rest may be taken away. That token may
--- not,
--- as before the end each head is an expression.
+-- not, as before the end each head is an expression.
 module _ {F C K : Type 0} {hook : Hook F C K} {is_await : Bool} {c : Scope} where
   pub head-cut : {h : ForHead F C K} (xs : List TokenAndSpan) (y : TokenAndSpan) (ys zs : List TokenAndSpan)
       → ReadsHead hook is_await c (xs ++ zs) (y ∷ (ys ++ zs)) h → ReadsHead hook is_await c xs (y ∷ ys) h

@@ -1,6 +1,6 @@
 -- What holds of every tree that the grammar derives: it has no `Invalid` in it, its operators group as the levels say,
--- and no `??` is on the left of `||` or `&&`. One clause a production says that its node keeps this; the induction
--- is done once.
+-- and no `??` is on the left of `||` or `&&`. One clause per production says that its node keeps this; the induction is
+-- done once.
 use Rattle.std.specs.Prelude.{◌≡◌, ℕ, suc, ◌≤◌, Bool, true, false, not, ◌&&◌, ◌||◌, List, Option, Some, None, IsTrue, nat_le, nat_lt, nat_eq, if◌then◌else◌}
 use Rattle.std.proofs.Common.{refl, subst, arith}
 use Rattle.std.proofs.lemmas.Bool.{eqb-true, ltb-true, le-leb, lt-ltb}
@@ -356,7 +356,7 @@ module _ {F C K : Type 0} where
   put-grouped nil h = refl
   put-grouped (cons p ps) h = h
 
-  -- one clause a production
+  -- one clause per production
   keeps : {s : Symbol} {c : Scope} {r : Side F C K s} → Production s c r → Keeps (Good F C K s) r
   keeps (ident-expr {c = c}) =
       λ a. keeps-given _ (reference c a.token a.span) _ (λ n h. leaf _ refl refl refl (omega arith))

@@ -1,4 +1,4 @@
--- Where an assignment expression begins, what it begins with is read like elsewhere, but for `async` and what makes it
+-- Where an assignment expression begins, what it begins with is read as elsewhere, but for `async` and what makes it
 -- more than a name.
 use Rattle.std.specs.Prelude.{◌≡◌, ℕ, Bool, true, false, not, ◌&&◌, ◌||◌, List, ◌∷◌, Option, Some, None, [], if◌then◌else◌}
 use Rattle.std.proofs.Common.{refl, sym as sym_path, ap, ◌∙◌}

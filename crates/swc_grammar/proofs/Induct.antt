@@ -1,5 +1,5 @@
 -- The induction on readings, once for all that is claimed of them: a side followed, with what is claimed of each part
--- that it reads. One clause a production says that the claim holds of its symbol where it holds of the parts.
+-- that it reads. One clause per production says that the claim holds of its symbol where it holds of the parts.
 use Rattle.std.specs.Prelude.{◌≡◌, Bool, true, false, List, ◌∷◌, Option, Some, None}
 use Rattle.std.proofs.Common.{refl, sym, subst}
 use Rattle.swc_context.specs.declared.span.Span.{Span}

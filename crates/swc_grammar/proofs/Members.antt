@@ -1,6 +1,5 @@
 -- A left-hand side that begins with neither `super` nor `import` is read in two steps: first one that holds no calls,
--- as
--- a member expression or `new`, and then links that may be calls.
+-- as a member expression or `new`, and then links that may be calls.
 use Rattle.std.specs.Prelude.{◌≡◌, ℕ, zero, suc, ◌≤◌, ◌<◌, Bool, true, false, not, ◌&&◌, if◌then◌else◌, List, [], ◌∷◌, Some, None, length}
 use Rattle.std.proofs.Common.{refl, sym as flip, ap, subst, ◌∙◌, arith}
 use Rattle.swc_context.specs.declared.span.Span.{Span}

@@ -191,7 +191,7 @@ await_in_params =
     ∷ equals_at 11 12 ∷ await_at 13 18 ∷ name_at (codes "c") 19 20 ∷ close_at 20 21 ∷ brace_at 22 23 ∷ unbrace_at 23 24
     ∷ unbrace_at 24 25 ∷ []
 
--- the contexts: of the parameters, round which the place of the method stays as it was, and of the block
+-- the contexts: of the parameters, around which the place of the method stays as it was, and of the block
 contexts-row : (a g : Bool) (c : Context)
     → ((method_params a g c).inside_non_arrow_function_scope ≡ c.inside_non_arrow_function_scope)
     × ((method_params a g c).in_parameters ≡ true) × ((method_params a g c).in_function ≡ false)

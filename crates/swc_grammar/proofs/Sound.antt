@@ -23,8 +23,8 @@ use Rattle.swc_grammar.proofs.Answers.{then-ok, only, unless, hear-ok, choose, i
 use Rattle.swc_grammar.proofs.Levels.{lift, min-right-same, below-exp, right-low, bound-none, bound-some, bound-above}
 use Rattle.swc_grammar.proofs.{Binds.bind, Binds.apart-read, Bodies.before-is, Bodies.hears, Firsts.given-held, Firsts.async-token, Induct.follows-given, Only.lparen-is}
 
--- What is on the left of the operators above the precedence m: an operand by itself; a node, after which no
--- operator is read that its own level has to take, and no `**`; or `#` and a name before an `in` that takes them.
+-- What is on the left of the operators above the precedence m: an operand by itself; a node, after which no operator is
+-- read that its own level has to take, and no `**`; or `#` and a name before an `in` that takes them.
 pub data OnLeft {F C K : Type 0} (hook : Hook F C K) (c : Scope) (m : ℕ) (xs ts : List TokenAndSpan)
     (l : Tree F C K) : Type 0 where
   alone : Reads hook Unary c xs ts l → OnLeft hook c m xs ts l

@@ -25,10 +25,9 @@ binds_alone c w = is_arrow_word w && not ((c.module && c.strict) && is_one_of (w
 abbrev pub arrow_name : Scope → Token → Span → Option Spelling
 arrow_name c = spelled (λ w. may_refer c.context w && binds_alone c.context w)
 
--- The word `async`, as a reference. On its line no `function` is after it; nor, where an assignment expression
--- begins with it, a `(`, or a word that may be bound, with which an async arrow function goes on (15.9). But in the
--- head of a `for await` (14.7.5) that may be `of`, if no `=>` is after it; in that of another `for` it is an early
--- error.
+-- The word `async`, as a reference. On its line no `function` is after it; nor, where an assignment expression begins
+-- with it, a `(`, or a word that may be bound, with which an async arrow function goes on (15.9). But in the head of a
+-- `for await` (14.7.5) that may be `of`, if no `=>` is after it; in that of another `for` it is an early error.
 abbrev pub async_name : Scope → Token → Span → Option Spelling
 async_name c = spelled (λ w. may_refer c.context w && is_put_off w)
 

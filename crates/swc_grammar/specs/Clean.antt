@@ -1,7 +1,7 @@
 -- The clean parser: the grammar's readings, computed. From the tokens to come it answers a tree and the tokens left, or
 -- nothing where the code refuses or records a fault. By what comes first it picks one of the grammar's productions,
--- whose right-hand side is then run as it is, so what is read is derived by construction. It is a private measure
--- of the code: what is promised to callers speaks of the grammar.
+-- whose right-hand side is then run as it is, so what is read is derived by construction. It is a private measure of
+-- the code: what is promised to callers speaks of the grammar.
 use Rattle.std.specs.Prelude.{ℕ, zero, suc, ◌+◌, ◌-◌, ◌*◌, ◌≤◌, Bool, true, false, not, ◌&&◌, ◌||◌, if◌then◌else◌, List, [], ◌∷◌, Option, Some, None, ◌≡◌, length, take as front, nat_le, nat_lt}
 use Rattle.swc_context.specs.{Contexts.arrow_body, Operators.precedence_of, declared.context.Context.Context, declared.operator.AssignOp.AssignOp as write, declared.operator.BinaryOp.BinaryOp, declared.operator.UnaryOp.UnaryOp, declared.span.Span.Span, declared.word.Word.Word as written}
 use Rattle.swc_input.specs.{declared.token.Token.Token, declared.token.Token.Token as token, declared.token.TokenAndSpan.TokenAndSpan, Kinds.at_token, Kinds.is_hash}
@@ -202,7 +202,7 @@ prefix_at (Some t) = prefix_of t.token
 abbrev pub Bound : Scope → ℕ → List TokenAndSpan → Type 0
 Bound c m ys = (op : BinaryOp) → operator_at c.context (first ys) ≡ Some op → precedence_of op ≤ m
 
--- no `=>` comes next, on a line of its own neither
+-- no `=>` comes next, not even on a line of its own
 abbrev pub no_arrow : List TokenAndSpan → Bool
 no_arrow ts = not (at_token is_arrow (first ts))
 
@@ -232,8 +232,8 @@ no_assign_at (Some t) = not (is_question t.token) && not (is_assign t.token)
 abbrev pub ends_assign : List TokenAndSpan → Bool
 ends_assign ts = ends_unary ts && no_assign_at (first ts)
 
--- `yield`, where it is an operator; whether what is after it goes on with it; and whether what is after
--- `await` makes it an identifier, outside async code
+-- `yield`, where it is an operator; whether what is after it goes on with it; and whether what is after `await` makes
+-- it an identifier, outside async code
 abbrev pub begins_yield : Scope → List TokenAndSpan → Bool
 begins_yield c ts = at_token is_yield (first ts) && c.context.in_generator
 
@@ -249,8 +249,8 @@ ends_await_at (Some t) = ends_await t
 abbrev pub begins_new : List TokenAndSpan → Bool
 begins_new ts = at_token is_new (first ts) && not (at_token is_dot (second ts))
 
--- A reference alone, and `=>` after it on its line: an arrow function and no other expression, even where that name
--- may not be or not be bound (an early error, which the code records).
+-- A reference alone, and `=>` after it on its line: an arrow function and no other expression, even where that name may
+-- not be or not be bound (an early error, which the code records).
 abbrev pub is_alone : Context → Token → Bool
 is_alone c t = at_word (λ w. is_reference c w && is_arrow_word w) t
 
@@ -351,8 +351,8 @@ module _ {F C K : Type 0} where
   chosen (pick {r = r} p) = plan r
   chosen (pick_apart {r = r} p) = plan r >>= apart
 
-  -- What is after a part that was read: after a left-hand side `++` or `--`; after operators `?` and the rest of
-  -- a conditional, or an operator that writes and what it writes; after expressions a comma and one more.
+  -- What is after a part that was read: after a left-hand side `++` or `--`; after operators `?` and the rest of a
+  -- conditional, or an operator that writes and what it writes; after expressions a comma and one more.
   abbrev pub update_tail : Scope → Tree F C K → Side F C K Unary
   update_tail c l = do
     (op, s) ← one_on_line update_here

@@ -50,7 +50,7 @@ abbrev pub is_rest_of : {F C K : Type 0} → Role → Tree F C K → Bool
 is_rest_of (target strict) e = not (is_assign e)
 is_rest_of binding e = is_ident e
 
--- a part after which nothing comes, no comma either
+-- a part after which nothing comes, not even a comma
 abbrev pub is_last : {F C K : Type 0} → Option Span → Trees F C K → Bool
 is_last None nil = true
 is_last comma ts = false
@@ -108,7 +108,6 @@ abbrev pub as_params : {F C K : Type 0} → Tree F C K → Option (Trees F C K)
 as_params es = as_elements binding (comma_of es) (items_of es)
 
 -- The early error of arrow parameters (15.3.1), as far as it is looked at: in a strict module they bind neither `eval`
--- nor
--- `arguments`.
+-- nor `arguments`.
 abbrev pub arrow_params_ok : {F C K : Type 0} → Context → Trees F C K → Bool
 arrow_params_ok c ps = all_bind_names (λ name. not ((c.module && c.strict) && is_one_of name strict_binding_words)) ps

@@ -15,8 +15,7 @@ abbrev pub begins_primary : Scope → Token → Bool
 begins_primary c t = is_identifier c.context t || is_first t
 
 -- a left-hand side: with `new`, `super` and `import` too; what binary operators join: with a prefix operator, `++`,
--- `--` or
--- `await` too; any other: with `yield` too
+-- `--` or `await` too; any other: with `yield` too
 abbrev pub is_left_word : Token → Bool
 is_left_word t = is_left_opening (opening t)
 

@@ -46,10 +46,8 @@ is_for_target (for_target p) = true
 is_for_target (for_expr e) = false
 
 -- `ReadsHead hook is_await c xs ys h`: in the scope c, whatever its flags say of heads and of `in`, h is derived from
--- the
--- tokens from xs on to before ys, and the first of ys decides which of the two it is. What is written to is a valid
--- simple
--- target, or an array or object literal that is a pattern of these (13.15.5); it is no assignment.
+-- the tokens from xs on to before ys, and the first of ys decides which of the two it is. What is written to is a valid
+-- simple target, or an array or object literal that is a pattern of these (13.15.5); it is no assignment.
 pub data ReadsHead {F C K : Type 0} (hook : Hook F C K) (is_await : Bool) (c : Scope) (xs ys : List TokenAndSpan)
     : ForHead F C K → Type 0 where
   target-head : {e p : Tree F C K} → Reads hook Assign (in_for is_await c) xs ys e → is_assign e ≡ false

@@ -1,6 +1,5 @@
--- The written grammar, after ECMA-262, whose sections are beside it. `Production symbol c side` says that in the
--- scope c the right-hand side is one of the symbol's. What it means that a right-hand side is followed is said in
--- Reads.
+-- The written grammar, after ECMA-262, whose sections are beside it. `Production symbol c side` says that in the scope
+-- c the right-hand side is one of the symbol's. What it means that a right-hand side is followed is said in Reads.
 use Rattle.std.specs.Prelude.{ℕ, suc, Bool, true, false, not, ◌||◌, ◌&&◌, None, IsTrue, codes, nat_eq, nat_lt}
 use Rattle.swc_context.specs.Contexts.{arrow_body, method_block, method_params}
 use Rattle.swc_context.specs.{Operators.precedence_of, Reserved.is_reserved_word, declared.operator.AssignOp.AssignOp as write, declared.operator.BinaryOp.BinaryOp as binary}
@@ -205,8 +204,7 @@ pub data Production {F C K : Type 0} : (s : Symbol) → Scope → Side F C K s �
     must (paren_ok c.syntax.pedantic es)
     gives (paren_e (to s (span_of es)) (seq_of (held_exprs (items_of es)))))
   -- Left-hand sides (13.3): with links, or `new` without arguments (NewExpression, 13.3.5), after which no link is
-  -- read.
-  -- What is constructed is no optional chain.
+  -- read. What is constructed is no optional chain.
   lhs-left : {c : Scope} {b : Bool} → Production (Lhs b) c (symbol (Left b) c)
   new-bare : {c : Scope} {b : Bool} → Production (Lhs b) c (do
     s ← token is_new
@@ -224,8 +222,7 @@ pub data Production {F C K : Type 0} : (s : Symbol) → Scope → Side F C K s �
     es ← symbol (Args false) (with_in c)
     gives (new_e (to s (span_of es)) l (items_of es)))
   -- Bases: primary expressions; `new.target` and `import.meta` (13.3.12); a property of `super` (13.3.7), by a name or
-  -- in
-  -- brackets, in which `in` is an operator
+  -- in brackets, in which `in` is an operator
   base-primary : {c : Scope} {b : Bool} → Production (Base b) c (symbol Primary c)
   new-target : {c : Scope} {b : Bool} → Production (Base b) c (do
     s ← token is_new
@@ -593,7 +590,7 @@ pub data Production {F C K : Type 0} : (s : Symbol) → Scope → Side F C K s �
     b ← symbol (ArrowBody false) c
     ahead (λ t. is_block b && is_sign t.token)
     gives (arrow_e (to (span_of hs) (span_of b)) false b (items_of hs)))
-  -- Async arrow functions (15.9): the word after `async` is on its line, and so does the `(`.
+  -- Async arrow functions (15.9): the word after `async` is on its line, and so is the `(`.
   arrow-async-name : {c : Scope} → Production Assign c (do
     s ← one (async_name c)
     n ← one_on_line (async_param c)

@@ -3,8 +3,8 @@ use Rattle.std.specs.Prelude.{ℕ, Bool, true, false, ◌&&◌, List}
 use Rattle.swc_ast.specs.Tree.{Tree, node, Trees, nil, cons, array_with, object_with, hole, ident, rest, default, binding_prop, key_value}
 use Rattle.swc_ast.specs.Trees.{is_ident}
 
--- Whether a pattern binds names alone, each of which passes a test: initialisers and keys apart it holds no expression
--- that is written to, and an object's rest holds a name. The names of an object's properties count.
+-- Whether a pattern binds names alone, each of which passes a test: but for initialisers and keys it holds no
+-- expression that is written to, and an object's rest holds a name. The names of an object's properties count.
 abbrev mutual
   pub binds_names : {F C K : Type 0} → (List ℕ → Bool) → Tree F C K → Bool
   binds_names ok (node (ident name) s ts) = ok name

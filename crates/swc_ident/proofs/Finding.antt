@@ -185,7 +185,7 @@ module _ {S : Type 0} {model : Model S} where
       refused_word s (ap (λ x. (judge x w).refusal) (sym here) ∙ refuses)
       (subst P (same ∙ ap (λ x. (judge x w).faults) here) n) r
 
-  -- where a word is current, only out of memory keeps a name from being read
+  -- where a word is current, only running out of memory keeps a name from being read
   pub word_forgone : {b c : Buffer S} {e : Error} → at_token is_word (current b) ≡ true
       → Unnamed model name_of_any b e c → Forgone model b e c
   word_forgone h (no_memory xs r k) = record { consumed = xs; read = r; kind = k }
@@ -246,7 +246,7 @@ module _ {S : Type 0} {model : Model S} where
       let was : f s.took.was.token ≡ true = ap (at_token f) (sym s.took.current) ∙ here in
       ap (λ x. is_bindable x (token.Word w)) (sym (same_context l)) ∙ ap f s.took.token ∙ was
 
-  -- where a word that may be bound is current, the table alone and out of memory refuse it
+  -- where a word that may be bound is current, only the table refuses it, or memory runs out
   pub unbindable_later : {b c d : Buffer S} {e : Error} → Laws model → Looked model b c
       → at_token (is_bindable (context model c)) (current c) ≡ true →
       Unnamed model binding_verdict c e d → Unbindable model b e d

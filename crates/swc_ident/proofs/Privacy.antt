@@ -54,7 +54,7 @@ module _ {S : Type 0} {model : Model S} where
     place = p.place;
   }
 
-  -- where nothing begins, nothing begins apart
+  -- where the next token doesn't begin where the `#` ends, that is refused
   pub apart_from : {b c d f : Buffer S} {e : Error} {hash : Span} (o : Option TokenAndSpan) (next : BytePos) (at : Span)
       → current d ≡ o → Hashed model b hash c → Looked model c d →
       MatchOption (current d) (next ≡ last_position d) (λ t. next ≡ t.span.lo) → (next.0 ≡ hash.hi.0 → ⊥)

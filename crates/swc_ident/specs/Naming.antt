@@ -72,8 +72,7 @@ module _ {S : Type 0} (model : Model S) where
     pub read : Read model b consumed c
 
   -- Why no name was answered: out of memory; an error token, or the end; a token that is no word; or a word that isn't
-  -- taken, which was
-  -- consumed, and whose faults were noted.
+  -- taken, which was consumed, and whose faults were noted.
   pub data Unnamed (judge : Judges) (b : Buffer S) (e : Error) (c : Buffer S) : Type 0 where
     no_memory : (xs : List TokenAndSpan) → Read model b xs c → e.kind ≡ kind.OutOfMemory → Unnamed judge b e c
     not_fit : (r : Refused model b (λ here. unfit (current here) (last_position here) kind.Eof) e c)
@@ -86,8 +85,7 @@ module _ {S : Type 0} (model : Model S) where
         → Unnamed judge b e c
 
   -- Why a word that may be bound where it is isn't: memory ran out; or the table refuses the word, which was consumed,
-  -- and whose
-  -- faults were noted. So the end and an error token are never refused.
+  -- and whose faults were noted. So the end and an error token are never refused.
   pub data Unbindable (b : Buffer S) (e : Error) (c : Buffer S) : Type 0 where
     no_memory_to_bind : (xs : List TokenAndSpan) → Read model b xs c → e.kind ≡ kind.OutOfMemory → Unbindable b e c
     refused_binding : {w : Word} {k : SyntaxError} {at : Span} {spoken noted : Buffer S} → Spoken b w at spoken →

@@ -139,7 +139,8 @@ pub fn parse_module_export_name<I: Tokens>(
     Err(input.unexpected(SyntaxError::Unexpected(Wanted::IdentOrStr)))
 }
 
-/// An identifier, where `yield` and `await` are included or not (Identifier; ECMA-262, 12.7 and 13.1.1).
+/// An identifier (Identifier; ECMA-262, 12.7 and 13.1.1). `incl_yield` and `incl_await` say whether `yield` and `await`
+/// are included: may be identifiers.
 ///
 /// The answer holds the word's text and place. A word is taken with a fault, which is recorded at the word as by
 /// `Buffer::emit_err`, where it is

@@ -231,7 +231,7 @@ pub(crate) fn text_of<I: Tokens>(alloc: Global, input: &Buffer<I>, word: Word) -
     }
 }
 
-/// Lets a word go, apart from callers whose proofs would have a case for each kind of word.
+/// Drops a word. It is a function of its own, so that callers' proofs don't have a case for each kind of word.
 pub(crate) fn let_go(_word: Word) {}
 
 pub(crate) fn is_at_word<I: Tokens>(input: &Buffer<I>) -> bool

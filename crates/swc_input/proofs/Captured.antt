@@ -41,8 +41,8 @@ slash-goes : (a b : Token) → kept_of (token a 0 1 ∷ token b 0 3 ∷ []) ≡ 
 slash-goes a b = refl
 
 -- Of all that a new buffer, over a source of which nothing was kept yet, took from it, that is kept by the rule: what
--- was consumed, and then
--- what is held. The source within gave the same, and after it the token that was lost, if one was.
+-- was consumed, and then what is held. The source within gave the same, and after it the token that was lost, if one
+-- was.
 pub captured : {S : Type 0} (model : Model S) (b c : Buffer (Capturing S)) (xs : List TokenAndSpan) → held b ≡ []
     → tokens_kept (source b) ≡ [] →
     Took (capturing_model model) b xs c → map plain (tokens_kept (source c)) ≡ kept_of (xs ++ held c)

@@ -21,7 +21,7 @@ all-stay at (t ∷ u ∷ us) h =
     sym (ap (λ n. is_late at (slice_get (t ∷ u ∷ us) n)) e) ∙ h in
     ap (in_front (ends_behind at t) t) (all-stay at (u ∷ us) k) ∙ in_front-some (ends_behind at t) t u us
 
--- and so they do beside one that begins where the last one ends, or after
+-- and so they all stay where one is added that begins where the last one ends, or after
 pub all_kept : (ts : List TokenAndSpan) (t : TokenAndSpan) → is_late t.span.lo (slice_get ts (length ts - 1)) ≡ false
     → kept ts t ≡ ts ++ t ∷ []
 all_kept ts t h = ap (λ l. l ++ t ∷ []) (all-stay t.span.lo ts h)

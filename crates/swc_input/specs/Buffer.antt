@@ -51,8 +51,7 @@ abbrev pub held : {S : Type 0} → Buffer S → List TokenAndSpan
 held b = given_one b.cur ++ given_one b.next
 
 -- The law of the buffer: between b and c the tokens xs were consumed. Those held at b, and then those given by the
--- source, are xs,
--- and then those held at c.
+-- source, are xs, and then those held at c.
 pub record Took {S : Type 0} (model : Model S) (b : Buffer S) (xs : List TokenAndSpan) (c : Buffer S) : Type 0 where
   pub given : List TokenAndSpan
   pub gave : model.gives b.iter given c.iter

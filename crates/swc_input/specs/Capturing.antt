@@ -29,8 +29,7 @@ abbrev pub capturing_state : Bool → Source → Source
 capturing_state lost s = record s { failed = either_failed lost s.failed; known = None }
 
 -- Between s and t the tokens xs were given, by any calls of a source. The source within gave them, and after them the
--- token that was
--- lost, if one was. Those that were kept at s, and then xs, are kept at t.
+-- token that was lost, if one was. Those that were kept at s, and then xs, are kept at t.
 pub record Captures {S : Type 0} (model : Model S) (s : Capturing S) (xs : List TokenAndSpan)
     (t : Capturing S) : Type 0 where
   pub unkept : Option TokenAndSpan

@@ -63,8 +63,7 @@ error_or None e = e
 error_or (Some x) e = x
 
 -- the refusal that is answered in place of e where the current token is o: the error of an error token, and out of
--- memory where
--- the source has failed
+-- memory where the source has failed
 abbrev pub refusal : Option TokenAndSpan → Bool → BytePos → Error → Error
 refusal None true at e = no_memory at
 refusal None false at e = e

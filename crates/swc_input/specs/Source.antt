@@ -53,8 +53,7 @@ abbrev pub HeldBack : Context → Source → Type 0
 HeldBack c s = (s.context.module ≡ false) × (c.module ≡ true) × (s.waiting ≢ [])
 
 -- how many tokens more a hint may bring: the slash at which a regular expression begins may come once more; a hint that
--- none
--- begins brings none
+-- none begins brings none
 abbrev pub hint_brings : Option BytePos → ℕ
 hint_brings None = 0
 hint_brings (Some start) = 1
@@ -64,8 +63,7 @@ abbrev pub Hinted : Option BytePos → Source → Source → Type 0
 Hinted start s t = (b : ℕ) × (t ≡ record s { bound = b }) × (b ≤ s.bound + hint_brings start)
 
 -- In a module no fault waits. A listed source gives all its tokens before its end; it fails only when it is out of
--- memory, and an
--- end that it gives is no failure.
+-- memory, and an end that it gives is no failure.
 pub record IsLawful (s : Source) : Type 0 where
   pub none_waits : s.context.module ≡ true → s.waiting ≡ []
   pub over : (m : List TokenAndSpan) → s.known ≡ Some m → s.ended ≡ true → m ≡ []

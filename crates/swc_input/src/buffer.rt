@@ -18,8 +18,8 @@ use swc_context::span::{BytePos, Span};
 /// A source, and the tokens that were taken from it ahead: the current one and, where it was peeked
 /// at, the one after it.
 ///
-/// Looks take tokens from the source and consume none. A `None` of a look means the end, or out of
-/// memory where the source has `failed`; `Buffer::has_cur` tells these apart.
+/// A look at a token may take it from the source, but doesn't consume it. If it gives `None`, that is the end, or out
+/// of memory where the source has `failed`; `Buffer::has_cur` tells these apart.
 pub struct Buffer<I> {
     pub(crate) iter: I,
     /// The place of the token that was consumed last.
@@ -74,7 +74,7 @@ impl<I: Tokens> Buffer<I> {
         &mut self.iter
     }
 
-    /// Puts a token in as the current one. It takes the previous span, and no line break before it.
+    /// Makes this token the current one, with the span of the token consumed last and no line break before it.
     pub fn store(&mut self, token: Token)
         requires { held self.old ≡ [] }
         ensures { self.new ≡ with_current (stored token self.old) self.old }
@@ -325,7 +325,7 @@ impl<I: Tokens> Buffer<I> {
         self.iter.set_next_regexp(start);
     }
 
-    /// The source ran out of memory.
+    /// Whether the source ran out of memory.
     pub fn failed(&self) -> bool
         ensures { result ≡ (state_of I.model self.now).failed }
     {

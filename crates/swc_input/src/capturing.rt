@@ -60,7 +60,7 @@ impl<I: Tokens> Capturing<I> {
     }
 
     /// Hands out the tokens that are kept, as `tokens` has them, and keeps none of them: what is given from then on is
-    /// kept from the start. A call on the value itself is that of iterators: write `Capturing::take(&mut source)`.
+    /// kept from the start. As `source.take()` is `Iterator::take`, write `Capturing::take(&mut source)`.
     pub fn take(&mut self) -> Vec<TokenAndSpan>
         ensures taken { result.items ≡ tokens_kept self.old }
         ensures emptied { tokens_kept self.new ≡ [] }

@@ -6,7 +6,7 @@ use crate::token::TokenAndSpan;
 use std::alloc::AllocError;
 use swc_context::span::BytePos;
 
-/// Lets a token go, apart from callers whose proofs would have a case for each kind.
+/// Drops a token. It is a function of its own, so that callers' proofs don't have a case for each kind.
 fn let_go(_token: Option<TokenAndSpan>) {}
 
 /// Whether the last token ends after the position.

@@ -14,7 +14,8 @@ use std::alloc::AllocError;
 use swc_context::error::{Error, PResult, SyntaxError};
 use swc_context::span::Span;
 
-/// The error of a token, as it counts: out of memory and a failed parser are the parser's alone.
+/// The error of a token as the parser takes it: `OutOfMemory` and `ParserFailed`, which are the parser's own, become
+/// `Lex`.
 pub fn counted_error(error: Error) -> Error
     ensures { result ≡ counted error }
 {
@@ -35,7 +36,7 @@ fn error_of(token: Token) -> Option<Error>
     }
 }
 
-/// Lets an error go, apart from callers whose proofs would have a case for each kind.
+/// Drops an error. It is a function of its own, so that callers' proofs don't have a case for each kind.
 fn let_go(_error: Error) {}
 
 fn let_kind_go(_kind: SyntaxError) {}
@@ -49,7 +50,8 @@ impl<I: Tokens> Buffer<I> {
         Error::new(Span { lo: last, hi: last }, SyntaxError::OutOfMemory)
     }
 
-    /// Whether a token is current, and not the end. Where the source has failed, out of memory is refused.
+    /// Whether there is a current token; false at the end. If there is none since the source has failed, the error is
+    /// `OutOfMemory`, at the end of the token consumed last.
     pub fn has_cur(&mut self) -> PResult<bool>
         ensures looked { Looked I.model self.old self.new }
         ensures lives { OnOk result (Lives I.model self.old self.new) }
@@ -112,9 +114,9 @@ impl<I: Tokens> Buffer<I> {
         error_of(token)
     }
 
-    /// Records a fault, after the error of a current error token, which is consumed; any other
-    /// current token stays. Silent contexts record nothing. Where the source has failed, the answer is out of
-    /// memory.
+    /// Records a fault, after the error of a current error token, which is consumed; any other current token stays.
+    /// Nothing is done where the context ignores errors, or the syntax has no early errors. The only error is
+    /// `OutOfMemory`, at the end of the token consumed last: where a fault can't be recorded, or the source has failed.
     pub fn emit_error(&mut self, error: Error) -> PResult<()>
         requires { IsFault error }
         ensures silent { is_silent (state_of I.model self.old) ≡ true → IsOk result × (self.new ≡ self.old) }
@@ -138,7 +140,7 @@ impl<I: Tokens> Buffer<I> {
         }
     }
 
-    /// The same aloud, where the current token is known, or none is left.
+    /// Records a fault as `emit_error` does where faults are recorded. The current token is known, or none is left.
     fn emit_here(&mut self, error: Error) -> PResult<()>
         requires { IsFault error }
         ensures errors { OnOk result ((state_of I.model self.new).errors
@@ -273,7 +275,8 @@ impl<I: Tokens> Buffer<I> {
         }
     }
 
-    /// The refusal in place of this one, where the current token is known, or none is left.
+    /// The refusal in place of this one: out of memory, where the source has failed and no token is current; the error
+    /// of a current error token, which is consumed; otherwise this one. The current token is known, or none is left.
     fn refuse(&mut self, error: Error) -> Error
         ensures answer { result
             ≡ refusal (current self.old) (state_of I.model self.old).failed (last_position self.old) error }

@@ -22,8 +22,8 @@ pub trait Tokens: Iterator<Item = TokenAndSpan> {
     /// The source with another stack of contexts.
     ghost with_contexts: { Self → TokenContexts → Self };
 
-    /// Sets the context. To a module, the faults that waited for one are recorded. Refused only
-    /// there, and then nothing changes.
+    /// Sets the context. If it is a module's, the faults that waited for a module are recorded. The only error is out
+    /// of memory for these, and then nothing changes.
     fn set_ctx(&mut self, ctx: Context) -> Result<(), AllocError>
         ensures gave { model.gives self.old [] self.new }
         ensures set { OnOk result (model.state self.new ≡ with_context ctx (model.state self.old)) }
@@ -42,7 +42,7 @@ pub trait Tokens: Iterator<Item = TokenAndSpan> {
     fn target(&self) -> EsVersion
         ensures { result ≡ (model.state self.now).target };
 
-    /// Where the text begins, in bytes.
+    /// Where the source begins, in bytes.
     fn start_pos(&self) -> BytePos {
         BytePos(0)
     }
@@ -79,8 +79,8 @@ pub trait Tokens: Iterator<Item = TokenAndSpan> {
         ensures added { OnOk result (model.state self.new ≡ with_error error (model.state self.old)) }
         ensures unchanged { OnErr result (model.state self.new ≡ model.state self.old) };
 
-    /// Records a fault that is one in modules alone: outside a module it waits. Refused only for
-    /// out of memory, and then nothing changes.
+    /// Records a fault that is one in modules alone: outside a module it waits. Refused only when out of memory, and
+    /// then nothing changes.
     fn add_module_mode_error(&mut self, error: Error) -> Result<(), AllocError>
         ensures gave { model.gives self.old [] self.new }
         ensures added { OnOk result (model.state self.new ≡ with_module_error error (model.state self.old)) }
@@ -92,7 +92,7 @@ pub trait Tokens: Iterator<Item = TokenAndSpan> {
         ensures taken { result.items ≡ (model.state self.old).errors }
         ensures emptied { model.state self.new ≡ record (model.state self.old) { errors = [] } };
 
-    /// The source ran out of memory.
+    /// Whether the source ran out of memory.
     fn failed(&self) -> bool
         ensures { result ≡ (model.state self.now).failed };
 

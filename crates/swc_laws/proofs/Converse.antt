@@ -1,5 +1,5 @@
 -- The converse of the cover law: what is read as parameters, by free names, is read in parentheses too, and is related
--- to these parameters, places apart.
+-- to these parameters, but for places.
 use Rattle.std.specs.Prelude.{◌≡◌, Bool, true, false, not, ◌||◌, if◌then◌else◌, List, [], ◌∷◌, Option, Some, None}
 use Rattle.std.proofs.Common.{refl, sym, ap, subst, ◌∙◌, arith}
 use Rattle.std.proofs.Math.Bool.{and-false}
@@ -498,7 +498,7 @@ module _ {F C K : Type 0} (hook : Hook F C K) where
   rest-binds (node rest s (cons d (cons p ts))) i h = (both (is_ident p) (binds_names is_free_name p) h).1
   rest-binds q i h = absurd cc
 
-  -- one clause a production
+  -- one clause per production
   step : (s : Symbol) (c : Scope) (r : Side F C K s) (xs ys : List TokenAndSpan) (t : Answer F C K s)
       → Production s c r → Ran hook Law s r xs ys t → Law s c xs ys t
   step s c r xs ys t pat-bind (ran-took {a = a} w) = λ q b.

@@ -1,4 +1,5 @@
--- The cover law: a list that is read as items, and is related to patterns, is read as these patterns too, places apart.
+-- The cover law: a list that is read as items, and is related to patterns, is read as these patterns too, but for
+-- places.
 use Rattle.std.specs.Prelude.{◌≡◌, ℕ, Bool, true, false, not, ◌&&◌, if◌then◌else◌, List, ◌∷◌, Option, Some, None, codes}
 use Rattle.std.proofs.Common.{refl, sym, ap, subst, ◌∙◌}
 use Rattle.std.proofs.lemmas.Bool.{not-true}
@@ -300,7 +301,7 @@ module _ {F C K : Type 0} (hook : Hook F C K) where
         subst (λ v. Part hook Element c (a ∷ ms) ys is_end v) x (dotted g w),
   )
 
-  -- one clause a production
+  -- one clause per production
   step-assign : {d : Scope} {r : Side F C K Assign} {xs ys : List TokenAndSpan} {t : Tree F C K} → Production Assign d r
       → Ran hook (Law hook) Assign r xs ys t → AssignLaw hook d xs ys t
   step-assign assign-level (ran-part e k ran-gave) = λ m c q p h b. alone (k m c (ap inner q) p h b)

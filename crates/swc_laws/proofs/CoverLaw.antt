@@ -74,7 +74,7 @@ params-name c strict n h k = by-module c.module c.strict (is_one_of n strict_bin
 
 module _ {F C K : Type 0} (hook : Hook F C K) where
   -- in a script or a strict module: a list that is related to patterns which may be bound there is read as parameters,
-  -- by the same tokens, and these are the same patterns, places apart
+  -- by the same tokens, and these are the same patterns, but for places
   pub cover : (c : Scope) → (c.context.module ≡ true → c.context.strict ≡ true)
       → (xs ys : List TokenAndSpan) → Spelled xs → (es : Tree F C K) (ps : Trees F C K)
       → Reads hook (Args false) (with_in c) xs ys es → as_params es ≡ Some ps
@@ -85,7 +85,7 @@ module _ {F C K : Type 0} (hook : Hook F C K) where
       (all-both (λ n. not ((c.context.module && c.context.strict) && is_one_of n strict_binding_words))
       (is_kept_name c.context) (may_be_bound c.context) (params-name c.context strict) ps k j)
 
-  -- and so what is before `=>`
+  -- and so is what is before `=>`
   params-gave : (c : Scope) (s : Span) (ps : Trees F C K) {xs ys : List TokenAndSpan} {hs : Tree F C K}
       → Follows hook ArrowParams (check (arrow_params_ok c.context ps) (gives (listed None s ps))) xs ys hs
       → (arrow_params_ok c.context ps ≡ true) × (hs ≡ listed None s ps) × (xs ≡ ys)

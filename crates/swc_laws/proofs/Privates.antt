@@ -1,5 +1,5 @@
 -- What holds of every tree that the grammar derives where the syntax is pedantic: `#` and a name are on the left of
--- `in` alone, or name a link (13.10.1). One clause a production says that its node keeps this; the induction is done
+-- `in` alone, or name a link (13.10.1). One clause per production says that its node keeps this; the induction is done
 -- once.
 use Rattle.std.specs.Prelude.{◌≡◌, ℕ, Bool, true, false, not, ◌||◌, if◌then◌else◌, List, Option, Some, None}
 use Rattle.std.proofs.Common.{refl, ap, subst, ◌∙◌}
@@ -206,7 +206,7 @@ module _ {F C K : Type 0} where
   bin-fit : (s : Span) (op : BinaryOp) (l r : Tree F C K) → Fit l → Fit r → Fit (bin_e s op l r)
   bin-fit s op l r g d = rw (privates-eased (takes_private_first {F = F} {C = C} {K = K} (bin_kind op)) l g, d) refl
 
-  -- one clause a production
+  -- one clause per production
   keeps : {s : Symbol} {c : Scope} {r : Side F C K s} → Production s c r → c.syntax.pedantic ≡ true
       → Keeps (Placed F C K s) r
   keeps (ident-expr {c = c}) y = λ a. keeps-given _ (reference c a.token a.span) _ (λ n h. (refl, tt))

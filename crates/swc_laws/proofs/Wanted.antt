@@ -315,8 +315,8 @@ module _ {F C K : Type 0} (hook : Hook F C K) (closes : EndsBodies hook) where
     pub wanted : wanted_behind behind named ys ≡ true
 
   mutual
-    -- where operands are wanted, after whatever token, what is read is joined; and where it ends, they are wanted
-    -- after what was read
+    -- where operands are wanted, after whatever token, what is read is joined; and where it ends, they are wanted after
+    -- what was read
     pub all-joined : {s : Symbol} {c : Scope} {xs ys : List TokenAndSpan} {t : Answer F C K s} (b o : Bool)
         (d : Reads hook s c xs ys t) → wanted_behind b o xs ≡ true → Joined d × Goes (is_ended s) ys
     all-joined {s = s} b o (by p d) w =

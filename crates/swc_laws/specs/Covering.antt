@@ -1,5 +1,5 @@
--- The cover law: what is in parentheses before `=>`, where it binds no `await` in a static block, is parameters of
--- the same patterns, without the parenthesis that opens. The code is a script or a strict module, and the tokens are
+-- The cover law: what is in parentheses before `=>`, where it binds no `await` in a static block, is parameters of the
+-- same patterns, without the parenthesis that opens. The code is a script or a strict module, and the tokens are
 -- spelled as a reader spells them.
 use Rattle.std.specs.Prelude.{◌≡◌, true, List, ◌∷◌}
 use Rattle.swc_input.specs.declared.token.TokenAndSpan.{TokenAndSpan}

@@ -14,8 +14,8 @@ is_joining regex-slash = true
 is_joining p = false
 
 module _ {F C K : Type 0} {hook : Hook F C K} where
-  -- By no other production than that one a slash is taken after which comes the regular expression found at it: so as
-  -- an operator none is.
+  -- No other production than that one takes a slash that comes before the regular expression found at it: so none is
+  -- taken as an operator.
   abbrev mutual
     pub Joined : {s : Symbol} {c : Scope} {xs ys : List TokenAndSpan} {t : Answer F C K s}
         → Reads hook s c xs ys t → Type 0

@@ -6,7 +6,7 @@ use swc_bodies::bodies::{BodyForms, ReplayBodies};
 
 /// The cover law: in a script or a strict module, where the grammar derives patterns from what
 /// is in parentheses before `=>`, from tokens as a reader spells them, and in a static block
-/// they bind no `await`, it derives the same patterns, places apart, as parameters, from the same
+/// they bind no `await`, it derives the same patterns, but for places, as parameters, from the same
 /// tokens without the `(`.
 pub fn cover<B: BodyForms>()
     ensures { Covering B.forms }
@@ -14,7 +14,7 @@ pub fn cover<B: BodyForms>()
 
 /// The converse of the cover law: where the grammar derives parameters, and no name that they bind
 /// is a word that some mode reserves, `await`, `yield`, `eval` or `arguments`, it derives the same
-/// patterns, places apart, as what is in parentheses before `=>`, from the same tokens with a
+/// patterns, but for places, as what is in parentheses before `=>`, from the same tokens with a
 /// `(` before them.
 pub fn converse<B: BodyForms>()
     ensures { Converse B.forms }

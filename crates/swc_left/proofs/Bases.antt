@@ -1,4 +1,4 @@
--- The clean parser's steps in what a left-hand side begins with (13.3), as the code goes them.
+-- The clean parser's steps in what a left-hand side begins with (13.3), as the code takes them.
 use Rattle.std.specs.Prelude.{◌≡◌, Bool, true, false, if◌then◌else◌, List, [], ◌∷◌, Option, Some, None, codes}
 use Rattle.std.proofs.Common.{refl, ap, ◌∙◌}
 use Rattle.swc_context.specs.{Texts.is_text, declared.span.Span.Span, declared.word.Keyword.Keyword as keyword, declared.word.Word.Word as word_of}

@@ -1,4 +1,4 @@
--- The clean parser's steps in left-hand sides (13.3), as the code goes them.
+-- The clean parser's steps in left-hand sides (13.3), as the code takes them.
 use Rattle.std.specs.Prelude.{◌≡◌, ℕ, Bool, true, false, not, ◌&&◌, ◌||◌, if◌then◌else◌, List, [], ◌∷◌, Option, Some, None}
 use Rattle.std.proofs.Common.{refl, ap, ◌∙◌}
 use Rattle.swc_context.specs.{Spans.from_to, Words.word_text, declared.span.BytePos.BytePos, declared.span.Span.Span, declared.word.Keyword.Keyword as keyword, declared.word.Word.Word as word_of}

@@ -1,4 +1,4 @@
--- The clean parser's steps in templates (13.2.8, 13.3.11), as the code goes them.
+-- The clean parser's steps in templates (13.2.8, 13.3.11), as the code takes them.
 use Rattle.std.proofs.Common.{◌≡◌, ◌≢◌, ℕ, Bool, true, false, not, if◌then◌else◌, List, [], ◌∷◌, Option, Some, None, Result, Ok, Err, IsSome, refl, sym, ap, ◌∙◌}
 use Rattle.swc_context.specs.{declared.error.Error.Error, declared.error.SyntaxError.SyntaxError, declared.span.Span.Span}
 use Rattle.swc_context.specs.declared.error.SyntaxError.TheVariants as kind

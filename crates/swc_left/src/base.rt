@@ -161,7 +161,8 @@ pub fn refuse_super_name<I: Tokens, B: Bodies<I>>(
     Err(refuse_super_link(&mut p.input, no_call))
 }
 
-/// The same, up to the arguments of a call: these are left.
+/// What begins with `import`, which is at `start` and was consumed, up to the arguments of a call: these are left. With
+/// `no_call`, a call is refused.
 #[inline(never)]
 pub fn import_head<I: Tokens, B: Bodies<I>>(
     p: &mut Productions<I, B>,
@@ -372,7 +373,7 @@ fn refuse_super_token<I: Tokens>(input: &mut Buffer<I>, no_call: bool) -> Error
     input.syntax_error(span, SyntaxError::InvalidSuper)
 }
 
-/// Records that there is no `import.meta` to give, as in scripts (ECMA-262, 13.3.12.1).
+/// Records that there is no `import.meta` to give, as in scripts (ECMA-262, 13.3.1.1).
 fn check_import_meta<I: Tokens>(input: &mut Buffer<I>, span: Span) -> PResult<()>
     ensures checks { Checked I.model (context I.model input.old).can_be_module input.old result input.new }
     ensures falls { OnOk result (to_come I.model input.new ≤ to_come I.model input.old) }

@@ -294,7 +294,8 @@ fn peek_chain<I: Tokens>(input: &mut Buffer<I>) -> Option<Option<Link>>
     }
 }
 
-/// Records that there is no `new.target` to give, as in code of no function and no class (ECMA-262, 13.3.1.1).
+/// Records that there is no `new.target` to give, as in code of no function and no class (ECMA-262, 16.1.1 and
+/// 16.2.1.1).
 fn check_new_target<I: Tokens>(input: &mut Buffer<I>, span: Span) -> PResult<()>
     ensures checks { Checked I.model (new_target_ok (context I.model input.old)) input.old result input.new }
     ensures falls { OnOk result (to_come I.model input.new ≤ to_come I.model input.old) }

@@ -11,7 +11,7 @@ use Rattle.swc_lexer.specs.Reads.{Answers, Reads, IsClean, read, refused, out_of
 use Rattle.std.specs.{declared.alloc.Global.Global, declared.vec.Vec.Vec}
 use Rattle.swc_context.specs.declared.error.Error.{Error}
 
--- a token more was read
+-- one more token was read
 pub sum_more : (e : End) (bs : List ℕ) (r t : Reading) (o : Option TokenAndSpan) (x : TokenAndSpan)
     (ts ns all : List TokenAndSpan) →
     ts ++ tokens_from e bs r ≡ all → Gives e bs r o t → o ≡ Some x → ns ≡ ts ++ x ∷ [] → ns ++ tokens_from e bs t ≡ all

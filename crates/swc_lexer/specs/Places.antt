@@ -1,6 +1,5 @@
 -- What was read so far, as far as it tells whether a slash that comes next divides (ECMA-262, 12 and 12.10): the token
--- before, the kind
--- of the function, and what is opened.
+-- before, the kind of the function, and what is opened.
 use Rattle.std.specs.Prelude.{Bool, true, false, not, ◌&&◌, ◌||◌, if◌then◌else◌, Option, Some, None}
 use Rattle.swc_lexical.specs.declared.scan.Goal.{Goal}
 use Rattle.swc_lexer.specs.{declared.mark.Mark.Mark, declared.mark.Name.Name, declared.place.Before.Before, declared.place.Break.Break, declared.place.Entry.Entry, declared.place.Frame.Frame, declared.place.Kind.Kind, declared.place.Move.Move, declared.place.Open.Open, declared.place.Place.Place, declared.place.Then.Then}
@@ -198,8 +197,7 @@ abbrev pub break_after_jump : Option Frame → Break
 break_after_jump top = if is_in_parens top then Nothing else Changes before.Statement
 
 -- what a line break does before a token, where `top` is the innermost that is open, and `below` the innermost but for
--- the expressions
--- after `=>` and declarations
+-- the expressions after `=>` and declarations
 abbrev pub at_break : Before → Option Frame → Option Open → Mark → Break
 at_break before.WantedHere top below m = break_after_jump top
 at_break before.Jump top below m = break_after_jump top
@@ -564,8 +562,7 @@ after_brackets p top mark.RBracket = closing p top (after_close_bracket (opened_
 after_brackets p top m = closing p top (after_close_brace (opened_by top))
 
 -- what the token does, where `top` is the innermost that is open; `adjoins` says that no blank is before it, and
--- `breaks` that a line
--- break is
+-- `breaks` that a line break is
 abbrev pub after : Place → Option Frame → Mark → Bool → Bool → Move
 after p top (mark.Word n) adjoins breaks = after_word p top n breaks
 after p top mark.Question adjoins breaks = opens p opened.Question p.kind before.Question

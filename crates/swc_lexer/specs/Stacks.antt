@@ -96,8 +96,8 @@ abbrev pub moved : Mark → Bool → Bool → State → State
 moved m adjoins breaks s = moved_by (is_chars m) (after s.place (innermost s.frames) m adjoins breaks) s.frames
 
 -- After a token: a line break before it may end a statement, it closes what has no bracket of its own, something may
--- begin before it, and
--- then it does what it does. `adjoins` says that no blank is before it, and `breaks` that a line break is.
+-- begin before it, and then it does what it does. `adjoins` says that no blank is before it, and `breaks` that a line
+-- break is.
 abbrev pub passed : Mark → Bool → Bool → State → State
 passed m adjoins breaks s = moved m adjoins breaks (entered m (closed m (break_if breaks m s)))
 

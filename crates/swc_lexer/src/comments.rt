@@ -182,7 +182,7 @@ pub fn comments_between(
 }
 
 /// The comments of a text (ECMA-262, 12.4 and 12.5), of a program or an expression, in a function of the kind, in the
-/// order of their places. A fault refuses the text, as it does for `read_text`; and memory, at 0..0.
+/// order of their places. The errors are those of `read_text`.
 pub fn read_comments(
     alloc: Global,
     text: &str,

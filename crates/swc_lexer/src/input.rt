@@ -69,7 +69,7 @@ impl TextInput {
     }
 
     /// A source of the tokens of a part of this text, as `new` makes it: from the byte `at` on, as far as `end` says.
-    /// The places of tokens are in the whole text. A hashbang is read at its beginning alone.
+    /// The places of tokens are in the whole text. A hashbang is read at the beginning of the whole text alone.
     pub fn new_at(
         alloc: Global,
         text: String,

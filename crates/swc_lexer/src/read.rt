@@ -13,7 +13,7 @@ use swc_context::error::{Error, PResult, SyntaxError};
 use swc_context::span::{BytePos, Span};
 use swc_input::token::{Token, TokenAndSpan};
 
-/// The error of memory.
+/// The error when out of memory, at 0..0.
 pub fn out_of_memory() -> Error
     ensures { result ≡ reads.out_of_memory }
 {
@@ -78,9 +78,9 @@ pub fn read_list(
 }
 
 /// The tokens of a text (ECMA-262, 12), of a program or an expression, in a function of the kind. Between them are
-/// white space, line terminators and comments alone (`comments_of` reads these). A fault refuses the text, the first
-/// one, with its place; and memory, at 0..0. Numbers and escapes of old scripts are read: `legacy_faults` has their
-/// faults.
+/// white space, line terminators and comments alone (`comments_of` reads these). The error is the first fault of the
+/// text, with its place; `Lex` at 0..0 if the text is longer than `MAX_LEN`; or `OutOfMemory` at 0..0. Numbers and
+/// escapes of old scripts are read: `legacy_faults` has their faults.
 pub fn read_text(
     alloc: Global,
     text: &str,

@@ -1,6 +1,5 @@
 -- What the texts of strings and templates mean, and how templates' are written (ECMA-262, 12.9.4.2 and 12.9.6.1), in
--- UTF-8. A half of
--- a pair by which UTF-16 writes a character, without the other half, is U+FFFD.
+-- UTF-8. A half of a pair by which UTF-16 writes a character, without the other half, is U+FFFD.
 use Rattle.std.specs.Prelude.{◌≡◌, ◌≤◌, ℕ, suc, zero, ◌+◌, ◌*◌, ◌-◌, ◌<◌, Bool, ◌&&◌, if◌then◌else◌, nat_lt, nat_le, length, List, [], ◌∷◌, ◌++◌, Option, Some, None, drop, IfSome, encode_utf8}
 use Rattle.swc_lexical.specs.{declared.escape.Meaning.Meaning, declared.escape.Meaning.TheVariants.Code, declared.escape.Meaning.TheVariants.Nothing, Runs.is_at, Chars.first_char, Chars.terminator_len, Escapes.string_escape, Names.scalar}
 

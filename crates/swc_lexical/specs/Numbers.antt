@@ -52,8 +52,7 @@ abbrev pub plain_digits_len : Base → List ℕ → ℕ
 plain_digits_len base bs = run (plain_digit_len base) bs
 
 -- a number of old scripts: a 0 and a digit. It is octal where all its digits are (LegacyOctalIntegerLiteral, and
--- otherwise
--- NonOctalDecimalIntegerLiteral)
+-- otherwise NonOctalDecimalIntegerLiteral)
 abbrev pub is_legacy : List ℕ → Bool
 is_legacy bs = is_at bs 0 48 && test_at (is_digit Decimal) bs 1
 

@@ -19,8 +19,7 @@ unless_none zero f = 0
 unless_none (suc n) f = f n
 
 -- How many bytes the longest run of pieces takes, where k bytes are left of the piece before. `piece` says how many
--- bytes the piece
--- takes that a text begins with: none where it begins with none.
+-- bytes the piece takes that a text begins with: none where it begins with none.
 unfoldable pub run_from : (List ℕ → ℕ) → ℕ → List ℕ → ℕ
 run_from piece k [] = 0
 run_from piece (suc k) (b ∷ bs) = suc (run_from piece k bs)

@@ -46,7 +46,7 @@ fn space_len(rest: &[u8]) -> usize
     }
 }
 
-/// A comment; 0 where none is here, or its `*/` is missing.
+/// How many bytes the comment takes that is here; 0 where none is, or its `*/` is missing.
 pub fn comment_len(rest: &[u8]) -> usize
     ensures value { result ≡ blanks.comment_len rest.now }
     ensures within { result ≤ length rest.now }
@@ -79,7 +79,7 @@ fn some_blank_len(rest: &[u8]) -> usize
     comment_len(rest)
 }
 
-/// White space, a line terminator or a comment.
+/// How many bytes the white space, line terminator or comment takes that is here; 0 where none is.
 pub fn blank_len(rest: &[u8]) -> usize
     ensures value { result ≡ blanks.blank_len rest.now }
     ensures within { result ≤ length rest.now }
@@ -92,7 +92,7 @@ pub fn blank_len(rest: &[u8]) -> usize
     }
 }
 
-/// All blanks that are here.
+/// How many bytes all blanks take that are here: white space, line terminators and comments.
 #[tactic(auto, using(crate::proofs::Runs::RunsTo_begin))]
 pub fn blanks_len(rest: &[u8]) -> usize
     ensures value { result ≡ blanks.blanks_len rest.now }

@@ -26,7 +26,7 @@ pub enum Wrong {
     Template,
     /// A name or a digit right after a number.
     Name,
-    /// A digit is wanting in a number.
+    /// A digit is missing in a number.
     Digit,
     /// A bad escape.
     Escape,
@@ -79,7 +79,7 @@ fn and_brace(len: usize, rest: &[u8]) -> usize
     if is_at(rest, len, b'}') { len + 1 } else { len }
 }
 
-/// Whether `\u{` or the like is here.
+/// Whether `u{` comes after the byte that is here.
 fn opens_brace(rest: &[u8]) -> bool
     ensures value { result ≡ faults.opens_brace rest.now }
     ensures within { result ≡ true → 2 < length rest.now }

@@ -130,8 +130,8 @@ fn of_first(wants: bool, rest: &[u8], byte: u8) -> Option<(Kind, usize)>
     }
 }
 
-/// What begins here, and how many bytes it takes, where a slash begins a regular expression, or divides; none where
-/// nothing fits, and at the end.
+/// What begins here, and how many bytes it takes; `None` where nothing fits, and at the end. `wants` says that a slash
+/// begins a regular expression; otherwise it divides.
 pub fn lexeme(wants: bool, rest: &[u8]) -> Option<(Kind, usize)>
     ensures value { result ≡ lexemes.lexeme wants rest.now }
     ensures within { IfSome result (λ r. r.1 ≤ length rest.now) }

@@ -121,7 +121,8 @@ fn lone(half: Option<u32>) -> Option<char>
     }
 }
 
-/// What a text means; how it is written, but for its CRs, where it isn't cooked. The only error is out of memory.
+/// What a text means if `cooks`; otherwise how it is written, with an LF for each CR or CRLF. The only error is out of
+/// memory.
 #[tactic(auto, using(crate::proofs::Meanings::MeansTo_begin))]
 pub fn meaning(alloc: Global, cooks: bool, text: &[u8]) -> Result<String, AllocError>
     ensures { IfOk result (λ value. string_bytes value ≡ meanings.meaning cooks text.now) }

@@ -173,7 +173,7 @@ pub(crate) fn written_run(rest: &[u8]) -> usize
     at
 }
 
-/// A name, with escapes or not, as long as it goes on; 0 where none begins here.
+/// How many bytes the name takes that begins here, with escapes or not; 0 where none does.
 pub fn written_len(rest: &[u8]) -> usize
     ensures value { result ≡ written.name_len rest.now }
     ensures within { result ≤ length rest.now }

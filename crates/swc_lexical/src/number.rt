@@ -217,7 +217,8 @@ fn in_base(base: Base, rest: &[u8]) -> Option<usize>
     then_some(2, digits_len(base, &rest[2..]))
 }
 
-/// A number, without the `n` of a big one. One of old scripts, as `010` and `08.5`, is one too.
+/// How many bytes a number takes, without the `n` of a big one; `None` where a digit is missing after the letter of a
+/// base or an exponent. A number of old scripts, as `010` and `08.5`, is one too.
 pub fn number_len(rest: &[u8]) -> Option<usize>
     ensures value { result ≡ numbers.number_len rest.now }
     ensures within { IfSome result (λ len. len ≤ length rest.now) }

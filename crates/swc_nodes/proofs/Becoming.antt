@@ -246,7 +246,7 @@ module _ {F C K : Type 0} (at by : ℕ → Node F C K) (place spot : ℕ → Spa
     recast-alike (role.RebindRest s) (n.PatIdent b) y a k h = h
     recast-alike (role.RebindRest s) x y a k h = plain-alike (again_as s x) (role.RebindRest s) x y refl k h
 
--- ---- its tree's kind and place go by itself alone
+-- ---- its tree's kind and place depend on the node alone
 
 module _ {F C K : Type 0} (fun_at : F → Span) (class_at : C → Span) (block_at : K → Span) (f g : ℕ → Tree F C K) where
   abbrev by_f : Node F C K → Tree F C K

@@ -56,8 +56,6 @@ elems-trees at [] = refl
 elems-trees at (None ∷ xs) = ap (λ v. no_tree ∷ v) (elems-trees at xs)
 elems-trees at (Some p ∷ xs) = ap (λ v. at p.0 ∷ v) (elems-trees at xs)
 
--- ---- trees of parameters, and then more of them
-
 -- ---- what a setter has of its function, before its block: the pattern of the first parameter
 
 module _ {F C K : Type 0} (at : ℕ → Tree F C K) where
@@ -90,8 +88,6 @@ module _ {F C K : Type 0} {fg : Ghosts F} {cg : Ghosts C} {kg : Ghosts K} where
       first_param_pat xs ≡ Some p → Apart k ns (ps ++ flat param_parts xs) → Apart k ns (ps ++ one_pat p)
   setter-apart {ns} {k} ps xs p e a =
       record { chained = chain-first-param (seat_at ns) k ps xs p (count ns) e a.chained }
-
-  -- ---- the elements of an array
 
   -- ---- patterns one after another, as the parameters of an arrow function
 

@@ -21,7 +21,7 @@ use Rattle.swc_nodes.specs.declared.role.Role.{Role}
 -- ---- a list whose items become others, each with what is due of it
 
 module _ {X : Type 0} (f : X → X) (g : X → List Due) where
-  -- the items before the number i did, and those from there on are what they were
+  -- the items before the number i became others, and those from there on are what they were
   pub record Rebinding (xs : List X) (before : List Due) (new : List X) (now : List Due) (i : ℕ) : Type 0 where
     pub items : new ≡ map f (take i xs) ++ drop i xs
     pub dues : now ++ flat g (drop i xs) ≡ before ++ flat g xs

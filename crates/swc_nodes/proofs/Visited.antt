@@ -19,7 +19,7 @@ module _ {A : Type 0} where
   none_more before [] le = refl
   none_more before (x ∷ more) le = let l = length-append before (x ∷ more) in absurd (let no : ⊥ = omega arith in no)
 
-  -- the last one of both
+  -- the last item of two lists, one after the other, is that of the second
   pub record Last (b before more : List A) (x : A) : Type 0 where
     pub rest : List A
     pub more_is : more ≡ rest ++ x ∷ []

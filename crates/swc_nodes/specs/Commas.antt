@@ -28,8 +28,7 @@ own_comma (object_with comma) s = (s.lo.0, comma) ∷ []
 own_comma k s = []
 
 -- All literals of a tree, but for those in the bodies of arrow functions: a node before its parts, and these from the
--- last one on, in the
--- order of the source.
+-- last one on, in the order of the source.
 abbrev mutual
   pub commas_in : {F C K : Type 0} → Tree F C K → List Literal
   commas_in (node (arrow a) s (cons body params)) = commas_of_all params
@@ -64,8 +63,7 @@ node_comma x = []
 -- ---- remembering literals
 
 -- what is remembered at a position once literals were remembered, one after another: the comma of the last one that
--- begins there, and what
--- there was where none does
+-- begins there, and what there was where none does
 abbrev pub recalled : List Literal → ℕ → Option Span → Option Span
 recalled [] at was = was
 recalled (l ∷ ls) at was = recalled ls at (if nat_eq l.0 at then l.1 else was)

@@ -12,12 +12,9 @@ abbrev pub Marker : Type 0
 Marker = ℕ → Option Span
 
 -- The tree of an expression, and of a pattern, with the marks of commas at all array and object literals in it: an
--- array or
--- object pattern has none. On the left of an assignment, among the parameters of an arrow function, in that of a
--- function and
--- in that of a setter patterns are; in a pattern expressions are its initialisers, its keys, and what is written to
--- as it
--- is.
+-- array or object pattern has none. On the left of an assignment, among the parameters of an arrow function, in that of
+-- a function and in that of a setter patterns are; in a pattern expressions are its initialisers, its keys, and what is
+-- written to as it is.
 abbrev mutual
   pub marked_by : {F C K : Type 0} → Marker → Tree F C K → Tree F C K
   marked_by m (node (array_with comma) s ts) = node (array_with (m s.lo.0)) s (all_marked_by m ts)
@@ -74,8 +71,8 @@ marked_from m k xs = take k xs ++ map (marked_node m) (drop k xs)
 
 module _ {F C K : Type 0} {fg : Ghosts F} {cg : Ghosts C} {kg : Ghosts K} where
   -- The literals with numbers from k on were marked: what is reached from each number, and what its node is, are what
-  -- they
-  -- were, and so are the nodes below k; the parts from which nothing below k is reached stand for their marked trees.
+  -- they were, and so are the nodes below k; the parts from which nothing below k is reached stand for their marked
+  -- trees.
   pub record Marks (m : Marker) (k : ℕ) (ns ms : Nodes F C K fg cg kg) : Type 0 where
     pub kept : take k ms.nodes.items ≡ take k ns.nodes.items
     pub counted : count ms ≡ count ns

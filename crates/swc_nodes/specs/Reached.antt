@@ -4,8 +4,7 @@ use Rattle.swc_ast.specs.declared.spanned.Spanned.{Ghosts}
 use Rattle.swc_nodes.specs.{NodeParts.Part, GrowingNodes.count, GrowingNodes.parts_at, Walking.part_of, declared.apart.PartId.PartId, declared.nodes.Nodes.Nodes}
 
 -- What is reached from the parts ps: they themselves, where a node has their number, and the parts of the node of each
--- that
--- is reached.
+-- that is reached.
 pub data Reaches {F C K : Type 0} {fg : Ghosts F} {cg : Ghosts C} {kg : Ghosts K} (ns : Nodes F C K fg cg kg)
     (ps : List Part) : Part → Type 0 where
   itself : {p : Part} → Contains ps p → p.at < count ns → Reaches ns ps p

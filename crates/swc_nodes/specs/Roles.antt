@@ -1,6 +1,5 @@
 -- What becomes of a node that is to become a pattern, at the node alone: what it is then, by what is there, and what
--- its
--- parts are to become. What the whole tree is to become is given to what is said here.
+-- its parts are to become. What the whole tree is to become is given to what is said here.
 use Rattle.std.specs.Prelude.{Bool, true, false, ◌&&◌, List, [], ◌∷◌, ◌++◌, Option, Some, None, map}
 use Rattle.swc_context.specs.declared.operator.AssignOp.{AssignOp}
 use Rattle.swc_context.specs.declared.operator.AssignOp.TheVariants as op

@@ -30,10 +30,8 @@ parts_under at ps [] = ps
 parts_under at ps (q ∷ qs) = at (part_of q).at
 
 -- The visits go over what is reached from the parts ps, where `at` gives the parts of a number. The nodes around were
--- entered before them,
--- and not left. So what is entered is left after all that was entered after it; each is a part of the innermost node
--- around it, and that is
--- its parent.
+-- entered before them, and not left. So what is entered is left after all that was entered after it; each is a part of
+-- the innermost node around it, and that is its parent.
 pub data Walked (at : ℕ → List Part) (ps : List Part) : List Visit → List PartId → Type 0 where
   over : Walked at ps [] []
   enters : {p : PartId} {around : List PartId} {vs : List Visit} → Walked at ps vs (p ∷ around)

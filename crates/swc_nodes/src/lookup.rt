@@ -13,7 +13,7 @@ use crate::nodes::Nodes;
 use swc_ast::spanned::Spanned;
 use swc_context::span::Span;
 
-/// What is the number of a node, of whichever kind, or may be one.
+/// A number by which a node can be looked up: of an expression, of a pattern, or of either. No node may have it.
 pub trait NodeNumber {
     ghost use Rattle.std.specs.Prelude.{ℕ};
 

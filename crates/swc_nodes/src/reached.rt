@@ -10,7 +10,7 @@ use swc_ast::spanned::Spanned;
 
 /// All that is reached from an item: its parts, their nodes' parts, and so on, each after the parts of its own node.
 /// An `ExprId` or a `PatId` is its one part itself, and so comes last. Beside them `Nodes` may hold others, as after a
-/// recorded fault, which nothing reaches: who wants the nodes of a tree goes over these.
+/// recorded fault, which nothing reaches: so use this for the nodes of one tree.
 ///
 /// What no node has the number of is left out. Where the item's parts lie apart, as those of each node do, and what the
 /// parser answers, the numbers rise, and so none comes twice; so they do from one part, whichever it is. Takes time and

@@ -1,5 +1,5 @@
 -- What the clean parser reads in parentheses, sequences, conditionals, assignments and of `yield`, a step at a time, as
--- the code goes it.
+-- the code does it.
 use Rattle.std.proofs.Common.{◌≡◌, Bool, true, false, not, ◌&&◌, if◌then◌else◌, List, [], ◌∷◌, Option, Some, None, refl, sym, ap, ◌∙◌, ◌||◌}
 use Rattle.swc_context.specs.{declared.operator.AssignOp.AssignOp, declared.operator.AssignOp.AssignOp as write, declared.span.BytePos.BytePos, declared.span.Span.Span, declared.word.Keyword.Keyword as keyword, declared.word.Word.Word as written}
 use Rattle.swc_input.specs.{declared.token.Token.Token, declared.token.Token.Token as token, declared.token.TokenAndSpan.TokenAndSpan, Kinds.at_token, Recording.is_some}
@@ -168,7 +168,7 @@ module _ {F C K : Type 0} (hook : Hook F C K) where
       knot hook (assigns l) x (t ∷ ts)
       ∙ rw (q, a, n) (by_pattern (is_pattern l) op l x t ts refl k o)
 
-  -- a literal lies where the pattern does that it is
+  -- a literal lies where the pattern lies that it is
   then_span : (s : Span) (o : Option (Trees F C K)) (f : Trees F C K → Tree F C K) (t : Tree F C K)
       → ((ps : Trees F C K) → span_of (f ps) ≡ s) → (o >>> (λ ps. Some (f ps))) ≡ Some t → span_of t ≡ s
   then_span s None f t k h = absurd cc

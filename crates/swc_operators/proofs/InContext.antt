@@ -26,7 +26,7 @@ module _ {S H F C K : Type 0} {fg : Ghosts F} {cg : Ghosts C} {kg : Ghosts K} {m
     {T A : Type 0} {held : ℕ → Nodes F C K fg cg kg → T → Type 0}
     {view : Nodes F C K fg cg kg → T → A} {k : ℕ} {p q : Productions S H F C K fg cg kg} {b e : Buffer S}
     {was made ctx : Context} {r o : Result T Error} where
-  -- q reads r, which is o, in the context that w makes of the one from before; after it that is set back
+  -- q reads r, which is o, in the context that w makes of the one from before; after it the one from before is set back
   pub within : {f g : Reader A} (w : Context → Context) → ((x : Context) → (w x).ignore_error ≡ x.ignore_error)
       → ((x : Scope) (ts : List TokenAndSpan) → f x ts ≡ g (in_context w x) ts)
       → was ≡ context model p.input → deciding made ≡ w (deciding was)

@@ -1,4 +1,4 @@
--- What the clean parser reads of `++`, `--` and `await`, a step at a time, as the code goes it.
+-- What the clean parser reads of `++`, `--` and `await`, a step at a time, as the code does it.
 use Rattle.std.specs.Prelude.{codes}
 use Rattle.std.proofs.Common.{◌≡◌, Bool, true, false, not, ◌&&◌, if◌then◌else◌, List, [], ◌∷◌, Option, Some, None, refl, sym, ap, ◌∙◌, ◌||◌, Result, Ok, Err}
 use Rattle.swc_context.specs.{declared.error.Error.Error, declared.operator.UpdateOp.UpdateOp, declared.span.Span.Span, declared.word.Keyword.Keyword as keyword, declared.word.Word.Word as written}

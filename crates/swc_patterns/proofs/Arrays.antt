@@ -1,4 +1,4 @@
--- The clean parser's steps in patterns and array patterns (14.3.3), as the code goes them.
+-- The clean parser's steps in patterns and array patterns (14.3.3), as the code takes them.
 use Rattle.std.proofs.Common.{◌≡◌, ◌≤◌, ℕ, zero, suc, Bool, true, false, not, if◌then◌else◌, List, [], ◌∷◌, ◌++◌, length, Option, Some, None, IsSome, refl, sym, ap, subst, ◌∙◌, arith}
 use Rattle.swc_context.specs.{declared.span.Span.Span, declared.word.Word.Word}
 use Rattle.swc_input.specs.{declared.token.Token.Token, declared.token.Token.Token as token, declared.token.TokenAndSpan.TokenAndSpan, Kinds.at_token}

@@ -1,4 +1,4 @@
--- The clean parser's steps in formal parameters (15.1), as the code goes them.
+-- The clean parser's steps in formal parameters (15.1), as the code takes them.
 use Rattle.std.specs.Prelude.{◌≡◌, Bool, true, false, not, if◌then◌else◌, List, [], ◌∷◌, Option, Some, None, IsSome}
 use Rattle.std.proofs.Common.{refl, sym, ap, ◌∙◌}
 use Rattle.swc_context.specs.{declared.span.Span.Span, declared.operator.AssignOp.AssignOp as assign}

@@ -52,7 +52,7 @@ module _ {S H F C K : Type 0} {fg : Ghosts F} {cg : Ghosts C} {kg : Ghosts K} {m
     closed {o} {s} {b} is looked =
         on_then so.on (on_call _ (props_turn hook before comma) (eats_some sure is_rbrace o s q.input b is looked).on)
 
-    -- it doesn't, so a property does
+    -- it isn't there, so a property is
     pub goes_on : {o : Option Span} {b : Buffer S} → o ≡ None → Looked model sure q.input o b
         → On model sure (run hook (at PatProps)) (pat_prop_more hook before) p.input b
     goes_on {o} {b} is looked =

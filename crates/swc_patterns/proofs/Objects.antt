@@ -1,4 +1,4 @@
--- The clean parser's steps in object patterns (14.3.3), as the code goes them.
+-- The clean parser's steps in object patterns (14.3.3), as the code takes them.
 use Rattle.std.specs.Prelude.{◌≡◌, ℕ, Bool, true, false, not, if◌then◌else◌, List, [], ◌∷◌, Option, Some, None, Result, Ok, Err, IfOk}
 use Rattle.std.proofs.Common.{refl, sym, ap, ◌∙◌}
 use Rattle.swc_context.specs.{Reserved.is_reserved_word, declared.error.Error.Error, Words.word_text, declared.operator.AssignOp.AssignOp as assign, declared.span.BytePos.BytePos, declared.span.Span.Span, declared.word.Word.Word}
@@ -91,7 +91,7 @@ abbrev is_name : {F C K : Type 0} → Tree F C K → Bool
 is_name (name_e s text) = true
 is_name k = false
 
--- a property that is none of rests
+-- a property that is no rest
 abbrev only_prop : {F C K : Type 0} → Tree F C K × List TokenAndSpan → Out (Tree F C K)
 only_prop p = if is_rest p.0 then None else Some p
 

@@ -102,7 +102,7 @@ module _ {S H F C K : Type 0} {fg : Ghosts F} {cg : Ghosts C} {kg : Ghosts K} {m
       yes r (node_parses model sure (pat_at q.nodes) at r t (made_tree q.nodes j t n r made ok) refused h)
       (grows-then w g) (made_from q.nodes k j t n r le made ok)
 
-  -- the same, where nothing is read perhaps
+  -- the same, where perhaps nothing is read
   pub pat_node_on : {p q : Productions S H F C K fg cg kg} {t : Tree F C K} {ns : Nodes F C K fg cg kg} {k j : ℕ}
       (at : BytePos) (n : Result PatId AllocError) (r : Result PatId Error) → k ≤ j
       → IfOk n (λ id. Made j q.nodes (pat_part id) t) → IfOk r (λ id. n ≡ Ok id) → IfErr r (λ x. x ≡ no_memory at)

@@ -41,7 +41,7 @@ module _ {S F C K : Type 0} {model : Model S} {sure : Bool} (hook : Hook F C K) 
       heard_after (on_call _ (pat_prop_item_splits hook) (eats_some sure is_dots o s a b is looked).on)
       (heard_call (λ x p. Some (rest_node s p.0, p.1)) (λ x ts. refl) (λ x ts. refl) h)
 
-  -- they don't, and a key does
+  -- they aren't there, and a key is
   pub key_refused : {e : Error} → o ≡ None → Looked model sure a o b → Unheard model sure (run hook (at Key)) b e c
       → Unheard model sure (pat_prop_item hook) a e c
   key_refused is looked u =

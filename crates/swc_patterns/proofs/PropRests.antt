@@ -85,7 +85,7 @@ with_last true (Some r) s = by_name r.is_name
     by_name false = refl
 with_last false last s = refl
 
--- the last rest is well, over a name, with no comma after it
+-- the last rest is as it has to be: over a name, with no comma after it
 pub last_checked : (o : Option RestProp) (r : RestProp) (comma : Option Span) (x : Scope) (ts : List TokenAndSpan)
     → o ≡ Some r → not r.is_name ≡ false → comma ≡ None → rests_checked (last_stage o comma) x ts ≡ Some (tt {0}, ts)
 last_checked o r comma x ts e h n = rw (e, not_false r.is_name h, n) refl

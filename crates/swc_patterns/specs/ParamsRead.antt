@@ -26,8 +26,7 @@ module _ {F C K : Type 0} (hook : Hook F C K) (c : Scope) where
 
 -- What the production of formal parameters does from p to q. It leaves the parenthesis that closes them, and may stop
 -- where there is none: so what it read of the list is said by what is left (`reads`), and what each of them is by
--- itself
--- (`each`), if no fault was recorded.
+-- itself (`each`), if no fault was recorded.
 pub record LeavesParams {S H F C K : Type 0} {fg : Ghosts F} {cg : Ghosts C} {kg : Ghosts K} (model : Model S)
     (sure : Bool) (hook : Hook F C K) (k : ℕ) (p : Productions S H F C K fg cg kg)
     (r : Result (Vec (Param PatId) Global) Error) (q : Productions S H F C K fg cg kg) : Type 0 where

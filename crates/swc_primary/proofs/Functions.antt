@@ -1,4 +1,4 @@
--- The clean parser's steps in the functions of methods (15.4), as the code goes them.
+-- The clean parser's steps in the functions of methods (15.4), as the code takes them.
 use Rattle.std.proofs.Common.{◌≡◌, Bool, true, false, not, ◌&&◌, List, [], ◌∷◌, ◌++◌, Some, None, ℕ, ◌≤◌, map, length, refl, sym, ap, subst, ◌∙◌, arith}
 use Rattle.std.specs.{declared.alloc.Global.Global, declared.vec.Vec.Vec, Option.is_some, Prelude.Option}
 use Rattle.swc_context.specs.{Contexts.method_block, Contexts.method_params, declared.span.Span.Span}
@@ -33,7 +33,7 @@ just-one [] h = absurd (omega (arith, h))
 just-one (p ∷ []) h = refl
 just-one (p ∷ (q ∷ ps)) h = absurd (omega (arith, h))
 
--- with one it has what it needs
+-- with a parameter no method misses one
 pub held : (m : Option MethodKind) (ps : List (Param PatId)) → is_some (first_param_pat ps) ≡ true
     → misses_param m ps ≡ false
 held m [] h = absurd cc
@@ -140,7 +140,7 @@ module _ {F C K : Type 0} (hook : Hook F C K) where
             (sym (hears-place hook laws block c ts p.0 p.1 h))
             ∙ ap (λ o. o >>= (λ p. Some (method_function_node block_at m s ps p.0, p.1))) (sym e)
 
-    -- the check after the block is one before it
+    -- a check after the block is the same check before it
     by_ok : (b : Bool) (s : Span) (ps : Trees F C K) (x : Scope) (ts : List TokenAndSpan) → accessor_ok m ps ≡ b
         → (method_block_by hook block_at m true s ps x ts >>= (λ p. method_by m p))
         ≡ method_block_by hook block_at m b s ps x ts

@@ -1,4 +1,4 @@
--- The clean parser's steps in properties that have a key, methods among them, as the code goes them.
+-- The clean parser's steps in properties that have a key, methods among them, as the code takes them.
 use Rattle.std.specs.Prelude.{◌≡◌, ℕ, Bool, true, false, not, if◌then◌else◌, List, [], ◌∷◌, Option, Some, None}
 use Rattle.std.proofs.Common.{refl, sym, ap, subst, ◌∙◌}
 use Rattle.swc_context.specs.declared.span.Span.{Span}

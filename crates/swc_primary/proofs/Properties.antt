@@ -1,4 +1,4 @@
--- The clean parser's steps in object literals (13.2.5), as the code goes them.
+-- The clean parser's steps in object literals (13.2.5), as the code takes them.
 use Rattle.std.specs.Prelude.{◌≡◌, Bool, true, false, not, if◌then◌else◌, List, [], ◌∷◌, Option, Some, None}
 use Rattle.std.proofs.Common.{refl, sym, ap, ◌∙◌}
 use Rattle.swc_context.specs.{Reserved.is_reserved_word, declared.span.Span.Span}

@@ -18,8 +18,7 @@ prop_left hook head.Key = by_production hook (λ c. prop-key)
 prop_left hook (head.Method m s) = method_tail hook m s
 
 -- From b to c what a property begins with was read, and then reading the property is reading what is left of it. A name
--- alone is the
--- whole, and has a token.
+-- alone is the whole, and has a token.
 module _ {S F C K : Type 0} (model : Model S) (sure : Bool) (hook : Hook F C K) where
   abbrev pub Begins : PropHead → Buffer S → Buffer S → Type 0
   Begins (head.Shorthand n) b c =

@@ -41,9 +41,9 @@ pub fn without_params(kind: Option<MethodKind>) -> SyntaxError
 /// them, and a block, which the hook reads in the context of the method's body. It spans what was read, so without the
 /// key, which is at `key`.
 ///
-/// Parameters of a getter are recorded, at the key, and so is a setter that hasn't one; of a setter without any that is
-/// recorded once more after the block, and what stands in for the missing one is put among its function's parameters.
-/// A rest in a setter is recorded at its place, where it is the first.
+/// Parameters of a getter are recorded, at the key, and so is a setter without exactly one; of a setter without any
+/// that is recorded once more after the block, and what stands in for the missing one is put among its function's
+/// parameters. A rest in a setter is recorded at its place, where it is the first.
 ///
 /// A missing `)` or `{` is refused as `Expected`, at the current token, and the end as `Eof`; what the hook refuses is
 /// passed on. The context is that from before, also after a refusal.
@@ -102,7 +102,7 @@ fn check_getter<I: Tokens>(
     }
 }
 
-/// Records that a setter hasn't one parameter, and a first one that is a rest.
+/// Records that a setter doesn't have exactly one parameter, and a first one that is a rest.
 fn check_setter<I: Tokens, B: Bodies<I>>(
     input: &mut Buffer<I>,
     nodes: &NodesOf<B>,
@@ -118,7 +118,7 @@ fn check_setter<I: Tokens, B: Bodies<I>>(
     check_rest::<I, B>(input, nodes, params)
 }
 
-/// Records that a setter hasn't one parameter.
+/// Records that a setter doesn't have exactly one parameter.
 fn check_count<I: Tokens>(
     input: &mut Buffer<I>,
     key: Span,

@@ -1,4 +1,4 @@
--- How an assignment expression begins that may be an arrow function (15.3, 15.9), as the code goes it.
+-- How an assignment expression begins that may be an arrow function (15.3, 15.9), as the code reads it.
 use Rattle.std.proofs.Common.{◌≡◌, ◌&&◌, Bool, false, true, if◌then◌else◌, List, ℕ, ◌≤◌, Option, Some, None, map, refl, sym, ap, subst, ◌∙◌}
 use Rattle.swc_context.specs.Contexts.{view as deciding}
 use Rattle.swc_context.specs.declared.context.Context.{Context}

@@ -1,4 +1,4 @@
--- The body of an arrow function (15.3, 15.9), as the code goes it: in its own context, a block or an assignment
+-- The body of an arrow function (15.3, 15.9), as the code reads it: in its own context, a block or an assignment
 -- expression.
 use Rattle.std.proofs.Common.{◌≡◌, ℕ, Bool, true, false, if◌then◌else◌, List, Result, refl, ap}
 use Rattle.swc_context.specs.Contexts.{arrow_body}

@@ -1,4 +1,4 @@
--- Assignment expressions that may be arrow functions (15.3, 15.9), as the code goes them.
+-- Assignment expressions that may be arrow functions (15.3, 15.9), as the code reads them.
 use Rattle.std.proofs.Common.{◌≡◌, ◌<◌, ◌++◌, ℕ, ◌≤◌, Bool, true, false, if◌then◌else◌, List, Option, None, Some, Result, Ok, Err}
 use Rattle.std.proofs.Common.{IsErrAnd, refl, subst, ◌∙◌, arith}
 use Rattle.swc_context.specs.declared.error.Error.{Error}

@@ -1,5 +1,5 @@
--- Productions where no assignment expression begins, which every buffer is: as what is read there by one that asks for
--- it.
+-- Productions at a buffer, whose scope never says that an assignment expression begins there: they read the same with
+-- that flag cleared.
 use Rattle.std.proofs.Common.{ℕ, Bool, Result}
 use Rattle.swc_context.specs.declared.error.Error.{Error}
 use Rattle.swc_input.specs.Source.{Model}

@@ -1,4 +1,4 @@
--- The clean parser's steps in arguments (13.3.8) and in parentheses (13.2.9), as the code goes them.
+-- The clean parser's steps in arguments (13.3.8) and in parentheses (13.2.9), as the code takes them.
 use Rattle.std.specs.Prelude.{◌≡◌, Bool, true, false, not, ◌||◌, if◌then◌else◌, List, [], ◌∷◌, Option, Some, None}
 use Rattle.std.proofs.Common.{refl, sym, ap, ◌∙◌}
 use Rattle.swc_context.specs.declared.span.Span.{Span}
@@ -20,7 +20,6 @@ pub neither : (a b : Bool) → (a || b) ≡ false → (a ≡ false) × (b ≡ fa
 neither true b h = absurd cc
 neither false b h = (refl, h)
 
--- `super` and `import` are not `new`
 -- ---- what is after an argument
 
 pub args_separated : (i : Bool) (x : Scope) (ts : List TokenAndSpan)

@@ -1,4 +1,4 @@
--- The clean parser's steps in keys and in the functions of methods, as the code goes them.
+-- The clean parser's steps in keys and in the functions of methods, as the code takes them.
 use Rattle.std.specs.Prelude.{◌≡◌, Bool, true, false, ◌&&◌, ◌||◌, if◌then◌else◌, List, [], ◌∷◌, ◌++◌, Some, None, Result, Ok, Err, IfOk}
 use Rattle.std.proofs.Common.{refl, sym, ap, ◌∙◌, arith}
 use Rattle.swc_context.specs.{Contexts.method_block, declared.error.Error.Error, declared.span.Span.Span}

@@ -1,4 +1,4 @@
--- The clean parser's steps in lists, as the code goes them.
+-- The clean parser's steps in lists, as the code takes them.
 use Rattle.std.specs.Prelude.{◌≡◌, Bool, true, false, List, [], ◌∷◌, Option, Some, None}
 use Rattle.std.proofs.Common.{refl, sym, ap, ◌∙◌}
 use Rattle.swc_context.specs.declared.span.Span.{Span}
@@ -58,7 +58,7 @@ bind_same None f k h = refl
 bind_same (Some p) f k h = h p
 
 module _ {F C K : Type 0} where
-  -- items before items; no comma counts that an item follows
+  -- items before items; a comma that an item follows doesn't count
   pub twice : (before : Trees F C K) (comma : Option Span) (e es : Tree F C K)
       → put_before before (behind comma (put_first e es)) ≡ put_before (trees_append before (cons e nil)) es
   twice before None e es =
@@ -75,7 +75,7 @@ module _ {F C K : Type 0} where
 -- ---- any list that a symbol reads, to the token that closes it
 
 module _ {F C K : Type 0} (all : Scope → List TokenAndSpan → Out (Tree F C K)) where
-  -- after an item: what is left after the comma that is there, or where none does
+  -- after an item: what is left after the comma that is there, or where none is
   abbrev pub tail_left : Scope → Option Span × List TokenAndSpan → Out (Tree F C K)
   tail_left x q = all x q.1 >>= (λ p. Some (behind q.0 p.0, p.1))
 

@@ -55,7 +55,7 @@ module _ {S H F C K : Type 0} {fg : Ghosts F} {cg : Ghosts C} {kg : Ghosts K} {m
         heard_after so.on (heard_call _ (list_splits list items comma) (λ x ts. refl)
         (eats_some sure closes o s q.input b is looked))
 
-    -- it doesn't, so an item does
+    -- it isn't there, so an item is
     pub goes_on : {o : Option Span} {b : Buffer S} → o ≡ None → Looked model sure closes q.input o b
         → On model sure all (left_from all one items) p.input b
     goes_on {o} {b} is looked =

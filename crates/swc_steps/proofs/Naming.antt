@@ -273,7 +273,7 @@ module _ {S : Type 0} {model : Model S} where
       (record { laws = laws; taken = []; read = r; lives = λ f. ap (λ x. x.failed) (sym s) ∙ f }) (notes_leads laws m)
 
 module _ {S : Type 0} {model : Model S} {sure : Bool} where
-  -- The faults were noted: where none counts g goes on, and else f reads nothing.
+  -- The faults were noted: where none counts g goes on, and otherwise f reads nothing.
   pub on_notes : {A : Type 0} {f g : Reader A} {at : Span} {fs : List Fault} {b c : Buffer S} → Laws model
       → Notes model at fs b c →
       ((ts : List TokenAndSpan) → none_counts (context model b).module fs ≡ true

@@ -1,4 +1,4 @@
--- What the clean parser reads, a step at a time, as the code goes it.
+-- What the clean parser reads, a step at a time, as the code does it.
 use Rattle.std.proofs.Common.{◌≡◌, ℕ, suc, ◌≤◌, ◌<◌, Bool, true, false, not, codes, ◌||◌, ◌&&◌, if◌then◌else◌, List, [], ◌∷◌, Option, Some, None, refl, sym, ap, ◌∙◌, arith}
 use Rattle.std.proofs.lemmas.Bool.{le-leb, lt-leb}
 use Rattle.std.specs.Prelude.{nat_le, nat_lt}
@@ -130,7 +130,7 @@ not_private true false true i z = refl
 not_private true true true i z = absurd cc
 
 module _ {F C K : Type 0} (hook : Hook F C K) where
-  -- what a call read, and what reads as what is run after it does
+  -- what a call read, and what reads the same as what is run after it
   then_calls : {A B : Type 0} (o : Out A) (k : A → List TokenAndSpan → Out B) (f : A → List TokenAndSpan → Out B)
       → ((e : A) (us : List TokenAndSpan) → k e us ≡ f e us) → and_then o k ≡ (o >>= (λ p. f p.0 p.1))
   then_calls None k f h = refl

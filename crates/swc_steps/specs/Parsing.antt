@@ -122,8 +122,7 @@ module _ {S : Type 0} (model : Model S) where
 -- whether the hook is faithful, so that completeness may be claimed
 module _ {S : Type 0} (model : Model S) (sure : Bool) where
   -- From b to c: what f reads at b is what g reads at c, where no fault was recorded; where one was, the source is
-  -- listed and the hook
-  -- is faithful, f reads nothing.
+  -- listed and the hook is faithful, f reads nothing.
   pub record On {A : Type 0} (f g : Scope → List TokenAndSpan → Out A) (b c : Buffer S) : Type 0 where
     pub leads : Leads model b c
     pub clean : Loud model b → recorded model c ≡ recorded model b → (ys : List TokenAndSpan) → Future model c ys
@@ -178,8 +177,7 @@ module _ {S : Type 0} (model : Model S) where
     pub literal : lit_of token.token token.span ≡ Some t
 
 -- What an answer holds: a node has each number in it, and nothing is reached from these below the number k. Of the
--- number of a node,
--- and of that with the operator after it.
+-- number of a node, and of that with the operator after it.
 module _ {F C K : Type 0} {fg : Ghosts F} {cg : Ghosts C} {kg : Ghosts K} where
   abbrev pub itself : ℕ → Nodes F C K fg cg kg → ExprId → Type 0
   itself k ns id = From k ns (expr_part id)
@@ -250,8 +248,7 @@ module _ {S H F C K : Type 0} {fg : Ghosts F} {cg : Ghosts C} {kg : Ghosts K} (m
     {T A : Type 0} (held : ℕ → Nodes F C K fg cg kg → T → Type 0) (view : Nodes F C K fg cg kg → T → A)
     (f : Scope → List TokenAndSpan → Out A) where
   -- What a production does from p to q: it reads what f reads, from one token at least; nodes were appended alone, and
-  -- the answer holds
-  -- numbers from k on.
+  -- the answer holds numbers from k on.
   pub record Produces (k : ℕ) (p : Productions S H F C K fg cg kg) (r : Result T Error)
       (q : Productions S H F C K fg cg kg) : Type 0 where
     pub reads : Parses model sure (view q.nodes) f p.input r q.input
@@ -270,8 +267,7 @@ module _ {S H F C K : Type 0} {fg : Ghosts F} {cg : Ghosts C} {kg : Ghosts K} (m
 module _ {S H F C K : Type 0} {fg : Ghosts F} {cg : Ghosts C} {kg : Ghosts K} (model : Model S) {T : Type 0}
     (held : ℕ → Nodes F C K fg cg kg → T → Type 0) where
   -- What is done from p to q in place of an operand that was refused, by the kind: a fault is recorded; nodes were
-  -- appended alone, and
-  -- the answer holds numbers of new ones. Effect says how tokens are consumed, and what is refused.
+  -- appended alone, and the answer holds numbers of new ones. Effect says how tokens are consumed, and what is refused.
   pub record Recovers (Effect : Buffer S → Result T Error → Buffer S → Type 0) (kind : SyntaxError)
       (p : Productions S H F C K fg cg kg) (r : Result T Error) (q : Productions S H F C K fg cg kg) : Type 0 where
     pub effect : Effect p.input r q.input

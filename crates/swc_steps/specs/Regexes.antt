@@ -43,8 +43,7 @@ module _ {F C K : Type 0} where
 
 module _ {S : Type 0} (model : Model S) where
   -- The current token was consumed, and a hint was given: nothing was recorded, and no more tokens are to come. As many
-  -- may
-  -- be as before, since the hint may bring one.
+  -- may be as before, since the hint may bring one.
   pub record SkipsSlash (b c : Buffer S) : Type 0 where
     pub was : TokenAndSpan
     pub current : b.cur ≡ Some was

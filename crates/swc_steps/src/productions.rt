@@ -24,8 +24,8 @@ use swc_nodes::nodes::NodesOf;
 /// current token on, and keeps the context.
 ///
 /// `Parser` of swc_ecma_parser is over them, and says of its calls what the productions of the
-/// same names record and refuse, and where. A production doesn't ask whether an earlier one wanted
-/// memory: that is left to its caller.
+/// same names record and refuse, and where. A production doesn't ask whether an earlier one ran
+/// out of memory: that is left to its caller.
 pub struct Productions<I: Tokens, B: Bodies<I>> {
     /// Where names are put.
     pub alloc: Global,
@@ -85,7 +85,7 @@ impl<I: Tokens, B: Bodies<I>> Productions<I, B> {
         (input, nodes, bodies)
     }
 
-    /// Whether no token is left. Consumes nothing, and is refused where the source has failed alone.
+    /// Whether no token is left. Consumes nothing, and is refused only where the source has failed, as out of memory.
     pub fn is_end(&mut self) -> PResult<bool>
         ensures looks { Looks I.model self.old.input result self.new.input }
         ensures end { IfOk result

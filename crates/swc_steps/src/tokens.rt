@@ -195,7 +195,7 @@ pub fn parse_private_name<I: Tokens>(
     Ok((name, end))
 }
 
-/// What a hook answered, or, where the source has failed, out of memory in its place: so no hook is asked to tell.
+/// What a hook answered, or, where the source has failed, out of memory in its place: so a hook needn't report that.
 pub fn answered<I: Tokens, T: Drop>(input: &Buffer<I>, answer: PResult<T>) -> PResult<T>
     ensures runs { (state_of I.model input.now).failed ≡ false → result ≡ answer }
     ensures fails { (state_of I.model input.now).failed ≡ true → result ≡ Err (no_memory (last_position input.now)) }

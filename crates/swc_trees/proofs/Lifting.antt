@@ -1,6 +1,5 @@
 -- Nodes are taken out for parts, the last first: all parts that are due lie apart, before what was taken. Then trees
--- are made of the nodes, from the last
--- on: each finds those of its parts last in the list.
+-- are made of the nodes, from the last on: each finds those of its parts last in the list.
 use Rattle.std.proofs.Common.{◌≡◌, ℕ, suc, ◌<◌, ◌≤◌, true, List, [], ◌∷◌, ◌++◌, map, reverse, length, Ok, refl, sym, ap, subst, ◌∙◌, arith}
 use Rattle.std.proofs.lemmas.Bool.{le-leb}
 use Rattle.std.proofs.lemmas.List.{append_cancel_right, length-map, map-append, reverse-append}

@@ -63,7 +63,7 @@ module _ {F C K : Type 0} (fun_at : F → Span) (class_at : C → Span) (block_a
   Assembles ps same old new = Assembled ps (λ at. same (boxed_tree F C K fun_at class_at block_at)
       (expr_of fun_at class_at block_at at)) old new
 
-  -- where memory may be wanted
+  -- the same, or memory ran out
   abbrev pub AssemblesIf : {Y : Type 0} → List Part → ((Box (Expr F C K) Global → Tree F C K) → (ExprId → Tree F C K)
       → Y → Type 0) → List (Built F C K) → Result Y AllocError → List (Built F C K) → Type 0
   AssemblesIf ps same old r new = IfOk r (λ y. Assembled ps

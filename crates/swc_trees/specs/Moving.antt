@@ -30,8 +30,7 @@ module _ {F C K : Type 0} {fg : Ghosts F} {cg : Ghosts C} {kg : Ghosts K} where
   AgreesBare at ns ps = AreGiven at (bare_at ns) ps
 
   -- Parts were taken out, the last first, and none with a number below the smallest that is reached from them. What is
-  -- answered is what
-  -- `same` says, where the parts stand for what they stood for, without the marks of commas.
+  -- answered is what `same` says, where the parts stand for what they stood for, without the marks of commas.
   pub record TakesOut {Y : Type 0} (ps : List Part) (same : (ℕ → Tree F C K) → Y → Type 0) (ns : Nodes F C K fg cg kg)
       (r : Result Y AllocError) (ms : Nodes F C K fg cg kg) : Type 0 where
     pub left : Left (floor (seat_at ns) (count ns) ps) ns ms

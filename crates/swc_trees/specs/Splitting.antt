@@ -61,7 +61,7 @@ module _ {F C K : Type 0} (fun_at : F → Span) (class_at : C → Span) (block_a
     pub placed : parts y ≡ places (length old) own
     pub moved : (at : ℕ → Tree F C K) → AreAt at (length old) own → same at y
 
-  -- the same, where memory may be wanted
+  -- the same, or memory ran out
   pub record SplitsTo {Y : Type 0} (parts : Y → List Part) (same : (ℕ → Tree F C K) → Y → Type 0)
       (old : List (Built F C K)) (r : Result Y AllocError) (new : List (Built F C K)) : Type 0 where
     pub split : IfOk r (λ y. Split parts same old y new)

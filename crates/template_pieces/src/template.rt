@@ -12,9 +12,9 @@ use swc_lexical::blank::blanks_len;
 /// A piece of a template.
 #[derive(Drop)]
 pub enum Piece {
-    /// What is in the text, there.
+    /// A text: what the source has at this place.
     Text(Span),
-    /// What `{{` and `}}` are round: an expression, as its tree is printed.
+    /// What is between `{{` and `}}`: an expression, as its printed tree.
     Hole(String),
 }
 
@@ -33,7 +33,7 @@ struct HoleEnd {
     found: Span,
     /// What comes after that: where it is `}`, another is missing there.
     after: Span,
-    /// That is `}}`.
+    /// Whether `found` is `}}`.
     closes: bool,
     /// Where the text goes on: after the next `}}`, or nowhere.
     goes_on: Option<usize>,
@@ -44,7 +44,7 @@ struct HoleEnd {
 /// is read in the context.
 ///
 /// A hole that has a fault is left out, and the text goes on after the next `}}`, or is over if there is none: then the
-/// fault tells where the hole opens.
+/// fault tells where the hole opens. The only error is out of memory.
 pub fn parse(alloc: Global, text: &str, context: Context) -> Result<Template, AllocError> {
     let mut template = Template {
         pieces: Vec::new(alloc),

@@ -1,4 +1,4 @@
--- Arrow functions of parameters in parentheses or of a name, and their bodies; and what a list in parentheses is else.
+-- Arrow functions of parameters in parentheses or of a name, and their bodies; and what else a list in parentheses is.
 use Rattle.std.proofs.Common.{refl, sym as sym_path, ap, subst, ◌∙◌}
 use Rattle.std.specs.Prelude.{◌≡◌, ℕ, Bool, true, false, not, List, [], ◌∷◌, ◌++◌, ◌&&◌, Option, Some, None}
 use Rattle.swc_context.specs.{Contexts.arrow_body, declared.operator.BinaryOp.BinaryOp, declared.span.Span.Span, declared.word.Keyword.Keyword as keyword, declared.word.Word.Word as word, declared.context.Context.Context}

@@ -1,4 +1,4 @@
--- Async arrow functions; and what `async` is else, by what is after it.
+-- Async arrow functions; and what else `async` is, by what is after it.
 use Rattle.std.proofs.Common.{refl, sym as sym_path, ap, subst, ◌∙◌}
 use Rattle.std.specs.Prelude.{◌≡◌, ℕ, Bool, true, false, not, List, [], ◌∷◌, ◌&&◌, if◌then◌else◌, Option, Some, None}
 use Rattle.swc_context.specs.{declared.span.Span.Span, declared.word.Keyword.Keyword as keyword, declared.word.Word.Word as word, Reserved.is_reserved}
@@ -148,8 +148,7 @@ module _ {F C K : Type 0} (hook : Hook F C K) where
       async-reads c a s us w.1 m w.0 i a5 ∙ knot hook (asyncs m w.0) c w.1
       ∙ rw (y, ok) (base-behind hook c l0 w.1 e ms u)
 
-  -- before a word that may be bound nothing is read
-  -- one of both tests holds
+  -- before a word that may be bound nothing is read: one of the two tests holds
   data Blocked (c : Scope) (us : List TokenAndSpan) : Type 0 where
     by-one : sees (goes_on_async (at_head c)) us ≡ true → Blocked c us
     by-two : sees_two (of_arrow (at_head c)) us ≡ true → Blocked c us

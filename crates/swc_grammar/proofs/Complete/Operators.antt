@@ -39,7 +39,7 @@ no-prefix-first c (a ∷ us) h = by-token a.token h
     by-token token.MinusMinus h = absurd cc
     by-token t h = (refl, refl)
 
--- a prefix operator is neither `++` nor `--` nor `await`, and that is none of these
+-- a prefix operator is neither `++` nor `--` nor `await`, and `await` is neither `++` nor `--`
 prefix-apart : (t : Token) (op : UnaryOp) → prefix_of t ≡ Some op → (is_update t ≡ false) × (is_await t ≡ false)
 prefix-apart token.PlusPlus op h = absurd cc
 prefix-apart token.MinusMinus op h = absurd cc

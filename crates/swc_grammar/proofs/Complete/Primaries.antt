@@ -131,7 +131,7 @@ module _ {F C K : Type 0} (hook : Hook F C K) where
       by-token (token.Word (word.Ident w)) b s h = rw (h, f, and-false (is_reference c.context (word.Ident w))) refl
       by-token t b s h = absurd cc
 
-  -- as what a production is picked: after a list no `=>` may come next
+  -- how a production is picked: after a list no `=>` may come next
   abbrev pub picking : {c : Scope} {r : Side F C K Primary} → Production Primary c r → Choice F C K Primary c
   picking paren-expr = pick_apart paren-expr
   picking async-call = pick_apart async-call

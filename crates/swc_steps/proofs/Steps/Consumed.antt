@@ -96,7 +96,7 @@ module _ {S : Type 0} {model : Model S} where
         served_lives (r.served n);
   }
 
-  -- tokens were consumed, and then more, or before it; and one token was
+  -- tokens were consumed, and then more, or more before them; and one token was
   pub onward_then : {b c d : Buffer S} {xs : List TokenAndSpan} → Onward model b xs c → (q : Leads model c d)
       → Onward model b (xs ++ q.taken) d
   onward_then {xs = xs} s q = record {

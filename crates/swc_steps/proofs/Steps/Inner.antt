@@ -1,5 +1,5 @@
--- Where no assignment expression begins: so it is at every buffer, and what is read there is what is read there by one
--- that asks for it.
+-- The scope of a buffer never says that an assignment expression begins there: so a reader reads the same with that
+-- flag cleared.
 use Rattle.std.proofs.Common.{◌≡◌, Bool, false, Result, Ok, Err, refl, ap}
 use Rattle.swc_context.specs.{declared.context.Context.Context, declared.context.Syntax.Syntax, declared.error.Error.Error}
 use Rattle.swc_input.specs.{declared.buffer.Buffer.Buffer, Source.Model}

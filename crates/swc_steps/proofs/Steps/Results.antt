@@ -66,7 +66,7 @@ module _ {S : Type 0} (model : Model S) (sure : Bool) where
   node_parses view {c = c} at (Err x) t same fails h =
       unheard_memory (forgoes_later h.on.leads (forgoes_here h.on.leads.laws c at x fails))
 
-  -- the same, where nothing is read perhaps
+  -- the same, where perhaps nothing is read
   pub node_continues : {T A : Type 0} (view : T → A) {f : Reader A} {b c : Buffer S} (at : BytePos) (r : Result T Error)
       (t : A) → IfOk r (λ x. view x ≡ t) → IfErr r (λ x. x ≡ no_memory at) → On model sure f (give t) b c
       → Continues model sure view f b r c
@@ -101,7 +101,7 @@ module _ {S : Type 0} (model : Model S) (sure : Bool) {T A : Type 0} (view : T �
   tries_then d (Err e) p u memory = forgoes_later p (record { spends = u.refuses.spends; kind = memory })
 
 module _ {S : Type 0} (model : Model S) where
-  -- a sign that is taken where it is, or not
+  -- a sign that is taken where it is there, or none
   pub eats_acts : (f : Token → Bool) (b c : Buffer S) (r : Result (Option Span) Error) →
       MatchResult r
       (λ o. MatchOption o (On model true (eaten f) (λ x ts. Some (None, ts)) b c)

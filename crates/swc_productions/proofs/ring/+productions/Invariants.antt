@@ -1,6 +1,5 @@
 -- Each call is made with a level less of room, or on the way down to the place where one is taken: so at most 20 calls
--- are nested for each
--- level of the bound, and 20 more.
+-- are nested for each level of the bound, and 20 more.
 use Rattle.std.proofs.Common.{◌≡◌, ◌+◌, ◌*◌, ◌≤◌, not, map, length}
 use Rattle.std.specs.Prelude.{slice_index_or}
 use Rattle.swc_input.specs.Buffer.{to_come}
