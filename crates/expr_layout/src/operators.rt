@@ -178,11 +178,21 @@ fn mark_group<B: Spanned + Drop>(
                 go_on(known, object, is_in_chain);
             }
             if is_in_chain {
-                add_group(marks, place);
-                mark_called(marks, called_member(nodes, node));
+                mark_link(marks, nodes, node, place);
             }
         }
     }
+}
+
+/// Notes the group that a link of a chain is, and the line before the dot of the member that it calls.
+fn mark_link<B: Spanned + Drop>(
+    marks: &mut Marks,
+    nodes: &Nodes<B, B, B>,
+    node: &Node<B, B, B>,
+    place: Option<Span>,
+) {
+    add_group(marks, place);
+    mark_called(marks, called_member(nodes, node));
 }
 
 /// Notes the line before the dot of a member that is called.

@@ -34,16 +34,7 @@ pub(crate) fn without_ends(
     mut marks: Marks,
     program: &Program,
 ) -> Result<Marks, AllocError> {
-    for statement in &program.statements {
-        shape_statement(&mut marks, statement);
-    }
-    for place in &program.bodies {
-        if let Some(class) = program.class(*place) {
-            shape_class(&mut marks, class);
-        } else if let Some(block) = program.block(*place) {
-            shape_brace(&mut marks, block.span.lo);
-        }
-    }
+    shape_all(&mut marks, program);
     let mut units = Vec::new(alloc);
     for unit in &marks.units {
         if unit.kind != Kind::Ending {
@@ -51,6 +42,25 @@ pub(crate) fn without_ends(
         }
     }
     Marks::new(alloc, marks.whole, units)
+}
+
+/// Shapes the braces and the semicolons of a program.
+fn shape_all(marks: &mut Marks, program: &Program) {
+    for statement in &program.statements {
+        shape_statement(marks, statement);
+    }
+    for place in &program.bodies {
+        shape_body(marks, program, *place);
+    }
+}
+
+/// Shapes the braces of the class or the block at the place, and the semicolons of a class.
+fn shape_body(marks: &mut Marks, program: &Program, place: Span) {
+    if let Some(class) = program.class(place) {
+        shape_class(marks, class);
+    } else if let Some(block) = program.block(place) {
+        shape_brace(marks, block.span.lo);
+    }
 }
 
 fn shape_statement(marks: &mut Marks, statement: &Statement) {

@@ -3,8 +3,10 @@ use crate::lines::Line;
 use crate::outline::Outline;
 use statement_trees::tree::{
     CatchClause, DefaultExport, ForInit, ForTarget, ImportAttribute, ImportKind, ImportSpecifier,
-    NamedExports, Statement, StatementId, StatementKind, VariableDeclaration, VariableKind,
+    NamedExports, Statement, StatementId, StatementKind, SwitchCase, VariableDeclaration,
+    VariableKind,
 };
+use swc_ecma_parser::ast::ident::Ident;
 use swc_ecma_parser::ast::lit::Str;
 use swc_ecma_parser::context::span::BytePos;
 use swc_ecma_parser::nodes::node::ExprId;
@@ -35,20 +37,17 @@ impl<'a> Outline<'a> {
         depth: usize,
     ) {
         let end = statement.span.hi;
-        let inside = depth.saturating_add(1);
         match &statement.kind {
             StatementKind::Block(items) => {
                 self.begin(depth, "block\n");
-                self.put_off(lines, items, inside);
+                self.put_off(lines, items, depth.saturating_add(1));
             }
             StatementKind::If {
                 test,
                 consequent,
                 alternate,
             } => {
-                if let Some(part) = alternate {
-                    self.push(lines, Line::Else(*part), depth);
-                }
+                self.put_off_else(lines, *alternate, depth);
                 self.put_tested(lines, "if", *test, *consequent, depth);
             }
             StatementKind::While { test, body } => {
@@ -58,27 +57,13 @@ impl<'a> Outline<'a> {
                 self.put_tested(lines, "with", *object, *body, depth)
             }
             StatementKind::DoWhile { body, test } => {
-                self.begin(depth, "do\n");
-                self.push(lines, Line::While(*test, end), depth);
-                self.push(lines, Line::Statement(*body), inside);
+                self.put_do(lines, *body, Line::While(*test, end), depth)
             }
-            StatementKind::Labeled { label, body } => {
-                self.begin(depth, "label");
-                self.put_name(label);
-                self.put("\n");
-                self.push(lines, Line::Statement(*body), inside);
-            }
+            StatementKind::Labeled { label, body } => self.put_labeled(lines, label, *body, depth),
             StatementKind::Switch {
                 discriminant,
                 cases,
-            } => {
-                self.begin(depth, "switch");
-                self.put_expr(*discriminant);
-                self.end_line(cases.first().map_or(end, |case| case.span.lo));
-                for case in cases.iter().rev() {
-                    self.push(lines, Line::Case(case), inside);
-                }
-            }
+            } => self.put_switch(lines, *discriminant, cases, end, depth),
             StatementKind::Try {
                 block,
                 handler,
@@ -90,11 +75,7 @@ impl<'a> Outline<'a> {
             StatementKind::For { body, .. }
             | StatementKind::ForIn { body, .. }
             | StatementKind::ForOf { body, .. } => {
-                self.begin(depth, "for");
-                self.put_for_head(&statement.kind);
-                let start = self.start_of(*body);
-                self.end_line(start);
-                self.push(lines, Line::Statement(*body), inside);
+                self.put_for(lines, &statement.kind, *body, depth)
             }
             kind => {
                 self.begin(depth, "");
@@ -115,6 +96,71 @@ impl<'a> Outline<'a> {
     ) {
         self.begin(depth, word);
         self.put_expr(test);
+        let start = self.start_of(body);
+        self.end_line(start);
+        self.push(lines, Line::Statement(body), depth.saturating_add(1));
+    }
+
+    /// Writes a label, and puts off the statement that it is of.
+    fn put_labeled(
+        &mut self,
+        lines: &mut Lines<'a>,
+        label: &Ident,
+        body: StatementId,
+        depth: usize,
+    ) {
+        self.begin(depth, "label");
+        self.put_name(label);
+        self.put("\n");
+        self.push(lines, Line::Statement(body), depth.saturating_add(1));
+    }
+
+    /// Writes the line of a `switch`, which ends at `end`, and puts off its clauses.
+    fn put_switch(
+        &mut self,
+        lines: &mut Lines<'a>,
+        discriminant: ExprId,
+        cases: &'a [SwitchCase],
+        end: BytePos,
+        depth: usize,
+    ) {
+        self.begin(depth, "switch");
+        self.put_expr(discriminant);
+        self.end_line(cases.first().map_or(end, |case| case.span.lo));
+        for case in cases.iter().rev() {
+            self.push(lines, Line::Case(case), depth.saturating_add(1));
+        }
+    }
+
+    /// Writes the line of a `do`, and puts off its body and the line after that.
+    fn put_do(&mut self, lines: &mut Lines<'a>, body: StatementId, last: Line<'a>, depth: usize) {
+        self.begin(depth, "do\n");
+        self.push(lines, last, depth);
+        self.push(lines, Line::Statement(body), depth.saturating_add(1));
+    }
+
+    /// Puts off what is after the `else` of an `if`, if it has one.
+    fn put_off_else(
+        &mut self,
+        lines: &mut Lines<'a>,
+        alternate: Option<StatementId>,
+        depth: usize,
+    ) {
+        if let Some(part) = alternate {
+            self.push(lines, Line::Else(part), depth);
+        }
+    }
+
+    /// Writes the line of a `for`, and puts off its body.
+    fn put_for(
+        &mut self,
+        lines: &mut Lines<'a>,
+        kind: &StatementKind,
+        body: StatementId,
+        depth: usize,
+    ) {
+        self.begin(depth, "for");
+        self.put_for_head(kind);
         let start = self.start_of(body);
         self.end_line(start);
         self.push(lines, Line::Statement(body), depth.saturating_add(1));
