@@ -8,7 +8,7 @@ use swc_ecma_parser::prelude::*;
 /// How deeply an expression may be nested, for a stack of 8 MB.
 const LEVELS: usize = 800;
 
-/// The tree of a text, or `None` where tokens are left after it. The first fault is the error, recorded or not.
+/// The tree of a text, or `None` where tokens are left after it. A recorded fault is an error, too.
 fn tree_of(alloc: Global, text: &str) -> PResult<Option<String>> {
     let (context, syntax, target) = (Context::script(), Syntax::default(), EsVersion::default());
     let whole = parse_text_expr(alloc, text, context, syntax, target, NoBodies, LEVELS);

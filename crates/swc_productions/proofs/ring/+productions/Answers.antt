@@ -88,7 +88,6 @@ use Rattle.swc_arrows.specs.Answers.{callee_at, callee_parts}
 use Rattle.swc_arrows.proofs.HeadLaws as head_law
 use Rattle.swc_arrows.specs.Answers.{body_at}
 use Rattle.swc_bodies.specs.Readings.{is_brace}
-use Rattle.swc_context.specs.Contexts.{view as deciding}
 use Rattle.swc_nodes.specs.GrowingNodes.{body_end}
 use Rattle.swc_nodes.proofs.Lists.{apart-more, list-later, same_first}
 use Rattle.swc_arrows.proofs.Dooms.{doomed_later, doomed_unheard, fails_later, opens_after, opens_call_read, opens_later}
