@@ -1,17 +1,19 @@
 // What the parser makes of a source text.
-ghost use Rattle.std.specs.Prelude.{◌≡◌, IfOk};
+ghost use Rattle.std.specs.Prelude.{◌≡◌, IfOk, IfErr};
 ghost use Rattle.show.specs.Answers.{Answers, IsJudged, Shows, symbol_of};
 ghost use Rattle.show.specs.Calls as calls;
+ghost use Rattle.swc_context.specs.declared.error.SyntaxError.TheVariants.{OutOfMemory};
 ghost use Rattle.swc_grammar.specs.Symbols.{Expr, Pat};
 ghost use Rattle.swc_nodes.specs.{NodeParts.expr_part, NodeParts.pat_part, GrowingNodes.From};
 ghost use Rattle.swc_tokens.specs.Inputs.{input_state, tokens_of};
 ghost use Rattle.swc_ecma_parser.specs.WholeList.{IsHeeded};
 
-use std::alloc::Global;
+use std::alloc::{AllocError, Global};
 use std::mem::forget;
 use swc_bodies::token_bodies::TokenBodies;
 use swc_context::context::{Context, EsVersion, Syntax};
-use swc_context::error::{Error, PResult};
+use swc_context::error::{Error, PResult, SyntaxError};
+use swc_context::span::{BytePos, Span};
 use swc_ecma_parser::whole::{Whole, read_whole_expr, read_whole_pat};
 use swc_nodes::node::{ExprId, PatId};
 use swc_nodes::nodes::NodesOf;
@@ -81,10 +83,14 @@ pub fn answer_to(alloc: Global, text: &[u8], asked: Asked) -> Answer
         asked.syntax,
         EsVersion::default(),
     ) {
-        Ok(source) => match asked.what {
-            What::Expr => answer_expr(alloc, source),
-            What::Pat => answer_pat(alloc, source),
-        },
+        Ok(source) => {
+            // It is asked for first: what is asked for after large blocks went back may not grow where it is.
+            let room = room_for(alloc, text.len());
+            match asked.what {
+                What::Expr => answer_expr(alloc, source, room),
+                What::Pat => answer_pat(alloc, source, room),
+            }
+        }
         Err(fault) => Answer {
             shown: Err(fault),
             recorded: Vec::new(alloc),
@@ -92,8 +98,24 @@ pub fn answer_to(alloc: Global, text: &[u8], asked: Asked) -> Answer
     }
 }
 
-/// Reads all that the source gives as an expression.
-fn answer_expr(alloc: Global, source: AsciiInput) -> Answer
+/// Room for a text of so many bytes. Refused when out of memory, by `OutOfMemory` at 0..0.
+fn room_for(alloc: Global, len: usize) -> PResult<String>
+    ensures { IfErr result (λ e. e.kind ≡ OutOfMemory) }
+{
+    let start = BytePos(0);
+    let nowhere = Span {
+        lo: start,
+        hi: start,
+    };
+    match String::with_capacity(alloc, len) {
+        Ok(room) => Ok(room),
+        Err(AllocError) => Err(Error::new(nowhere, SyntaxError::OutOfMemory)),
+    }
+}
+
+/// Reads all that the source gives as an expression, and prints it in the room.
+fn answer_expr(alloc: Global, source: AsciiInput, room: PResult<String>) -> Answer
+    requires { IfErr room (λ e. e.kind ≡ OutOfMemory) }
     ensures { IsJudged Expr (input_state source) (tokens_of source) result.shown result.recorded.items }
 {
     let Whole {
@@ -102,14 +124,15 @@ fn answer_expr(alloc: Global, source: AsciiInput) -> Answer
         recorded,
         too_deep: _,
     } = read_whole_expr(alloc, source, TokenBodies::new(alloc), usize::MAX);
-    let shown = show_expr(&nodes, read);
+    let shown = show_expr(&nodes, read, room);
     // The program ends soon: its memory goes back as a whole, faster than a node at a time.
     forget(nodes);
     Answer { shown, recorded }
 }
 
-/// Reads all that the source gives as a binding pattern.
-fn answer_pat(alloc: Global, source: AsciiInput) -> Answer
+/// Reads all that the source gives as a binding pattern, and prints it in the room.
+fn answer_pat(alloc: Global, source: AsciiInput, room: PResult<String>) -> Answer
+    requires { IfErr room (λ e. e.kind ≡ OutOfMemory) }
     ensures { IsJudged Pat (input_state source) (tokens_of source) result.shown result.recorded.items }
 {
     let Whole {
@@ -118,27 +141,37 @@ fn answer_pat(alloc: Global, source: AsciiInput) -> Answer
         recorded,
         too_deep: _,
     } = read_whole_pat(alloc, source, TokenBodies::new(alloc), usize::MAX);
-    let shown = show_pat(&nodes, read);
+    let shown = show_pat(&nodes, read, room);
     forget(nodes);
     Answer { shown, recorded }
 }
 
 /// An expression that was read, printed.
-fn show_expr(nodes: &NodesOf<TokenBodies>, read: PResult<(ExprId, bool)>) -> PResult<Shown>
-    requires { IfOk read (λ r. From 0 nodes.now (expr_part r.0)) }
+fn show_expr(
+    nodes: &NodesOf<TokenBodies>,
+    read: PResult<(ExprId, bool)>,
+    room: PResult<String>,
+) -> PResult<Shown>
+    requires room { IfErr room (λ e. e.kind ≡ OutOfMemory) }
+    requires read { IfOk read (λ r. From 0 nodes.now (expr_part r.0)) }
     ensures { Shows read result }
 {
     let (expr, unread) = read?;
-    let tree = nodes.print_expr(expr)?;
+    let tree = nodes.append_expr(room?, expr)?;
     Ok(Shown { tree, unread })
 }
 
 /// A pattern that was read, printed.
-fn show_pat(nodes: &NodesOf<TokenBodies>, read: PResult<(PatId, bool)>) -> PResult<Shown>
-    requires { IfOk read (λ r. From 0 nodes.now (pat_part r.0)) }
+fn show_pat(
+    nodes: &NodesOf<TokenBodies>,
+    read: PResult<(PatId, bool)>,
+    room: PResult<String>,
+) -> PResult<Shown>
+    requires room { IfErr room (λ e. e.kind ≡ OutOfMemory) }
+    requires read { IfOk read (λ r. From 0 nodes.now (pat_part r.0)) }
     ensures { Shows read result }
 {
     let (pat, unread) = read?;
-    let tree = nodes.print_pat(pat)?;
+    let tree = nodes.append_pat(room?, pat)?;
     Ok(Shown { tree, unread })
 }

@@ -13,8 +13,8 @@ numbers-append (piece.Text t ∷ xs) ys = numbers-append xs ys
 numbers-append (piece.Count k ∷ xs) ys = numbers-append xs ys
 numbers-append (piece.Node i ∷ xs) ys = ap (λ v. i ∷ v) (numbers-append xs ys)
 numbers-append (piece.Last i ∷ xs) ys = ap (λ v. i ∷ v) (numbers-append xs ys)
-numbers-append (piece.Bracketed i ∷ xs) ys = ap (λ v. i ∷ v) (numbers-append xs ys)
-numbers-append (piece.Property t ∷ xs) ys = numbers-append xs ys
+numbers-append (piece.Bracketed o i ∷ xs) ys = ap (λ v. i ∷ v) (numbers-append xs ys)
+numbers-append (piece.Property o t ∷ xs) ys = numbers-append xs ys
 
 pub piece_more : (old new : List Piece) (p : Piece) → new ≡ old ++ p ∷ []
     → numbers new ≡ numbers old ++ numbers (p ∷ [])
@@ -69,8 +69,8 @@ reverse_one (piece.Text t) = refl
 reverse_one (piece.Count k) = refl
 reverse_one (piece.Node i) = refl
 reverse_one (piece.Last i) = refl
-reverse_one (piece.Bracketed i) = refl
-reverse_one (piece.Property t) = refl
+reverse_one (piece.Bracketed o i) = refl
+reverse_one (piece.Property o t) = refl
 
 -- the last of the pieces is moved
 pub one_moved : (stack pieces more left : List Piece) (p : Piece) (whole : List ℕ) → pieces ≡ left ++ p ∷ []

@@ -9,9 +9,9 @@ abbrev pub numbers : List Piece → List ℕ
 numbers [] = []
 numbers (piece.Node i ∷ ps) = i ∷ numbers ps
 numbers (piece.Last i ∷ ps) = i ∷ numbers ps
-numbers (piece.Bracketed i ∷ ps) = i ∷ numbers ps
+numbers (piece.Bracketed o i ∷ ps) = i ∷ numbers ps
 numbers (piece.Text t ∷ ps) = numbers ps
-numbers (piece.Property t ∷ ps) = numbers ps
+numbers (piece.Property o t ∷ ps) = numbers ps
 numbers (piece.Count k ∷ ps) = numbers ps
 
 -- A template shows as many expressions as it has texts.

@@ -8,7 +8,7 @@ use crate::links::{
     put_arrow, put_call, put_chain, put_member, put_new, put_super_prop, put_tagged, put_tpl,
     put_yield,
 };
-use crate::pieces::{Pieces, put_after, put_in, put_kept, put_named, put_text, put_two};
+use crate::pieces::{Owner, Pieces, put_after, put_in, put_kept, put_named, put_text, put_two};
 use crate::print::Kept;
 use std::alloc::AllocError;
 use swc_ast::expr::MetaPropKind;
@@ -28,7 +28,7 @@ pub fn put_node<'a, F: Kept, C: Kept, K: Kept>(
         Node::Seq { exprs, .. } => put_list(pieces, "Seq(", exprs, ")"),
         Node::PatArray { elems, .. } => put_list(pieces, "Array[", elems, "]"),
         Node::PatObject { props, .. } => put_list(pieces, "Object{", props, "}"),
-        Node::Member(m) => put_member(pieces, m),
+        Node::Member(m) => put_member(pieces, m, Owner::Other),
         Node::SuperProp(p) => put_super_prop(pieces, p),
         Node::Call { callee, args, .. } => put_call(pieces, callee, args),
         Node::New { callee, args, .. } => put_new(pieces, *callee, args),

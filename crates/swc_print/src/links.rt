@@ -5,7 +5,7 @@ ghost use Rattle.swc_print.specs.Numbers.{Lays, tpl_shown};
 
 use crate::items::put_list;
 use crate::pieces::{
-    Piece, Pieces, put_after, put_computed, put_in, put_kept_last, put_named, put_part,
+    Owner, Piece, Pieces, put_after, put_computed, put_in, put_kept_last, put_named, put_part,
     put_property, put_text,
 };
 use crate::print::Kept;
@@ -20,17 +20,18 @@ use swc_nodes::node::{ExprId, PatId};
 pub fn put_member<'a>(
     pieces: &mut Pieces<'a>,
     member: &'a MemberExpr<ExprId>,
+    owner: Owner,
 ) -> Result<(), AllocError>
     ensures { Lays (one_expr member.now.obj ++ member_parts member.now.prop) pieces.old result pieces.new }
 {
     put_after(pieces, "Member(", member.obj.0)?;
     match &member.prop {
-        MemberProp::Ident(i) => put_property(pieces, i.sym.as_str()),
+        MemberProp::Ident(i) => put_property(pieces, owner, i.sym.as_str()),
         MemberProp::PrivateName(p) => {
             put_named(pieces, ", .#", p.name.as_str())?;
-            put_text(pieces, ")")
+            put_text(pieces, owner.end())
         }
-        MemberProp::Computed(c) => put_part(pieces, Piece::Bracketed(c.expr.0)),
+        MemberProp::Computed(c) => put_part(pieces, Piece::Bracketed(owner, c.expr.0)),
     }
 }
 
@@ -49,12 +50,16 @@ pub fn put_super_prop<'a>(
     put_text(pieces, ")")
 }
 
-fn put_args<'a>(pieces: &mut Pieces<'a>, args: &'a [ExprOrSpread<ExprId>]) -> Result<(), AllocError>
+fn put_args<'a>(
+    pieces: &mut Pieces<'a>,
+    args: &'a [ExprOrSpread<ExprId>],
+    owner: Owner,
+) -> Result<(), AllocError>
     ensures { Lays (flat item_parts args.now) pieces.old result pieces.new }
 {
     match args {
-        [ExprOrSpread { spread: None, expr }] => put_part(pieces, Piece::Bracketed(expr.0)),
-        _ => put_list(pieces, ", [", args, "])"),
+        [ExprOrSpread { spread: None, expr }] => put_part(pieces, Piece::Bracketed(owner, expr.0)),
+        _ => put_list(pieces, ", [", args, owner.bracketed_end()),
     }
 }
 
@@ -77,7 +82,7 @@ pub fn put_call<'a>(
     ensures { Lays (callee_parts callee.now ++ flat item_parts args.now) pieces.old result pieces.new }
 {
     put_callee(pieces, callee)?;
-    put_args(pieces, args)
+    put_args(pieces, args, Owner::Other)
 }
 
 /// Appends the pieces of a call by `new`.
@@ -91,7 +96,7 @@ pub fn put_new<'a>(
     put_after(pieces, "New(", callee.0)?;
     match args {
         None => put_text(pieces, ", -)"),
-        Some(args) => put_args(pieces, args),
+        Some(args) => put_args(pieces, args, Owner::Other),
     }
 }
 
@@ -114,11 +119,10 @@ pub fn put_chain<'a>(
     match base {
         OptChainBase::Call(c) => {
             put_after(pieces, "Call(", c.callee.0)?;
-            put_args(pieces, &c.args)?;
+            put_args(pieces, &c.args, Owner::Chain)
         }
-        OptChainBase::Member(m) => put_member(pieces, m)?,
+        OptChainBase::Member(m) => put_member(pieces, m, Owner::Chain),
     }
-    put_text(pieces, ")")
 }
 
 /// Appends the pieces of a template: its texts, and an expression after each of them as far as there are any.

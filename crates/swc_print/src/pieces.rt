@@ -4,6 +4,33 @@ ghost use Rattle.swc_print.specs.Numbers.{numbers};
 
 use std::alloc::AllocError;
 
+/// What a member or a call is a part of.
+#[derive(Clone, Copy)]
+pub enum Owner {
+    /// Nothing whose text ends with it
+    Other,
+    /// A link of an optional chain, whose text ends with it
+    Chain,
+}
+
+impl Owner {
+    /// What ends it after a name.
+    pub fn end(self) -> &'static str {
+        match self {
+            Owner::Other => ")",
+            Owner::Chain => "))",
+        }
+    }
+
+    /// What ends it after an item in brackets.
+    pub fn bracketed_end(self) -> &'static str {
+        match self {
+            Owner::Other => "])",
+            Owner::Chain => "]))",
+        }
+    }
+}
+
 /// A piece of the text of a node.
 #[derive(Clone, Copy)]
 pub enum Piece<'a> {
@@ -15,10 +42,10 @@ pub enum Piece<'a> {
     Node(usize),
     /// A comma, the text of the node that has the number, and `)`.
     Last(usize),
-    /// A comma, `[`, the text of the node that has the number, and `])`.
-    Bracketed(usize),
-    /// A comma, a dot, the name, and `)`.
-    Property(&'a str),
+    /// A comma, `[`, the text of the node that has the number, `]`, and the end of what it is in.
+    Bracketed(Owner, usize),
+    /// A comma, a dot, the name, and the end of what it is in.
+    Property(Owner, &'a str),
 }
 
 /// The text so far, and the pieces of one node.
@@ -52,10 +79,14 @@ pub fn put_text<'a>(pieces: &mut Pieces<'a>, text: &'a str) -> Result<(), AllocE
 }
 
 /// Appends the name of a property, which ends a member.
-pub fn put_property<'a>(pieces: &mut Pieces<'a>, name: &'a str) -> Result<(), AllocError>
+pub fn put_property<'a>(
+    pieces: &mut Pieces<'a>,
+    owner: Owner,
+    name: &'a str,
+) -> Result<(), AllocError>
     ensures { OnOk result (numbers pieces.new.waiting.items ≡ numbers pieces.old.waiting.items) }
 {
-    pieces.waiting.push(Piece::Property(name))?;
+    pieces.waiting.push(Piece::Property(owner, name))?;
     Ok(())
 }
 

@@ -5,7 +5,7 @@ ghost use Rattle.swc_nodes.specs.GrowingNodes.{count};
 ghost use Rattle.swc_print.specs.{Numbers.numbers, Memory.want_of_memory};
 
 use crate::kinds::put_node;
-use crate::pieces::{Piece, Pieces};
+use crate::pieces::{Owner, Piece, Pieces};
 use std::alloc::AllocError;
 use swc_ast::spanned::Spanned;
 use swc_bodies::token_body::TokenBody;
@@ -54,6 +54,16 @@ pub trait PrintNodes {
     fn print_pat(&self, id: PatId) -> PResult<String>
         requires { has_pat self.now id }
         ensures refused { IfErr result (λ e. e ≡ want_of_memory) };
+
+    /// `text`, and after it that of an expression. The only error is out of memory, `OutOfMemory` at 0..0.
+    fn append_expr(&self, text: String, id: ExprId) -> PResult<String>
+        requires { has_expr self.now id }
+        ensures refused { IfErr result (λ e. e ≡ want_of_memory) };
+
+    /// `text`, and after it that of a pattern. The only error is out of memory, `OutOfMemory` at 0..0.
+    fn append_pat(&self, text: String, id: PatId) -> PResult<String>
+        requires { has_pat self.now id }
+        ensures refused { IfErr result (λ e. e ≡ want_of_memory) };
 }
 
 impl<F: Spanned + Drop + Kept, C: Spanned + Drop + Kept, K: Spanned + Drop + Kept> PrintNodes
@@ -65,11 +75,19 @@ impl<F: Spanned + Drop + Kept, C: Spanned + Drop + Kept, K: Spanned + Drop + Kep
     ghost has_pat = { λ ns id. From 0 ns (pat_part id) };
 
     fn print_expr(&self, id: ExprId) -> PResult<String> {
-        print_node(self, id.0).map_err(out_of_memory)
+        self.append_expr(String::new(self.allocator()), id)
     }
 
     fn print_pat(&self, id: PatId) -> PResult<String> {
-        print_node(self, id.0).map_err(out_of_memory)
+        self.append_pat(String::new(self.allocator()), id)
+    }
+
+    fn append_expr(&self, text: String, id: ExprId) -> PResult<String> {
+        print_node(self, text, id.0).map_err(out_of_memory)
+    }
+
+    fn append_pat(&self, text: String, id: PatId) -> PResult<String> {
+        print_node(self, text, id.0).map_err(out_of_memory)
     }
 }
 
@@ -86,17 +104,18 @@ fn out_of_memory(_error: AllocError) -> Error
     )
 }
 
-/// The text of a node. What is left to print lies on a stack, the next piece on top.
+/// Appends the text of a node. What is left to print lies on a stack, the next piece on top.
 fn print_node<F: Spanned + Drop + Kept, C: Spanned + Drop + Kept, K: Spanned + Drop + Kept>(
     nodes: &Nodes<F, C, K>,
+    out: String,
     number: usize,
 ) -> Result<String, AllocError>
     requires { number < count nodes.now }
 {
     let alloc = nodes.allocator();
-    let mut stack = Vec::new(alloc);
+    let mut stack = Vec::with_capacity(alloc, out.capacity() / 2)?;
     let mut pieces = Pieces {
-        out: String::new(alloc),
+        out,
         waiting: Vec::new(alloc),
     };
     stack.push(Piece::Node(number))?;
@@ -108,10 +127,10 @@ fn print_node<F: Spanned + Drop + Kept, C: Spanned + Drop + Kept, K: Spanned + D
 }
 
 /// Writes the name of a property, which ends a member.
-fn write_property(out: &mut String, name: &str) -> Result<(), AllocError> {
+fn write_property(out: &mut String, owner: Owner, name: &str) -> Result<(), AllocError> {
     out.push_str(", .")?;
     out.push_str(name)?;
-    out.push_str(")")
+    out.push_str(owner.end())
 }
 
 /// Writes the texts on top of the stack, and takes out the node below them.
@@ -128,12 +147,12 @@ fn next_node(stack: &mut Vec<Piece>, out: &mut String) -> Result<Option<usize>, 
                 stack.push(Piece::Text(")"))?;
                 return Ok(Some(number));
             }
-            Piece::Bracketed(number) => {
+            Piece::Bracketed(owner, number) => {
                 out.push_str(", [")?;
-                stack.push(Piece::Text("])"))?;
+                stack.push(Piece::Text(owner.bracketed_end()))?;
                 return Ok(Some(number));
             }
-            Piece::Property(name) => write_property(out, name),
+            Piece::Property(owner, name) => write_property(out, owner, name),
         }?;
     }
     Ok(None)
