@@ -40,7 +40,7 @@ use Rattle.swc_steps.specs.Parsing.{scope, seen, seen_of, behind, tree_of, ident
 use Rattle.swc_steps.specs.Args.{paren_expr_tail}
 use Rattle.swc_operators.specs.Assignments.{seqs_more, cond_tail, cond_close}
 use Rattle.swc_operators.specs.Assignments.{assign_at, assign_tail, yield_tail, yield_operand, yield_expr}
-use Rattle.swc_steps.specs.Readers.{begun_if, unary_op_node, unary_op_tail, nothing, inside, unary_op}
+use Rattle.swc_steps.specs.Readers.{begun_if, unary_op_node, unary_op_tail, nothing, unary_op}
 use Rattle.swc_operators.specs.Updates.{update_at, update_node, update_tail, await_reads, await_tail, await_ident}
 use Rattle.swc_operators.specs.Updates.{await_operand, update_prefix, await_expr}
 use Rattle.swc_left.specs.Bases.{import_node, plain_base, import_by}
