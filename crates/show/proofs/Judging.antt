@@ -4,18 +4,17 @@ use Rattle.swc_context.specs.{declared.context.Context.Context, declared.context
 use Rattle.swc_input.specs.{declared.token.TokenAndSpan.TokenAndSpan, Listed.new_state, Source.Source}
 use Rattle.swc_tokens.specs.Moved.{AreTokensOf}
 use Rattle.swc_ast.specs.{Tree.Tree, declared.spanned.Spanned.Ghosts}
-use Rattle.swc_bodies.specs.{Body.Body, Taking.token_forms}
 use Rattle.swc_grammar.specs.Symbols.{Symbol}
 use Rattle.swc_nodes.specs.declared.nodes.Nodes.{Nodes}
 use Rattle.swc_ecma_parser.specs.WholeList.{plain_list, IsHeeded, Headline}
-use Rattle.show.specs.{Answers.Answers, Answers.IsJudged, Answers.Judged, Answers.Shows, Answers.judged, declared.answer.Shown.Shown}
+use Rattle.show.specs.{declared.counted.Counted.Counted, Counts.counted_forms, Answers.Answers, Answers.IsJudged, Answers.Judged, Answers.Shows, Answers.judged, declared.answer.Shown.Shown}
 
-module _ {N : Type 0} {fg cg kg : Ghosts Body} (s : Symbol)
-    (tree : Nodes Body Body Body fg cg kg → N → Tree Body Body Body)
-    (c : Context) (x : Syntax) (ts : List TokenAndSpan) (nodes : Nodes Body Body Body fg cg kg)
+module _ {N : Type 0} {fg cg kg : Ghosts Counted} (s : Symbol)
+    (tree : Nodes Counted Counted Counted fg cg kg → N → Tree Counted Counted Counted)
+    (c : Context) (x : Syntax) (ts : List TokenAndSpan) (nodes : Nodes Counted Counted Counted fg cg kg)
     (recorded : List Error) where
   pub judged_of : (read : Result (N × Bool) Error) (shown : Result Shown Error)
-      → Headline true token_forms s tree c x (plain_list ts) read nodes recorded → Shows read shown
+      → Headline true counted_forms s tree c x (plain_list ts) read nodes recorded → Shows read shown
       → Judged s c x ts shown recorded
   judged_of (Ok r) (Ok v) h same = record {
     sound = λ whole none. record { tree = tree nodes r.0; reads = h.sound (sym same ∙ whole) none };
@@ -30,7 +29,7 @@ module _ {N : Type 0} {fg cg kg : Ghosts Body} (s : Symbol)
 
   -- the same where faults are recorded
   pub judged_by : {read : Result (N × Bool) Error} {shown : Result Shown Error} → IsHeeded c x
-      → (IsHeeded c x → Headline true token_forms s tree c x (plain_list ts) read nodes recorded) → Shows read shown
+      → (IsHeeded c x → Headline true counted_forms s tree c x (plain_list ts) read nodes recorded) → Shows read shown
       → Judged s c x ts shown recorded
   judged_by {read} {shown} heeded h shows = judged_of read shown (h heeded) shows
 

@@ -3,14 +3,13 @@ use Rattle.std.specs.Prelude.{◌≡◌, ℕ, ◌<◌, ◌≤◌, Bool, true, fa
 use Rattle.swc_context.specs.{Contexts.view, declared.context.Context.Context, declared.context.Syntax.Syntax, declared.error.Error.Error, declared.error.SyntaxError.TheVariants.OutOfMemory}
 use Rattle.swc_input.specs.{declared.token.TokenAndSpan.TokenAndSpan, Source.Source}
 use Rattle.swc_ast.specs.Tree.{Tree}
-use Rattle.swc_bodies.specs.{Body.Body, Taking.token_forms}
 use Rattle.swc_tokens.specs.Faults.{lex_fault, between, IsRefusal}
 use Rattle.swc_tokens.specs.Moved.{AreTokensOf}
 use Rattle.swc_grammar.specs.Symbols.{Symbol, Expr, Pat}
 use Rattle.swc_grammar.specs.Reads.{Reads}
 use Rattle.swc_steps.specs.Parsing.{scope_of}
 use Rattle.swc_ecma_parser.specs.{Promise.Finished, Promise.covers_done, WholeList.plain_list, WholeList.IsHeeded, WholeList.Lists}
-use Rattle.show.specs.{declared.answer.Shown.Shown, declared.answer.What.What, declared.answer.What.What as kind}
+use Rattle.show.specs.{Counts.counted_forms, declared.counted.Counted.Counted, declared.answer.Shown.Shown, declared.answer.What.What, declared.answer.What.What as kind}
 
 -- the syntax in which the program reads, if no flag asks for another
 abbrev pub as_default : Syntax
@@ -32,10 +31,11 @@ symbol_of kind.Expr = Expr
 symbol_of kind.Pat = Pat
 
 -- a tree of the symbol that the written grammar derives from all of the tokens, in which no cover name is left if the
--- syntax is pedantic; four flags of the context decide nothing (`view`)
+-- syntax is pedantic, and a function, a class or a block is its place and the number of its tokens; four flags of the
+-- context decide nothing (`view`)
 pub record Derived (s : Symbol) (c : Context) (x : Syntax) (ts : List TokenAndSpan) : Type 0 where
-  pub tree : Tree Body Body Body
-  pub reads : Finished covers_done (Reads token_forms s) (scope_of (view c) x) (plain_list ts) [] tree
+  pub tree : Tree Counted Counted Counted
+  pub reads : Finished covers_done (Reads counted_forms s) (scope_of (view c) x) (plain_list ts) [] tree
 
 -- what is answered of a text's tokens, and recorded
 pub record Judged (s : Symbol) (c : Context) (x : Syntax) (ts : List TokenAndSpan) (shown : Result Shown Error)

@@ -8,9 +8,9 @@ ghost use Rattle.swc_nodes.specs.{NodeParts.expr_part, NodeParts.pat_part, Growi
 ghost use Rattle.swc_tokens.specs.Inputs.{input_state, tokens_of};
 ghost use Rattle.swc_ecma_parser.specs.WholeList.{IsHeeded};
 
+use crate::counted::CountedBodies;
 use std::alloc::{AllocError, Global};
 use std::mem::forget;
-use swc_bodies::token_bodies::TokenBodies;
 use swc_context::context::{Context, EsVersion, Syntax};
 use swc_context::error::{Error, PResult, SyntaxError};
 use swc_context::span::{BytePos, Span};
@@ -72,10 +72,11 @@ impl Answer {
 }
 
 /// Reads the text as it is asked. A fault of the reader of tokens is a refusal.
-pub fn answer_to(alloc: Global, text: &[u8], asked: Asked) -> Answer
+pub fn answer_to(alloc: Global, text: Vec<u8>, asked: Asked) -> Answer
     ensures { IsHeeded asked.context asked.syntax
-        → Answers (symbol_of asked.what) asked.context asked.syntax text.now result.shown result.recorded.items }
+        → Answers (symbol_of asked.what) asked.context asked.syntax text.items result.shown result.recorded.items }
 {
+    let len = text.len();
     match AsciiInput::new(
         alloc,
         text,
@@ -85,7 +86,7 @@ pub fn answer_to(alloc: Global, text: &[u8], asked: Asked) -> Answer
     ) {
         Ok(source) => {
             // It is asked for first: what is asked for after large blocks went back may not grow where it is.
-            let room = room_for(alloc, text.len());
+            let room = room_for(alloc, len);
             match asked.what {
                 What::Expr => answer_expr(alloc, source, room),
                 What::Pat => answer_pat(alloc, source, room),
@@ -123,7 +124,7 @@ fn answer_expr(alloc: Global, source: AsciiInput, room: PResult<String>) -> Answ
         nodes,
         recorded,
         too_deep: _,
-    } = read_whole_expr(alloc, source, TokenBodies::new(alloc), usize::MAX);
+    } = read_whole_expr(alloc, source, CountedBodies::new(alloc), usize::MAX);
     let shown = show_expr(&nodes, read, room);
     // The program ends soon: its memory goes back as a whole, faster than a node at a time.
     forget(nodes);
@@ -140,7 +141,7 @@ fn answer_pat(alloc: Global, source: AsciiInput, room: PResult<String>) -> Answe
         nodes,
         recorded,
         too_deep: _,
-    } = read_whole_pat(alloc, source, TokenBodies::new(alloc), usize::MAX);
+    } = read_whole_pat(alloc, source, CountedBodies::new(alloc), usize::MAX);
     let shown = show_pat(&nodes, read, room);
     forget(nodes);
     Answer { shown, recorded }
@@ -148,7 +149,7 @@ fn answer_pat(alloc: Global, source: AsciiInput, room: PResult<String>) -> Answe
 
 /// An expression that was read, printed.
 fn show_expr(
-    nodes: &NodesOf<TokenBodies>,
+    nodes: &NodesOf<CountedBodies>,
     read: PResult<(ExprId, bool)>,
     room: PResult<String>,
 ) -> PResult<Shown>
@@ -163,7 +164,7 @@ fn show_expr(
 
 /// A pattern that was read, printed.
 fn show_pat(
-    nodes: &NodesOf<TokenBodies>,
+    nodes: &NodesOf<CountedBodies>,
     read: PResult<(PatId, bool)>,
     room: PResult<String>,
 ) -> PResult<Shown>

@@ -3,5 +3,6 @@
 
 pub mod answer;
 mod arguments;
+pub mod counted;
 pub mod run;
 pub mod streams;

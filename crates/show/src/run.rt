@@ -45,7 +45,7 @@ pub fn run<R: Input, W: Output, C: Write>(
         let _ = writeln!(complaints, "{UNREADABLE}");
         return BAD_CALL;
     };
-    let answer = answer_to(alloc, &text, asked);
+    let answer = answer_to(alloc, text, asked);
     match output.write_answer(&answer) {
         Ok(()) => answer.status(),
         Err(_) => BAD_CALL,

@@ -1,9 +1,14 @@
 -- Blanks and comments one after the other, and between tokens.
-use Rattle.std.proofs.Common.{◌≡◌, ℕ, ◌≤◌, List, [], ◌∷◌, ◌++◌, ◌+◌, length, subst, ap, ◌∙◌, arith}
+use Rattle.std.proofs.Common.{◌≡◌, ℕ, ◌≤◌, List, [], ◌∷◌, ◌++◌, ◌+◌, ◌-◌, length, false, refl, subst, ap, ◌∙◌, arith}
 use Rattle.swc_input.specs.declared.token.TokenAndSpan.{TokenAndSpan}
-use Rattle.swc_tokens.specs.Blanks.{AreBlanks, OnlyBlanksBetween, none, more}
+use Rattle.swc_tokens.specs.Blanks.{has_line_break, AreBlanks, OnlyBlanksBetween, none, more}
 use Rattle.swc_tokens.specs.Profile.{blanks_len}
 use Rattle.swc_lexical.proofs.Runs.{rest_at, rest_at-drop}
+
+-- Among no bytes there is no line break.
+pub has_line_break_none : (text : List ℕ) (low high : ℕ) → high ≤ low → has_line_break text low high ≡ false
+unfolding has_line_break
+has_line_break_none text low high past = let zero : high - low ≡ 0 = omega arith in rw zero refl
 
 pub AreBlanks_none : (text : List ℕ) (at : ℕ) → AreBlanks text at at
 AreBlanks_none text at = none

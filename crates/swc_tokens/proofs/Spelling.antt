@@ -1,12 +1,12 @@
 -- Tokens that have no text of their own: signs, and what ends a text of a template.
-use Rattle.std.proofs.Common.{◌≡◌, ℕ, suc, ◌+◌, ◌-◌, List, [], ◌∷◌, length, codes, Bool, false, Some, IsFalse, take, drop, drop-cons, get_or, slice_get, slice_range, add-one, ap, sym, refl, ◌∙◌, arith}
-use Rattle.std.specs.{Prelude.◌==◌, Cmp.Lexicographic.unequal}
+use Rattle.std.proofs.Common.{◌≡◌, ℕ, suc, ◌+◌, ◌-◌, ◌<◌, List, [], ◌∷◌, length, codes, Bool, false, Option, Some, None, IfSome, IsFalse, take, drop, drop-cons, get_or, slice_get, slice_range, add-one, ap, sym, refl, ◌∙◌, arith}
+use Rattle.std.specs.{List.slice_index, Prelude.◌==◌, Cmp.Lexicographic.unequal}
 use Rattle.swc_context.specs.{Texts.is_text, Words.word_of}
 use Rattle.swc_context.specs.declared.word.Word.TheVariants as word
 use Rattle.swc_context.proofs.Words.{none_1}
-use Rattle.std.proofs.lemmas.Option.{get_or_from_slice_get, slice_get_within}
+use Rattle.std.proofs.lemmas.Option.{get_or_from_slice_get, slice_get-get_or, slice_get_within}
 use Rattle.swc_input.specs.declared.token.Token.{Token}
-use Rattle.swc_tokens.specs.{Signs.has_text, Signs.sign_text, Blanks.StandAt, Profile.has, Profile.lexeme}
+use Rattle.swc_tokens.specs.{declared.found.Sign.Sign, Found.sign_token, Signs.has_text, Signs.sign_text, Blanks.StandAt, Profile.has, Profile.lexeme}
 use Rattle.swc_tokens.specs.Spelling.{IsLexeme, IsName, IsTextBetween, Spells}
 use Rattle.swc_lexical.specs.{PlainNames.name_len, Templates.text_len, declared.lexeme.Kind.Kind}
 use Rattle.swc_lexical.proofs.Runs.{rest_at, rest_at-drop}
@@ -74,6 +74,16 @@ two_bytes text low a b first second =
     ap (λ n. take n (drop low text)) back ∙ ap (take 2) (drop-cons text low a inside)
     ∙ ap (λ xs. get_or text low a ∷ take 1 xs) rest ∙ ap (λ x. x ∷ get_or text (low + 1) b ∷ []) here ∙ ap
     (λ x. a ∷ x ∷ []) there
+
+-- a sign of one byte, if there is one
+pub Spells_lone : (text : List ℕ) (low : ℕ) (sign : Option Sign) → low < length text
+    → IfSome sign (λ s. IsFalse (has_text (sign_token s)))
+    → IfSome sign (λ s. sign_text (sign_token s) ≡ slice_index text low ∷ [])
+    → IfSome sign (λ s. Spells text low (low + 1) (sign_token s))
+Spells_lone text low None inside none same = tt
+Spells_lone text low (Some s) inside none same =
+    let there = slice_get-get_or text low 0 inside in
+    Spells_sign text low (low + 1) (sign_token s) none (same ∙ sym (one_byte text low (slice_index text low) there))
 
 -- the backquote after a text, and `${`
 pub Spells_backquote : (text : List ℕ) (low : ℕ) → slice_get text low ≡ Some 96

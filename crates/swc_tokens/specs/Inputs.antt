@@ -1,6 +1,7 @@
 -- A text in ASCII as a source: a listed one, whose list is the tokens that were found in the text.
-use Rattle.std.specs.Prelude.{◌≡◌, ℕ, ◌+◌, true, false, List, [], ◌∷◌, ◌++◌, Some, None, map, length, drop, slice_get, string_bytes}
-use Rattle.std.proofs.Common.{refl, ap, sym, ◌∙◌, append_assoc, arith, zero, suc, add-one}
+use Rattle.std.specs.Prelude.{◌≡◌, ℕ, true, false, List, [], ◌∷◌, ◌++◌, Some, None, map, length, reverse, string_bytes}
+use Rattle.std.proofs.Common.{refl, ap, sym, ◌∙◌, append_assoc, arith}
+use Rattle.std.proofs.lemmas.List.{reverse-append}
 use Rattle.swc_context.specs.declared.context.TokenContexts.{TokenContexts}
 use Rattle.swc_input.specs.{Laws.keeps_same, Plain.plain, declared.listed.TokensInput.TokensInput, declared.token.TokenAndSpan.TokenAndSpan}
 use Rattle.swc_input.specs.Listed.{is_nil, is_nil-nil, first_nil, second_nil, listed_state, listed_lawful, ListedGives}
@@ -10,13 +11,13 @@ use Rattle.swc_tokens.specs.{Found.all_made, Found.made, declared.found.Found.Fo
 abbrev pub bytes_of : AsciiInput → List ℕ
 bytes_of s = string_bytes s.text
 
--- all tokens of the text
-abbrev pub tokens_of : AsciiInput → List TokenAndSpan
-tokens_of s = all_made (bytes_of s) s.found.items
-
--- those that weren't given yet, as they were found
+-- the tokens that weren't given yet, as they were found
 abbrev pub rest_of : AsciiInput → List Found
-rest_of s = drop s.given s.found.items
+rest_of s = reverse s.found.items
+
+-- and as they are made
+abbrev pub tokens_of : AsciiInput → List TokenAndSpan
+tokens_of s = all_made (bytes_of s) (rest_of s)
 
 abbrev pub coming_of : List ℕ → List Found → List TokenAndSpan
 coming_of text fs = map plain (all_made text fs)
@@ -98,7 +99,7 @@ input_unmoved s contexts = record { gave = untouched s; state = refl }
 
 -- what a call of `next` leaves as it is
 abbrev pub Same : AsciiInput → AsciiInput → Type 0
-Same s t = (bytes_of t ≡ bytes_of s) × (t.found.items ≡ s.found.items) × (t.notes ≡ s.notes)
+Same s t = (bytes_of t ≡ bytes_of s) × (t.notes ≡ s.notes)
 
 keeping : (s t : AsciiInput) → t.notes ≡ s.notes → Keeping (input_state s) (input_state t)
 keeping s t same = record {
@@ -108,65 +109,49 @@ keeping s t same = record {
   quiet = λ m h. (ap (λ n. n.errors.items) same, ap (λ n. n.module_errors.items) same);
 }
 
-drop_here : {A : Type 0} (xs : List A) (at : ℕ) (x : A) → Some x ≡ slice_get xs at
-    → drop at xs ≡ x ∷ drop (suc at) xs
-drop_here [] at x is = cc
-drop_here (y ∷ xs) zero x is = let e : x ≡ y = cc in ap (λ z. z ∷ xs) (sym e)
-drop_here (y ∷ xs) (suc at) x is = drop_here xs at x is
-
-drop_past : {A : Type 0} (xs : List A) (at : ℕ) → None ≡ slice_get xs at → drop at xs ≡ []
-drop_past [] zero is = refl
-drop_past [] (suc at) is = refl
-drop_past (y ∷ xs) zero is = cc
-drop_past (y ∷ xs) (suc at) is = drop_past xs at is
-
 -- it gave the token that was found next
 pub asked_given : (s t : AsciiInput) (f : Found) (x : TokenAndSpan) → s.failed ≡ false → t.failed ≡ s.failed
-    → Same s t → t.given ≡ s.given + 1 → Some f ≡ slice_get s.found.items s.given → x ≡ made (bytes_of s) f
-    → Asked input_model s (Some x) t
-asked_given s t f x runs still same more here is =
-    let rest : rest_of s ≡ f ∷ rest_of t =
-    rw (same.1, more, add-one s.given) (drop_here s.found.items s.given f here) in
+    → Same s t → s.found.items ≡ t.found.items ++ f ∷ [] → x ≡ made (bytes_of s) f → Asked input_model s (Some x) t
+asked_given s t f x runs still same more is =
+    let rest : rest_of s ≡ f ∷ rest_of t = rw more (reverse-append t.found.items (f ∷ [])) in
     record {
       gave = record {
         list = rw (same.0, is) (ap (coming_of (bytes_of s)) rest);
         failed = λ e. absurd (cc);
-        syntax = ap (λ n. n.syntax) same.2;
-        target = ap (λ n. n.target) same.2;
+        syntax = ap (λ n. n.syntax) same.1;
+        target = ap (λ n. n.target) same.1;
       };
       token = record {
-        keeping = keeping s t same.2;
+        keeping = keeping s t same.1;
         runs = (runs, still ∙ runs);
         lower = (let n = ap length rest in omega (arith, n));
       };
     }
 
 -- none was left
-pub asked_over : (s : AsciiInput) → s.failed ≡ false → None ≡ slice_get s.found.items s.given
-    → Asked input_model s None s
+pub asked_over : (s : AsciiInput) → s.failed ≡ false → s.found.items ≡ [] → Asked input_model s None s
 asked_over s runs none = record {
   gave = untouched s;
   token = record {
     keeping = keeping s s refl;
-    ended = λ e. ap (λ fs. is_nil (coming_of (bytes_of s) fs)) (drop_past s.found.items s.given none);
+    ended = λ e. ap (λ fs. is_nil (coming_of (bytes_of s) (reverse fs))) none;
     lower = omega arith;
   };
 }
 
 -- it failed, or had failed
-pub asked_failed : (s t : AsciiInput) → t.failed ≡ true → Same s t → t.given ≡ s.given → Asked input_model s None t
-asked_failed s t lost same given =
-    let rest : rest_of t ≡ rest_of s = rw (same.1, given) refl in
-    record {
-      gave = record {
-        list = rw (same.0, rest) refl;
-        failed = λ e. (refl, lost);
-        syntax = ap (λ n. n.syntax) same.2;
-        target = ap (λ n. n.target) same.2;
-      };
-      token = record {
-        keeping = keeping s t same.2;
-        ended = λ e. absurd (cc);
-        lower = (let n = ap length rest in omega (arith, n));
-      };
-    }
+pub asked_failed : (s t : AsciiInput) → t.failed ≡ true → Same s t → t.found.items ≡ s.found.items
+    → Asked input_model s None t
+asked_failed s t lost same stays = record {
+  gave = record {
+    list = rw (same.0, stays) refl;
+    failed = λ e. (refl, lost);
+    syntax = ap (λ n. n.syntax) same.1;
+    target = ap (λ n. n.target) same.1;
+  };
+  token = record {
+    keeping = keeping s t same.1;
+    ended = λ e. absurd (cc);
+    lower = (let n = ap (λ fs. length (reverse fs)) stays in omega (arith, n));
+  };
+}

@@ -1,14 +1,13 @@
 //! A text in ASCII as a source of the parser.
-ghost use Rattle.std.specs.Prelude.{◌≡◌, ◌+◌, ◌<◌, ◌≤◌, ◌^◌, nat_lt, length, string_bytes, IfOk, IfErr, IfSome};
+ghost use Rattle.std.specs.Prelude.{◌≡◌, ◌+◌, ◌-◌, ◌<◌, ◌≤◌, ◌^◌, ◌∷◌, ◌++◌, [], nat_lt, length, slice_get, string_bytes, IfOk, IfErr, IfSome};
 ghost use Rattle.std.specs.{List.position, Str.IsAscii};
 ghost use Rattle.swc_input.specs.Listed.{new_state};
 ghost use Rattle.swc_tokens.specs.{Faults.IsRefusal, Moved.AreTokensOf};
 ghost use Rattle.swc_tokens.specs.Faults as faults;
 
-use crate::fault::out_of_memory;
 use crate::found::Found;
 use crate::making::Source;
-use crate::{ascii_text, find_tokens};
+use crate::find_tokens;
 use std::alloc::{AllocError, Global};
 use swc_context::context::{Context, EsVersion, Syntax, TokenContexts};
 use swc_context::error::{Error, PResult};
@@ -18,15 +17,16 @@ use swc_input::token::TokenAndSpan;
 use swc_input::tokens::Tokens;
 
 /// A source that gives the tokens of a text that `read_tokens` reads. Where each is and what it is, is found when the
-/// source is made, in 12 bytes; a token is made when it is asked for. So it takes far less memory than their list. It
-/// owns its text, and fails only when it is out of memory.
+/// source is made, in 12 bytes, which go back as tokens are given; a token is made when it is asked for. So it takes far
+/// less memory than their list. It owns its text, and fails only when it is out of memory.
 #[derive(Drop)]
 pub struct AsciiInput {
     alloc: Global,
     text: String,
+    /// The tokens that weren't given yet, the next one last.
     found: Vec<Found>,
-    /// How many tokens were given.
-    given: usize,
+    /// Where the first token begins; 0 where there is none.
+    start: BytePos,
     /// The context, and the faults that were recorded.
     notes: TokensInput,
     failed: bool,
@@ -37,34 +37,64 @@ pub struct AsciiInput {
 impl AsciiInput {
     ghost use Rattle.swc_tokens.specs.Inputs.{input_state, tokens_of};
 
-    /// A source of the tokens of this text, which it copies; a text that `read_tokens` refuses is refused so.
+    /// A source of the tokens of this text, which it keeps, and doesn't copy; a text that `read_tokens` refuses is
+    /// refused so.
     pub fn new(
         alloc: Global,
-        text: &[u8],
+        text: Vec<u8>,
         context: Context,
         syntax: Syntax,
         target: EsVersion,
     ) -> PResult<AsciiInput>
-        ensures too_long { 4294967295 < length text.now → result ≡ Err (faults.lex_fault (faults.between 0 0)) }
-        ensures beyond_ascii { length text.now ≤ 4294967295
-            → IfSome (position (λ byte. nat_lt 127 byte) text.now) (λ at. result
+        ensures too_long { 4294967295 < length text.items → result ≡ Err (faults.lex_fault (faults.between 0 0)) }
+        ensures beyond_ascii { length text.items ≤ 4294967295
+            → IfSome (position (λ byte. nat_lt 127 byte) text.items) (λ at. result
             ≡ Err (faults.lex_fault (faults.between at (at + 1)))) }
-        ensures refused { length text.now ≤ 4294967295 → IfErr result (IsRefusal text.now) }
-        ensures tokens { IfOk result (λ s. AreTokensOf text.now (tokens_of s)) }
+        ensures refused { length text.items ≤ 4294967295 → IfErr result (IsRefusal text.items) }
+        ensures tokens { IfOk result (λ s. AreTokensOf text.items (tokens_of s)) }
         ensures state { IfOk result (λ s. input_state s ≡ new_state (tokens_of s) context syntax target) }
     {
-        let found = find_tokens(alloc, text)?;
-        match ascii_text(text).to_string(alloc) {
-            Ok(text) => Ok(AsciiInput {
-                alloc,
-                text,
-                found,
-                given: 0,
-                notes: TokensInput::new(alloc, Vec::new(alloc), context, syntax, target),
-                failed: false,
-            }),
-            Err(AllocError) => Err(out_of_memory()),
-        }
+        let mut found = find_tokens(alloc, &text)?;
+        let start = start_of(&found);
+        found.reverse();
+        Ok(AsciiInput {
+            alloc,
+            text: owned_text(text),
+            found,
+            start,
+            notes: TokensInput::new(alloc, Vec::new(alloc), context, syntax, target),
+            failed: false,
+        })
+    }
+}
+
+/// Where the first token begins, or 0 where there is none.
+fn start_of(found: &[Found]) -> BytePos {
+    match found.first() {
+        Some(first) => first.span.lo,
+        None => BytePos(0),
+    }
+}
+
+/// The text that ASCII bytes are.
+fn owned_text(bytes: Vec<u8>) -> String
+    requires { IsAscii bytes.items }
+    ensures { string_bytes result ≡ bytes.items }
+{
+    match String::from_utf8(bytes) {
+        Ok(text) => text,
+        Err(_) => unreachable!(),
+    }
+}
+
+/// Takes out the last one. Where half of the room is empty, it goes back: each is moved once at most.
+fn drop_last(found: &mut Vec<Found>)
+    ensures { IfSome (slice_get found.old.items (length found.old.items - 1))
+        (λ last. found.old.items ≡ found.new.items ++ last ∷ []) }
+{
+    let _ = found.pop();
+    if found.len() <= found.capacity() / 2 {
+        found.shrink_to_fit();
     }
 }
 
@@ -83,10 +113,10 @@ impl Iterator for AsciiInput {
         if self.failed {
             return None;
         }
-        let found = *self.found.get(self.given)?;
+        let found = *self.found.last()?;
         match Source::new(self.alloc, self.text.as_str()).make(found) {
             Ok(token) => {
-                self.given += 1;
+                drop_last(&mut self.found);
                 Some(token)
             }
             Err(AllocError) => {
@@ -133,10 +163,7 @@ impl Tokens for AsciiInput {
     }
 
     fn start_pos(&self) -> BytePos {
-        match self.found.first() {
-            Some(found) => found.span.lo,
-            None => BytePos(0),
-        }
+        self.start
     }
 
     #[tactic(auto, using(crate::specs::Inputs::untouched))]

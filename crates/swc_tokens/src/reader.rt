@@ -2,9 +2,9 @@
 ghost use Rattle.std.specs.Prelude.{◌≡◌, ◌↔◌, ◌+◌, ◌<◌, ◌≤◌, ◌^◌, length, drop, IsTrue, IsFalse, IsSome, IfOk, IfErr, IfSome, true, IfNone, OnOk, slice_range};
 ghost use Rattle.std.specs.{List.list_any, Str.IsAscii};
 ghost use Rattle.swc_tokens.specs.{Faults.IsByteFault, Faults.IsRefusal, Blanks.AreBlanks, Blanks.StandAt, Nesting.fits, Nesting.part_of, Reading.IsNext, Reading.Takes};
-ghost use Rattle.swc_tokens.specs.Found.{made, token_of, IsSpelled};
+ghost use Rattle.swc_tokens.specs.Found.{made, sign_token, token_of, IsSpelled};
 ghost use Rattle.swc_tokens.specs.Order.{is_error, is_free, is_text};
-ghost use Rattle.swc_tokens.specs.Spelling.{EndsText, IsLexeme, IsName};
+ghost use Rattle.swc_tokens.specs.Spelling.{EndsText, IsLexeme, IsName, Spells};
 ghost use Rattle.swc_tokens.specs.Faults as faults;
 ghost use Rattle.swc_tokens.specs.Blanks as blanks;
 ghost use Rattle.swc_tokens.specs.Nesting as nesting;
@@ -16,7 +16,7 @@ ghost use Rattle.swc_lexical.specs.declared.lexeme.Kind.TheVariants as kinds;
 use crate::fault::{lex_fault, span};
 use crate::found::{Found, Shape, Sign};
 use crate::profile::{blanks_len, has_line_break, lexeme_here, text_here};
-use crate::sign::sign_of;
+use crate::sign::{lone_sign, sign_of};
 use crate::template::Next;
 use std::str;
 use swc_context::error::{Error, PResult};
@@ -96,12 +96,12 @@ impl<'a> Reader<'a> {
     }
 
     /// Whether a line break is among the bytes that are read from this position on.
-    #[tactic(auto, unfolding(crate::specs::Blanks::has_line_break))]
+    #[tactic(auto, using(crate::proofs::Blanks::has_line_break_none), unfolding(crate::specs::Blanks::has_line_break))]
     fn has_line_break_from(&self, start: usize) -> bool
         requires { start ≤ self.now.at }
         ensures { result ≡ blanks.has_line_break self.now.text.now start self.now.at }
     {
-        has_line_break(&self.text[start..self.at])
+        start < self.at && has_line_break(&self.text[start..self.at])
     }
 
     /// Skips what is before that which is read next: blanks and comments, if it is a token.
@@ -119,9 +119,23 @@ impl<'a> Reader<'a> {
         }
     }
 
+    /// Skips blanks and comments, where the byte that comes next may begin one.
+    #[tactic(auto, using(crate::proofs::Blanks::AreBlanks_none))]
+    fn skip_blanks(&mut self) -> PResult<()>
+        ensures text { self.new.text ≡ self.old.text }
+        ensures refused { IfErr result (IsRefusal self.old.text.now) }
+        ensures forward { OnOk result (self.old.at ≤ self.new.at) }
+        ensures blanks { OnOk result (AreBlanks self.old.text.now self.old.at self.new.at) }
+    {
+        match self.text.get(self.at) {
+            Some(b' ' | b'\n' | b'\r' | b'\t' | 0x0B | 0x0C | b'/') => self.skip_run(),
+            _ => Ok(()),
+        }
+    }
+
     /// Skips blanks and comments. A comment that is open is a fault at the end of the text.
     #[tactic(auto, using(crate::proofs::Blanks::AreBlanks_all))]
-    fn skip_blanks(&mut self) -> PResult<()>
+    fn skip_run(&mut self) -> PResult<()>
         ensures text { self.new.text ≡ self.old.text }
         ensures refused { IfErr result (IsRefusal self.old.text.now) }
         ensures forward { OnOk result (self.old.at ≤ self.new.at) }
@@ -202,6 +216,11 @@ impl<'a> Reader<'a> {
         }
     }
 
+    /// Whether a digit comes after the byte that comes next.
+    fn is_digit_after(&self) -> bool {
+        matches!(self.text.get(self.at + 1), Some(b'0'..=b'9'))
+    }
+
     /// Reads the token that begins here.
     #[tactic(auto, using(crate::proofs::Spelling::IsName_here))]
     fn read_token(&mut self, before: Option<&Found>) -> PResult<Shape>
@@ -217,9 +236,8 @@ impl<'a> Reader<'a> {
             return self.read_word(name);
         }
         match self.text[self.at] {
-            b'0'..=b'9' | b'.' | b'\'' | b'"' | b'/' => self.read_lexeme(self.begins_regexp(
-                before,
-            )),
+            b'0'..=b'9' | b'\'' | b'"' | b'/' => self.read_lexeme(self.begins_regexp(before)),
+            b'.' if self.is_digit_after() => self.read_lexeme(false),
             _ => self.read_sign(),
         }
     }
@@ -240,7 +258,17 @@ impl<'a> Reader<'a> {
         Ok(Shape::Word)
     }
 
+    /// The sign of one byte that is here, with which no longer one begins.
+    fn lone_sign_here(&self) -> Option<Sign>
+        requires { self.now.at < length self.now.text.now }
+        ensures free { IfSome result (λ s. IsTrue (is_free (sign_token s))) }
+        ensures spells { IfSome result (λ s. Spells self.now.text.now self.now.at (self.now.at + 1) (sign_token s)) }
+    {
+        lone_sign(self.text[self.at])
+    }
+
     /// Reads the sign that is here (ECMA-262, 12.8).
+    #[tactic(auto, unfolding(crate::specs::Found::token_of))]
     fn read_sign(&mut self) -> PResult<Shape>
         requires { self.old.at < length self.old.text.now }
         ensures text { self.new.text ≡ self.old.text }
@@ -249,6 +277,10 @@ impl<'a> Reader<'a> {
         ensures free { IfOk result (λ s. IsTrue (is_free (token_of self.old.text.now self.old.at self.new.at s))) }
         ensures spells { IfOk result (λ s. IsSpelled self.old.text.now self.old.at self.new.at s) }
     {
+        if let Some(sign) = self.lone_sign_here() {
+            self.at += 1;
+            return Ok(Shape::Sign(sign));
+        }
         let len = sign_len(&self.text[self.at..]);
         if len == 0 {
             return Err(self.fault());

@@ -1,9 +1,34 @@
 // Signs and operators (ECMA-262, 12.8).
-ghost use Rattle.std.specs.Prelude.{◌≡◌, IsTrue, IsFalse, IfSome};
+ghost use Rattle.std.specs.Prelude.{◌≡◌, ◌∷◌, [], IsTrue, IsFalse, IfSome};
 ghost use Rattle.swc_tokens.specs.{Found.sign_token, Order.is_free, Signs.has_text, Signs.sign_text};
 
 use crate::found::Sign;
 use swc_context::operator::{AssignOp, BinOpToken};
+
+/// The sign that is this byte, with which no longer one begins.
+#[tactic(auto, unfolding(crate::specs::Order::is_free, crate::specs::Signs::sign_text, crate::specs::Signs::has_text))]
+pub(crate) fn lone_sign(byte: u8) -> Option<Sign>
+    ensures free { IfSome result (λ s. IsTrue (is_free (sign_token s))) }
+    ensures no_text { IfSome result (λ s. IsFalse (has_text (sign_token s))) }
+    ensures spells { IfSome result (λ s. sign_text (sign_token s) ≡ byte ∷ []) }
+{
+    Some(match byte {
+        b'(' => Sign::LParen,
+        b')' => Sign::RParen,
+        b'[' => Sign::LBracket,
+        b']' => Sign::RBracket,
+        b'{' => Sign::LBrace,
+        b'}' => Sign::RBrace,
+        b',' => Sign::Comma,
+        b';' => Sign::Semi,
+        b':' => Sign::Colon,
+        b'`' => Sign::BackQuote,
+        b'~' => Sign::Tilde,
+        b'#' => Sign::Hash,
+        b'@' => Sign::At,
+        _ => return None,
+    })
+}
 
 /// The sign that is written so, but for `${`. There is no token for `?.`.
 #[tactic(auto, unfolding(crate::specs::Order::is_free, crate::specs::Signs::sign_text, crate::specs::Signs::has_text))]

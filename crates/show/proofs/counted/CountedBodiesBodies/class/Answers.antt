@@ -1,0 +1,9 @@
+use Rattle.swc_bodies.specs.Taking.{token_forms}
+use Rattle.show.proofs.Counting.{counted_faithful}
+use Rattle.show.proofs.counted.CountedBodiesBodies.class.Goals as goal
+
+pub returns-clause-faithful : goal.returns-clause-faithful
+returns-clause-faithful g c =
+    rw c.count.ensures
+    (counted_faithful g.I.Tokens.model token_forms.class c.args.input.now c.class.new.input c.class.result
+    c.class.ensures.faithful)

@@ -1,0 +1,9 @@
+use Rattle.swc_bodies.specs.Taking.{token_forms}
+use Rattle.show.proofs.Counting.{counted_faithful}
+use Rattle.show.proofs.counted.CountedBodiesBodies.fun.Goals as goal
+
+pub returns-clause-faithful : goal.returns-clause-faithful
+returns-clause-faithful g c =
+    rw c.count.ensures
+    (counted_faithful g.I.Tokens.model token_forms.fun c.args.input.now c.fun.new.input c.fun.result
+    c.fun.ensures.faithful)
