@@ -11,6 +11,7 @@ use swc_ast::pat::{ObjectPatProp, Pat};
 use swc_ast::prop::{ComputedPropName, Prop, PropName, PropOrSpread};
 use swc_ast::spanned::Spanned;
 use swc_bodies::token_body::TokenBody;
+use swc_context::error::PResult;
 use swc_context::span::Span;
 use swc_nodes::node::{ExprId, Node, PatId};
 use swc_nodes::nodes::Nodes;
@@ -27,14 +28,28 @@ pub type TestPat = Pat<TokenBody, TokenBody, TokenBody>;
 /// A property of an object pattern.
 pub type PatProp = ObjectPatProp<TokenBody, TokenBody, TokenBody>;
 
+/// The text after which a tree is printed: a row sees where it is lost.
+const BEFORE: &str = "tree ";
+
+/// Writes the printed tree, without the text before it, and its place.
+fn show_tree(out: &mut String, tree: PResult<String>, span: Span) -> Result<(), AllocError> {
+    match tree {
+        Ok(text) => match text.as_str().strip_prefix(BEFORE) {
+            Some(tree) => write!(out, "{tree} {span}"),
+            None => out.push_str("the text before the tree is lost"),
+        },
+        Err(_) => out.push_str(NO_MEMORY),
+    }
+}
+
 /// Writes the expression of that number, and its place.
 pub fn show_id(out: &mut String, nodes: &TestNodes, id: ExprId) -> Result<(), AllocError> {
     if !nodes.has_expr(id) {
         return out.push_str("no expression");
     }
-    match nodes.print_expr(id) {
-        Ok(text) => write!(out, "{text} {}", nodes.span(id)),
-        Err(_) => out.push_str(NO_MEMORY),
+    match BEFORE.to_string(*out.allocator()) {
+        Ok(before) => show_tree(out, nodes.append_expr(before, id), nodes.span(id)),
+        Err(AllocError) => out.push_str(NO_MEMORY),
     }
 }
 
@@ -43,9 +58,9 @@ pub fn show_pat_id(out: &mut String, nodes: &TestNodes, id: PatId) -> Result<(),
     if !nodes.has_pat(id) {
         return out.push_str("no pattern");
     }
-    match nodes.print_pat(id) {
-        Ok(text) => write!(out, "{text} {}", nodes.pat_span(id)),
-        Err(_) => out.push_str(NO_MEMORY),
+    match BEFORE.to_string(*out.allocator()) {
+        Ok(before) => show_tree(out, nodes.append_pat(before, id), nodes.pat_span(id)),
+        Err(AllocError) => out.push_str(NO_MEMORY),
     }
 }
 

@@ -32,7 +32,6 @@ impl Spanned for Counted {
     }
 }
 
-
 impl Kept for Counted {
     fn kept(&self) -> usize
         ensures { result ≡ self.now.tokens }

@@ -5,9 +5,9 @@ ghost use Rattle.swc_input.specs.Listed.{new_state};
 ghost use Rattle.swc_tokens.specs.{Faults.IsRefusal, Moved.AreTokensOf};
 ghost use Rattle.swc_tokens.specs.Faults as faults;
 
+use crate::find_tokens;
 use crate::found::Found;
 use crate::making::Source;
-use crate::find_tokens;
 use std::alloc::{AllocError, Global};
 use swc_context::context::{Context, EsVersion, Syntax, TokenContexts};
 use swc_context::error::{Error, PResult};
