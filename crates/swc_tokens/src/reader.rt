@@ -216,9 +216,13 @@ impl<'a> Reader<'a> {
         }
     }
 
-    /// Whether a digit comes after the byte that comes next.
-    fn is_digit_after(&self) -> bool {
-        matches!(self.text.get(self.at + 1), Some(b'0'..=b'9'))
+    /// Whether a number, a string, a regular expression or a division may begin with the byte that comes next.
+    fn begins_lexeme(&self) -> bool {
+        match self.text.get(self.at) {
+            Some(b'0'..=b'9' | b'\'' | b'"' | b'/') => true,
+            Some(b'.') => matches!(self.text.get(self.at + 1), Some(b'0'..=b'9')),
+            _ => false,
+        }
     }
 
     /// Reads the token that begins here.
@@ -235,10 +239,10 @@ impl<'a> Reader<'a> {
         if 0 < name {
             return self.read_word(name);
         }
-        match self.text[self.at] {
-            b'0'..=b'9' | b'\'' | b'"' | b'/' => self.read_lexeme(self.begins_regexp(before)),
-            b'.' if self.is_digit_after() => self.read_lexeme(false),
-            _ => self.read_sign(),
+        if self.begins_lexeme() {
+            self.read_lexeme(self.begins_regexp(before))
+        } else {
+            self.read_sign()
         }
     }
 
