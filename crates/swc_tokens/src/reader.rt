@@ -262,13 +262,21 @@ impl<'a> Reader<'a> {
         Ok(Shape::Word)
     }
 
-    /// The sign of one byte that is here, with which no longer one begins.
+    /// Whether a sign may go on with the byte after that which comes next.
+    fn goes_on(&self) -> bool {
+        matches!(
+            self.text.get(self.at + 1),
+            Some(b'=' | b'>' | b'<' | b'&' | b'|' | b'+' | b'-' | b'*' | b'?' | b'.')
+        )
+    }
+
+    /// The sign of one byte that is here, if no longer one is.
     fn lone_sign_here(&self) -> Option<Sign>
         requires { self.now.at < length self.now.text.now }
         ensures free { IfSome result (λ s. IsTrue (is_free (sign_token s))) }
         ensures spells { IfSome result (λ s. Spells self.now.text.now self.now.at (self.now.at + 1) (sign_token s)) }
     {
-        lone_sign(self.text[self.at])
+        lone_sign(self.text[self.at], self.goes_on())
     }
 
     /// Reads the sign that is here (ECMA-262, 12.8).

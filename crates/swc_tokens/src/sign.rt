@@ -5,9 +5,9 @@ ghost use Rattle.swc_tokens.specs.{Found.sign_token, Order.is_free, Signs.has_te
 use crate::found::Sign;
 use swc_context::operator::{AssignOp, BinOpToken};
 
-/// The sign that is this byte, with which no longer one begins.
+/// The sign that is this byte. Where one may be longer it is read only if none goes on here.
 #[tactic(auto, unfolding(crate::specs::Order::is_free, crate::specs::Signs::sign_text, crate::specs::Signs::has_text))]
-pub(crate) fn lone_sign(byte: u8) -> Option<Sign>
+pub(crate) fn lone_sign(byte: u8, goes_on: bool) -> Option<Sign>
     ensures free { IfSome result (λ s. IsTrue (is_free (sign_token s))) }
     ensures no_text { IfSome result (λ s. IsFalse (has_text (sign_token s))) }
     ensures spells { IfSome result (λ s. sign_text (sign_token s) ≡ byte ∷ []) }
@@ -26,6 +26,20 @@ pub(crate) fn lone_sign(byte: u8) -> Option<Sign>
         b'~' => Sign::Tilde,
         b'#' => Sign::Hash,
         b'@' => Sign::At,
+        _ if goes_on => return None,
+        b'=' => Sign::AssignOp(AssignOp::Assign),
+        b'.' => Sign::Dot,
+        b'!' => Sign::Bang,
+        b'?' => Sign::QuestionMark,
+        b'<' => Sign::BinOp(BinOpToken::Lt),
+        b'>' => Sign::BinOp(BinOpToken::Gt),
+        b'+' => Sign::BinOp(BinOpToken::Add),
+        b'-' => Sign::BinOp(BinOpToken::Sub),
+        b'*' => Sign::BinOp(BinOpToken::Mul),
+        b'%' => Sign::BinOp(BinOpToken::Mod),
+        b'|' => Sign::BinOp(BinOpToken::BitOr),
+        b'^' => Sign::BinOp(BinOpToken::BitXor),
+        b'&' => Sign::BinOp(BinOpToken::BitAnd),
         _ => return None,
     })
 }
