@@ -41,3 +41,7 @@ pub answered : {s : Symbol} {c : Context} {x : Syntax} {v : EsVersion} {text : L
 answered {s} {ts = ts} {shown = shown} {recorded = recorded} tokens state judges heeded =
     let P : Source → Type 0 = λ z. IsJudged s z ts shown recorded in
     judged tokens (subst P state judges (record { known = refl; clean = refl }) heeded)
+
+-- the error of two refusals that are the same
+pub same_error : {A E : Type 0} (r s : Result A E) {d e : E} → r ≡ Err d → s ≡ Err e → r ≡ s → d ≡ e
+same_error r s refused again same = cc

@@ -1,7 +1,6 @@
 use Rattle.std.proofs.Common.{refl}
 use Rattle.show.specs.Answers.{refused}
-use Rattle.show.proofs.Giving.{same_error}
-use Rattle.show.proofs.Judging.{answered}
+use Rattle.show.proofs.Judging.{answered, same_error}
 use Rattle.show.proofs.answer.answer_to.Goals as goal
 
 pub returns-in-Expr : goal.returns-in-Expr
