@@ -62,19 +62,19 @@ function bareText(tree) {
 }
 
 /**
- * What acorn reads of a program, as text: its tokens and comments in their order, but for semicolons, and its tree without
- * places. Nothing, where acorn refuses it.
+ * What acorn reads of a program, as text: its tokens and comments in their order, but for semicolons, commas, and blanks
+ * around the lines of comments, and its tree without places. Nothing, where acorn refuses it.
  */
 function wholeText(text, goal) {
   const pieces = [];
   const onToken = ({ start, end }) => pieces.push(text.slice(start, end));
-  const onComment = (isBlock, comment, start, end) => pieces.push(text.slice(start, end));
+  const onComment = (isBlock, comment, start, end) => pieces.push(text.slice(start, end).replace(/\s*\n[ \t]*/g, '\n').trimEnd());
   try {
     const tree = parseProgram(text, goal, { onToken, onComment });
-    return `${JSON.stringify(pieces.filter(piece => piece !== ';'), null, 1)}\n${bareText(tree)}`;
+    return `${JSON.stringify(pieces.filter(piece => piece !== ';' && piece !== ','), null, 1)}\n${bareText(tree)}`;
   } catch (_) {
     return null;
   }
 }
 
-module.exports = { goalOf, isBare, isProgram, parseExpression, parseProgram, wholeText };
+module.exports = { acorn, goalOf, isBare, isProgram, parseExpression, parseProgram, wholeText };

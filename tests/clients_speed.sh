@@ -1,23 +1,21 @@
 #!/bin/bash
-# Measures the four clients: prints, for each text, its bytes, the processor seconds of the run and the peak of its memory, as rows of a table.
+# Measures four commands of `ecma`: prints, for each text, its bytes, the processor seconds of the run and the peak of its memory, as rows of a table.
 #
-#     tests/clients_speed.sh [FOLDER]     a folder with other builds of statements, formatter, scopes and template, to run in their place
+#     tests/clients_speed.sh [PROGRAM]     another build of ecma, to run in its place
 #
 # Each text is a short piece again and again, of 0.25, 0.5 and 1 MB: statements of all kinds, one below another; `if (a) ` and `{ `, as statements in one
 # another; functions; operators; a list of literals, calls and arrow functions; and the pieces of a template. The least of five runs counts. The stack is
 # as large as the system lets it grow. After the table come the greatest ratio of seconds between a text and one of half its size, and the longest
 # texts on a stack of 1 MB.
 cd "$(dirname "$0")/.." || exit 2
-for name in statements formatter scopes template; do
-    program=${1:-crates/$name/out}/$name
-    if [ ! -x "$program" ]; then
-        echo "no built program $program: (cd crates/$name && rt run <stdin) builds it" >&2
-        exit 2
-    fi
-done
+program=${1:-crates/ecma/out/ecma}
+if [ ! -x "$program" ]; then
+    echo "no built program $program: (cd crates/ecma && rt run) builds it" >&2
+    exit 2
+fi
 ulimit -Ss "$(ulimit -Hs)" 2>/dev/null
 exec python3 - "$@" <<'END'
-import os, sys
+import sys
 
 sys.dont_write_bytecode = True
 sys.path.insert(0, 'tests')
@@ -44,17 +42,17 @@ def again(piece, after=b'', close=b''):
 
 
 TEXTS = [
-    ('statements', 'statements of all kinds', again(MIXED)),
-    ('statements', 'if (a) ..', again(b'if (a) ', b'b')),
-    ('statements', '{ .. }', again(b'{ ', b'a', b' }')),
-    ('statements', 'a: ..', again(b'a: ', b'b')),
-    ('statements', 'function f() { .. }', again(FUNCTION, b'a', b' }')),
-    ('formatter', 'statements of all kinds', again(MIXED)),
-    ('formatter', 'if (a) ..', again(b'if (a) ', b'b')),
-    ('formatter', '{ .. }', again(b'{ ', b'a', b' }')),
-    ('formatter', 'function f() { .. }', again(FUNCTION, b'a', b' }')),
-    ('formatter', 'a + 1 * b - ..', again(b'a + 1 * b - ', b'a')),
-    ('formatter', 'calls, literals, arrow functions', again(LIST, b'n')),
+    ('outline', 'statements of all kinds', again(MIXED)),
+    ('outline', 'if (a) ..', again(b'if (a) ', b'b')),
+    ('outline', '{ .. }', again(b'{ ', b'a', b' }')),
+    ('outline', 'a: ..', again(b'a: ', b'b')),
+    ('outline', 'function f() { .. }', again(FUNCTION, b'a', b' }')),
+    ('format', 'statements of all kinds', again(MIXED)),
+    ('format', 'if (a) ..', again(b'if (a) ', b'b')),
+    ('format', '{ .. }', again(b'{ ', b'a', b' }')),
+    ('format', 'function f() { .. }', again(FUNCTION, b'a', b' }')),
+    ('format', 'a + 1 * b - ..', again(b'a + 1 * b - ', b'a')),
+    ('format', 'calls, literals, arrow functions', again(LIST, b'n')),
     ('scopes', 'a + 1 * b - ..', again(b'a + 1 * b - ', b'a')),
     ('scopes', 'calls, literals, arrow functions', again(LIST, b'n')),
     ('template', 'text {{ a.b(c) }} ..', again(b'text {{ a.b(c) }} ')),
@@ -66,7 +64,7 @@ def sizes_of(text_name):
 
 
 def program(name):
-    return [os.path.join(sys.argv[1], name) if len(sys.argv) > 1 else 'crates/%s/out/%s' % (name, name)]
+    return [sys.argv[1] if len(sys.argv) > 1 else 'crates/ecma/out/ecma', name]
 
 
 WIDTHS = 10, 32, -7, -7, -5, 9

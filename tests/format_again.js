@@ -1,12 +1,13 @@
 // Looks that layouts are read again as the same, and are their own layouts.
 //
-//     node tests/format_again.js                           rows, and the text of crates/formatter
-//     node tests/format_again.js FORMATTER                 texts of tests
-//     node tests/format_again.js FORMATTER FILE ..         files
-//     node tests/format_again.js FORMATTER expr FILE ..    expressions in files: statements, and values that are declared
+//     node tests/format_again.js                           rows, and the text tests/ecma/format.in
+//     node tests/format_again.js ECMA                      texts of tests
+//     node tests/format_again.js ECMA FILE ..              files
+//     node tests/format_again.js ECMA expr FILE ..         expressions in files: statements, and values that are declared
 //
-// FORMATTER is the built program. It is run on each text that acorn reads, and then on what it has written. That must have
-// the same tokens and comments in the same order, but for semicolons, and the same tree for acorn, and stay as it is. The
+// ECMA is the built program. `ecma format` is run on each text that acorn reads, and then on what it has written. That must have
+// the same tokens and comments in the same order, but for semicolons, commas, and blanks around lines of comments, and the
+// same tree for acorn, and stay as it is. The
 // texts of tests are those of tests/program_texts.py; the rows of tests/short_programs.txt; and what is in one another of
 // these, with comments and line breaks among their tokens. Without a program, the layouts are those that rows have. Left out
 // is what acorn doesn't read, and what is refused here, of which the messages are counted. The status is 1 where anything
@@ -35,15 +36,15 @@ const AROUND = {
   private: ['class A { #a; b() { function c() { (', ') } } }', 'script'],
 };
 
-const [formatter, ...given] = process.argv.slice(2);
+const [ecma, ...given] = process.argv.slice(2);
 const report = new Report();
 const messages = new Map();
 
 /** What is written of a text; or nothing, where it is refused. */
 function layoutOf(text, words) {
-  const run = spawnSync(formatter, words, { input: text, encoding: 'utf8', maxBuffer: 1 << 30 });
+  const run = spawnSync(ecma, ['format', ...words], { input: text, encoding: 'utf8', maxBuffer: 1 << 30 });
   if (run.status !== 0) {
-    const message = run.stderr.split('\n')[0].replace(/^\d+:\d+: /, '') || `status ${run.status} ${run.signal}`;
+    const message = run.stderr.split('\n')[0].replace(/^<stdin>:\d+:\d+: /, '') || `status ${run.status} ${run.signal}`;
     messages.set(message, (messages.get(message) || 0) + 1);
     return null;
   }
@@ -69,11 +70,11 @@ function compare(name, text, words, readBy) {
 
 function compareProgram(name, text) {
   const goal = goalOf(text) || 'script';
-  compare(name, text, [goal], program => wholeText(program, goal));
+  compare(name, text, [`--${goal}`], program => wholeText(program, goal));
 }
 
 function compareExpression(text, mode) {
-  compare(text.slice(0, 200), text, ['expr', mode], expr => exprText(expr, mode));
+  compare(text.slice(0, 200), text, ['--expr', '--script'], expr => exprText(expr, mode));
 }
 
 /** Compares a text with a layout that is written, as acorn reads them. */
@@ -87,9 +88,9 @@ function compareWritten(text, layout, readBy) {
 }
 
 function compareRows() {
-  const [text, layout] = ['stdin', 'stdout'].map(name => readFileSync(`crates/formatter/${name}`, 'utf8'));
+  const [text, layout] = ['in', 'out'].map(name => readFileSync(`tests/ecma/format.${name}`, 'utf8'));
   compareWritten(text, layout, program => wholeText(program, 'script'));
-  for (const { calls, text, answers } of rowsOf('programs_laid_out.rows')) {
+  for (const { calls, text, answers } of [...rowsOf('programs_laid_out.rows'), ...rowsOf('programs_in_style.rows')]) {
     compareWritten(text, answers[0], program => wholeText(program, calls === 'client: module layout' ? 'module' : 'script'));
   }
   for (const { text, answers } of rowsOf('layouts.rows')) {
@@ -124,7 +125,9 @@ function spaced(text, next) {
 
 function compareTexts() {
   for (const [mode, text] of JSON.parse(execFileSync('python3', ['-c', EXPRESSIONS], { cwd: __dirname }))) {
-    compareExpression(text, mode);
+    if (mode === 'script') {
+      compareExpression(text, mode);
+    }
   }
   const [texts, next] = [textsRead(), chances(1)];
   texts.forEach(text => compareProgram(text, text));
@@ -148,7 +151,7 @@ if (given[0] === 'expr') {
   compareExpressions(given.slice(1));
 } else if (given.length > 0) {
   compareFiles(given);
-} else if (formatter) {
+} else if (ecma) {
   compareTexts();
 } else {
   compareRows();

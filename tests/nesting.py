@@ -1,13 +1,12 @@
 #!/usr/bin/env python3
-"""Texts that are nested deeply are refused, and crash no program that has a bound.
+"""Texts that are nested deeply are refused by `ecma` and by `show_expr`, and crash them in no stack.
 
-    tests/nesting.py [FOLDER]     a folder with other builds of formatter, statements, show_expr and rows, to run in their place
+    tests/nesting.py [FOLDER]     a folder with other builds of ecma, show_expr and rows, to run in their place
 
-The forms are all ways in which an expression or a pattern can be nested. Each is nested 1,000,000 deep, closed and cut off in the middle:
-`formatter`, and for patterns `statements`, whose bound is `LEVELS` of the crate reporting, refuse it within 8 MB of stack. Each is nested 200 deep:
-then it is read by these, and by `show_expr`, which has no bound. Then each expression is nested as deeply as the bound allows, and `rows` reads it
-into boxes, makes a pattern of it where it is one, and drops it, in 8 MB too. Prints a table of the least stack in which each form is refused, and
-a line for each run that ended otherwise. Status 1 if there is one.
+The forms are all ways in which an expression or a pattern can be nested. Each is nested 100,000 deep, closed and cut off in the middle: `ecma format
+--expr`, for patterns `ecma outline`, and `show_expr`, whose bound is what the stack has room for, refuse it in 1, 8 and 64 MB of stack. Each is nested as
+deeply as that bound allows: then these read it. Then each expression is nested as deeply as `LEVELS` of the crate reporting allows, and `rows` reads it
+into boxes, makes a pattern of it where it is one, and drops it, in 8 MB. Prints a line for each run that ended otherwise. Status 1 if there is one.
 """
 import os
 import re
@@ -17,12 +16,12 @@ import sys
 from collections import namedtuple
 
 sys.dont_write_bytecode = True
-from measure import print_row
 
-DEEP, SHALLOW = 1_000_000, 200
-WIDTHS = 20, -11, -8
+DEEP = 100_000
 STACK = 8 << 20
-REFUSED = 1
+STACKS = 1 << 20, STACK, 64 << 20
+# The statuses of `ecma` and of `show_expr`.
+REFUSED, SHOW_REFUSED = 1, 2
 TOO_DEEP = b': nested too deeply'
 
 # What is before the form, what opens it, the middle, what closes it, what is after it, and how many levels each takes.
@@ -65,18 +64,6 @@ def program(name):
     return path
 
 
-def least_stack(command, text):
-    """The least stack, in kB, in which the text is refused."""
-    low, high = 0, STACK >> 10
-    while high - low > 16:
-        middle = (low + high) // 2
-        if run(command, text, middle << 10)[0] == REFUSED:
-            high = middle
-        else:
-            low = middle
-    return high
-
-
 def check_boxes(rows, form, depth):
     """Answers the run, if the form isn't read into boxes so deep."""
     # The hook `hook_records` takes one token for a block.
@@ -88,21 +75,33 @@ def check_boxes(rows, form, depth):
     return [] if is_read else ['%d deep, in boxes: status %d, %s' % (depth, status, line.decode())]
 
 
-def check(form, bounded, unbounded, wrap, levels):
-    """Prints the form's line of the table, and answers the runs that ended otherwise."""
+def bound(stack):
+    """How many levels the programs allow on a stack."""
+    with open('crates/show/src/levels.rt') as source:
+        text = source.read()
+    at_most = int(re.search(r'const BYTES: usize = ([\d_]+);', text)[1])
+    return (stack - (256 << 10)) // at_most
+
+
+def check(form, ecma, show, wrap):
+    """Answers the runs of a form that ended otherwise."""
     wrong = []
     is_told = form.opens != RECORDS
-    for is_closed in True, False:
-        status, message = run(bounded, wrap % text_of(form, DEEP, is_closed))
-        if status != REFUSED or is_closed and is_told and TOO_DEEP not in message:
-            wrong.append('%d deep, %s: status %d, %s' % (DEEP, 'closed' if is_closed else 'cut', status, message.decode()[:200]))
-    shallow = text_of(form, SHALLOW)
-    for command, text in (bounded, wrap % shallow), (unbounded, shallow):
-        status, message = run(command, text)
-        if status not in (0, 1) or TOO_DEEP in message:
-            wrong.append('%d deep, by %s: status %d, %s' % (SHALLOW, command[0], status, message.decode()[:200]))
-    stack = least_stack(bounded, wrap % text_of(form, levels * 2))
-    print_row(WIDTHS, wrap % text_of(form, 1), stack, stack * 1024 // levels)
+    for stack in STACKS:
+        for is_closed in True, False:
+            text = text_of(form, DEEP, is_closed)
+            status, message = run(ecma, wrap % text, stack)
+            if status != REFUSED or is_closed and is_told and TOO_DEEP not in message:
+                wrong.append('%d deep, %s, in %d MB: status %d, %s' % (DEEP, ecma[0], stack >> 20, status, message.decode()[:200]))
+            status, message = run(show, text, stack)
+            if status != SHOW_REFUSED:
+                wrong.append('%d deep, %s, in %d MB: status %d, %s' % (DEEP, show[0], stack >> 20, status, message.decode()[:200]))
+        depth = bound(stack) // form.levels - 4
+        text = text_of(form, depth)
+        for command, text in (ecma, wrap % text), (show, text):
+            status, message = run(command, text, stack)
+            if status not in (0, 1) or TOO_DEEP in message:
+                wrong.append('%d deep, %s, in %d MB: status %d, %s' % (depth, command[0], stack >> 20, status, message.decode()[:200]))
     return wrong
 
 
@@ -110,14 +109,13 @@ def main():
     os.chdir(os.path.join(os.path.dirname(os.path.abspath(__file__)), '..'))
     with open('crates/reporting/src/lib.rt') as source:
         levels = int(re.search(r'const LEVELS: usize = ([\d_]+);', source.read())[1])
-    show, rows = program('show_expr'), program('rows')
+    ecma, show, rows = program('ecma'), program('show_expr'), program('rows')
     wrong = []
-    print_row(WIDTHS, 'nested', 'kB for %d' % levels, 'a level')
     for form in EXPRS:
-        wrong += check(form, [program('formatter'), 'expr'], [show, 'expr', 'script'], '%s', levels)
+        wrong += check(form, [ecma, 'format', '--expr'], [show, 'expr', 'script'], '%s')
         wrong += check_boxes(rows, form, levels // form.levels - 2)
     for form in PATS:
-        wrong += check(form, [program('statements')], [show, 'pat', 'script'], 'var %s = 0', levels)
+        wrong += check(form, [ecma, 'outline'], [show, 'pat', 'script'], 'var %s = 0')
     print('\n'.join(wrong + ['%d forms; %d runs ended otherwise' % (len(EXPRS + PATS), len(wrong))]))
     return 1 if wrong else 0
 

@@ -3,12 +3,12 @@
 
     tests/readme.py
 
-- Each command after `$` prints what is shown below it. The README's examples are the files of the crates `examples`,
-  which prints what the README says, and `lint_example` (`rt ci` runs them).
+- Each command after `$` prints what is shown below it. The README's example is the file of the crate `examples`, which
+  prints what the README says, and that of API.md the file of `lint_example` (`rt ci` runs them).
 - Links, paths and names of files are those of the repository; commands of `rt` are those that its help names.
 - A name in backquotes is a word of the sources, and one with parentheses a function there. DIFFERENCES.md also has names of the Rust crate.
 - The lines of code in CONTRIBUTING.md are lines of the sources. GRAMMAR.md names each production of Grammar.antt and no other.
-- The ring has as many functions as the documents say. The README has at most 900 words, and docs/ 20,000.
+- The ring has as many functions as the documents say. The README has at most 900 words, and docs/ 24,000.
 
 Prints what isn't so. Status 0 if all of that holds. Run it after `rt ci` or `rt run`, so that ./show_expr has its proved program.
 """
@@ -51,15 +51,17 @@ def shown_commands(text):
 
 
 def example_faults(readme):
-    for path in ('crates/examples/src/main.rt', 'crates/examples/stdout', 'crates/lint_example/src/main.rt'):
+    for path in ('crates/examples/src/main.rt', 'crates/examples/stdout'):
         if indented(read(path)) not in readme:
             yield 'README.md has not the text of ' + path
+    if indented(read('crates/lint_example/src/main.rt')) not in read('docs/API.md'):
+        yield 'docs/API.md has not the text of lint_example'
 
 
 def command_faults(path, text, help_text):
     for command, said in shown_commands(text):
         ran = subprocess.run(command, shell=True, capture_output=True, text=True)
-        if (ran.returncode, ran.stdout) != (0, said):
+        if ran.returncode > 1 or ran.stdout != said:
             yield '%s: %s prints %s' % (path, command, ran.stdout)
     for word in re.findall(r'(?:`|^    |&& |\| )rt ([a-z-]+)', text, re.M):
         if not re.search(r'\b%s\b' % word, help_text):
@@ -73,6 +75,9 @@ def path_faults(path, text, there):
     named = re.findall(r'(?<![\w/.-])(?:\./|\.ci/|crates/|tests/|docs/)[\w./+-]*\w', text)
     named += re.findall(r'(?<![\w/.-])[\w/+-]+\.(?:%s)\b' % ENDINGS, text)
     for name in named:
+        built = re.match(r'crates/\w+/out(?=/)', name)
+        if built and not os.path.exists(built.group()):
+            continue
         if not OTHERS.search(name) and not os.path.exists(name) and not any(f.endswith('/' + name) for f in there):
             yield '%s: there is no %s' % (path, name)
 
@@ -129,7 +134,7 @@ def main():
                 faults.append('%s: the ring has not %s functions' % (path, count))
     faults += code_faults('docs/CONTRIBUTING.md', texts['docs/CONTRIBUTING.md'], sources)
     faults += grammar_faults(read('crates/swc_grammar/specs/Grammar.antt'), texts['docs/GRAMMAR.md'])
-    for path, limit, size in (('README.md', 900, len(texts['README.md'].split())), ('docs', 20000, sum(len(texts[p].split()) for p in DOCS))):
+    for path, limit, size in (('README.md', 900, len(texts['README.md'].split())), ('docs', 24000, sum(len(texts[p].split()) for p in DOCS))):
         if size > limit:
             faults.append('%s has %d words, more than %d' % (path, size, limit))
     print('\n'.join(faults) or 'the documents show what is there')

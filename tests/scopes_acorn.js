@@ -1,7 +1,7 @@
-// Compares the names that the program `scopes` lists with those of an analysis of acorn's tree.
+// Compares the names that `ecma scopes` lists with those of an analysis of acorn's tree.
 //
-//     node tests/scopes_acorn.js                    the program's own text, and the rows of names.rows
-//     node tests/scopes_acorn.js PROGRAM FILE ..    files, on each of which PROGRAM, a built `scopes`, is run
+//     node tests/scopes_acorn.js                    tests/ecma/scopes.in, and the rows of names.rows
+//     node tests/scopes_acorn.js PROGRAM FILE ..    files, on each of which PROGRAM, a built `ecma`, is run
 //
 // A file is read as the first of a script, a module and a CommonJS module that acorn reads. The status is 1 where
 // anything differs. Run it at the top of the repository; node needs its package acorn.
@@ -159,16 +159,16 @@ function bindingText(binding, placeOf) {
   return binding === null ? '' : ` ${binding === 'free' ? binding : `bound ${placeOf(binding)}`}`;
 }
 
-/** The names of a text, as the program writes them: with lines, and columns in bytes. */
+/** The names of a text, as the program writes them: with lines, and columns in UTF-16 units. */
 function namesText(text, goal) {
-  const starts = [0, ...Array.from(text.matchAll(/\r\n|\r|\n/g), end => end.index + end[0].length)];
+  const starts = [0, ...Array.from(text.matchAll(/\r\n|[\r\n\u2028\u2029]/g), end => end.index + end[0].length)];
   let line = 0;
   const placeOf = ({ start }) => {
     line = starts[line] <= start ? line : 0;
     while (starts[line + 1] <= start) {
       line += 1;
     }
-    return `${line + 1}:${Buffer.byteLength(text.slice(starts[line], start)) + 1}`;
+    return `${line + 1}:${start - starts[line] + 1}`;
   };
   const lineOf = (node, how, binding) => `${placeOf(node)} ${node.name} ${how}${bindingText(binding, placeOf)}\n`;
   return namesOf(text, goal, lineOf).join('');
@@ -182,8 +182,8 @@ function namesAnswer(text, goal) {
 }
 
 function compareRows(report) {
-  const text = readFileSync('crates/scopes/stdin', 'utf8');
-  report.compare('crates/scopes', namesText(text, 'module'), readFileSync('crates/scopes/stdout', 'utf8'));
+  const text = readFileSync('tests/ecma/scopes.in', 'utf8');
+  report.compare('tests/ecma/scopes.in', namesText(text, 'module'), readFileSync('tests/ecma/scopes.out', 'utf8'));
   for (const { calls, text, answers } of rowsOf('names.rows')) {
     report.compare(text, namesAnswer(text, GOALS[calls]), answers[0]);
   }
@@ -194,7 +194,7 @@ function compareFiles(report, program, files) {
     const text = readFileSync(file, 'utf8');
     const goal = goalOf(text);
     if (goal) {
-      report.compare(`${file} (${goal})`, namesText(text, goal), runOn(program, text, [goal]));
+      report.compare(`${file} (${goal})`, namesText(text, goal), runOn(program, text, ['scopes', `--${goal}`]));
     } else {
       report.skip();
     }

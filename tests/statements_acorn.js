@@ -1,11 +1,11 @@
 // Compares the trees of programs with those that acorn reads. The expected trees are in crates/rows/data/programs.trees
-// and in what the program `statements` has to print; acorn's are printed by acorn_trees.js.
+// and in tests/ecma/outline.out; acorn's are printed by acorn_trees.js.
 //
 //     node tests/statements_acorn.js                     the trees that are written in tests
 //     node tests/statements_acorn.js PROGRAM             short programs, and such in one another
 //     node tests/statements_acorn.js PROGRAM FILE ..     files
 //
-// PROGRAM is a built `statements`. Without it the programs of programs.trees and the program's own text are compared,
+// PROGRAM is a built `ecma`. Without it the programs of programs.trees and tests/ecma/outline.in are compared,
 // and acorn has to refuse those of refused_programs.rows. With it the program is run on each row of
 // short_programs.txt, and on programs that are put together of those that both read; or on each file that acorn reads as
 // a script, a module or a CommonJS module. The status is 1 where anything differs. Run it at the top of the repository; node needs
@@ -22,7 +22,10 @@ const { rowsOf, runOn, Report } = require('./acorn_rows.js');
 const { chances, nested, shortPrograms, textsRead } = require('./short_programs.js');
 
 const PROGRAMS = 'crates/rows/data/programs.trees';
-const OWN = 'crates/statements';
+const OWN = 'tests/ecma/outline';
+
+/** The words by which the program writes the tree of a script. */
+const OUTLINE = ['outline', '--script'];
 
 /** Programs that are refused as scripts, and are modules. */
 const MODULES = ['import a from "b"', 'export default 1'];
@@ -38,7 +41,7 @@ function acornTree(text, goal = 'script') {
 
 function compareTables(report) {
   const programs = readFileSync(PROGRAMS, 'latin1').split('====\n').slice(1).map(row => row.split('----\n'));
-  programs.push([readFileSync(`${OWN}/stdin`, 'latin1'), readFileSync(`${OWN}/stdout`, 'latin1')]);
+  programs.push([readFileSync(`${OWN}.in`, 'latin1'), readFileSync(`${OWN}.out`, 'latin1')]);
   for (const [text, wanted] of programs) {
     report.compare(text.split('\n', 1)[0], acornTree(text), wanted);
   }
@@ -75,7 +78,7 @@ function compareFiles(report, program, files) {
     const text = readFileSync(file, 'utf8');
     const goal = goalOf(text);
     if (goal) {
-      report.compare(`${file} (${goal})`, programTree(text, goal), runOn(program, text, [goal]));
+      report.compare(`${file} (${goal})`, programTree(text, goal), runOn(program, text, ['outline', `--${goal}`]));
     } else {
       report.skip();
     }
@@ -96,7 +99,7 @@ function markOf(acorn, here) {
 
 function compareShort(report, program) {
   for (const { mark, text } of shortPrograms()) {
-    report.compare(text, markOf(acornTree(text), runOn(program, text)), mark);
+    report.compare(text, markOf(acornTree(text), runOn(program, text, OUTLINE)), mark);
   }
 }
 
@@ -107,7 +110,7 @@ function compareNested(report, program, count) {
     const text = nested(texts, next, 1 + next(4));
     const wanted = acornTree(text);
     if (wanted.startsWith('program\n')) {
-      report.compare(text, wanted, runOn(program, text));
+      report.compare(text, wanted, runOn(program, text, OUTLINE));
     } else {
       report.skip();
     }

@@ -9,6 +9,8 @@ use swc_ecma_parser::context::span::Span;
 pub(crate) enum Piece<'a> {
     /// The program.
     Program,
+    /// The fields of the comments and the tokens, where they are asked for.
+    Comments,
     /// A text as it is.
     Text(&'static str),
     /// What begins a node: its type and its place.

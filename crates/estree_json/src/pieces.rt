@@ -26,6 +26,7 @@ impl<'a> Pieces<'a> {
             Goal::Script | Goal::CommonJs => "script",
         };
         self.word("sourceType", kind);
+        self.put(Piece::Comments);
         self.close();
     }
 

@@ -19,6 +19,23 @@ impl<'a> Positions<'a> {
         Ok(Positions { lines: Some(lines) })
     }
 
+    /// The same with lines also where the text is ASCII.
+    pub(crate) fn with_lines(alloc: Global, text: &'a str) -> Result<Positions<'a>, AllocError> {
+        let lines = Lines::new(alloc, text)?;
+        Ok(Positions { lines: Some(lines) })
+    }
+
+    /// The line of a byte, counted from 1, and its column, counted from 0 in UTF-16 units.
+    pub(crate) fn place(&self, at: BytePos) -> (usize, usize) {
+        match &self.lines {
+            Some(lines) => {
+                let found = lines.position(at.0 as usize);
+                (found.line, found.units)
+            }
+            None => (1, at.0 as usize),
+        }
+    }
+
     /// How many UTF-16 units are before a byte of the text.
     pub(crate) fn at(&self, at: BytePos) -> u32 {
         match &self.lines {

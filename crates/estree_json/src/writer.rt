@@ -3,24 +3,43 @@ use crate::output::Output;
 use crate::piece::Piece;
 use crate::pieces::Pieces;
 use crate::positions::Positions;
+use statement_trees::texts::{program_comments, read_tokens};
 use statement_trees::tree::Program;
 use std::alloc::{AllocError, Global};
-use swc_ecma_parser::context::span::Span;
+use swc_ecma_parser::context::span::{BytePos, Span};
+use swc_ecma_parser::input::token::TokenAndSpan;
+use swc_lexer::comments::{Comment, CommentKind};
 
 /// A block has at least so many bytes, unless it is the last one.
 const BLOCK: usize = 1 << 16;
+
+/// What is written beside the nodes.
+#[derive(Clone, Copy)]
+pub struct Extras {
+    /// The field `loc` of each node: lines, and columns in UTF-16 units.
+    pub loc: bool,
+    /// The field `range` of each node.
+    pub range: bool,
+    /// The field `comments` of the program.
+    pub comments: bool,
+    /// The field `tokens` of the program, as ESLint's parser has it.
+    pub tokens: bool,
+}
 
 /// Writes the JSON of a program block by block.
 ///
 /// No call recurs over the tree: what is to be written yet is a list of pieces. So a tree may be as deep as it is.
 #[derive(Drop)]
 pub struct TreeWriter<'a> {
-    positions: Positions<'a>,
-    out: Output,
+    pub(crate) extras: Extras,
+    comments: Vec<Comment>,
+    pub(crate) tokens: Vec<TokenAndSpan>,
+    pub(crate) positions: Positions<'a>,
+    pub(crate) out: Output,
     /// What is to be written yet, the next piece last.
     due: Vec<Piece<'a>>,
     /// The pieces of what is written now.
-    pieces: Pieces<'a>,
+    pub(crate) pieces: Pieces<'a>,
 }
 
 impl<'a> TreeWriter<'a> {
@@ -30,8 +49,43 @@ impl<'a> TreeWriter<'a> {
         source: &'a str,
         program: &'a Program,
     ) -> Result<TreeWriter<'a>, AllocError> {
+        let extras = Extras {
+            loc: false,
+            range: false,
+            comments: false,
+            tokens: false,
+        };
+        TreeWriter::with(alloc, source, program, extras)
+    }
+
+    /// The same, with what acorn writes by `locations`, `ranges` and `onComment`, and with tokens. The only error is out
+    /// of memory.
+    pub fn with(
+        alloc: Global,
+        source: &'a str,
+        program: &'a Program,
+        extras: Extras,
+    ) -> Result<TreeWriter<'a>, AllocError> {
+        let tokens = if extras.comments || extras.tokens {
+            read_tokens(alloc, source, program.goal)?
+        } else {
+            Vec::new(alloc)
+        };
+        let comments = if extras.comments {
+            program_comments(alloc, source, &tokens)?
+        } else {
+            Vec::new(alloc)
+        };
+        let positions = if extras.loc {
+            Positions::with_lines(alloc, source)?
+        } else {
+            Positions::new(alloc, source)?
+        };
         Ok(TreeWriter {
-            positions: Positions::new(alloc, source)?,
+            extras,
+            comments,
+            tokens,
+            positions,
             out: Output {
                 alloc,
                 text: String::new(alloc),
@@ -110,6 +164,10 @@ impl<'a> TreeWriter<'a> {
                 self.out.put("\"");
             }
             Piece::Cooked(quasi) => self.out.put_cooked(quasi),
+            Piece::Comments => {
+                self.write_comments();
+                self.write_tokens();
+            }
             _ => return false,
         }
         true
@@ -124,6 +182,80 @@ impl<'a> TreeWriter<'a> {
         self.out.put_position(start);
         self.out.put(",\"end\":");
         self.out.put_position(end);
+        self.write_extras(span, start, end);
+    }
+
+    /// Writes the other forms of a place that are asked for.
+    pub(crate) fn write_extras(&mut self, span: Span, start: u32, end: u32) {
+        if self.extras.loc {
+            self.write_point(",\"loc\":{\"start\":", span.lo);
+            self.write_point(",\"end\":", span.hi);
+            self.out.put("}");
+        }
+        if self.extras.range {
+            self.out.put(",\"range\":[");
+            self.out.put_position(start);
+            self.out.put(",");
+            self.out.put_position(end);
+            self.out.put("]");
+        }
+    }
+
+    /// Writes a line and a column.
+    fn write_point(&mut self, before: &str, at: BytePos) {
+        let (line, column) = self.positions.place(at);
+        self.out.put(before);
+        self.out.failed |= write!(
+            self.out.text,
+            "{{\"line\":{line},\"column\":{column}}}"
+        ).is_err();
+    }
+
+    /// Writes the comments, if they are asked for.
+    fn write_comments(&mut self) {
+        if !self.extras.comments {
+            return;
+        }
+        self.out.put(",\"comments\":[");
+        for number in 0..self.comments.len() {
+            if number > 0 {
+                self.out.put(",");
+            }
+            if let Some(comment) = self.comments.get(number).copied() {
+                self.write_comment(comment);
+            }
+        }
+        self.out.put("]");
+    }
+
+    /// Writes a comment: what acorn has of it.
+    fn write_comment(&mut self, comment: Comment) {
+        let Span { lo, hi } = comment.span;
+        let (start, end) = (self.positions.at(lo), self.positions.at(hi));
+        let place = lo.0 as usize;
+        let (kind, sign, cut) = match comment.kind {
+            CommentKind::Block => ("Block", 2, 2),
+            CommentKind::Line | CommentKind::Hashbang => ("Line", 2, 0),
+            CommentKind::Html if self.pieces.source.as_bytes().get(place) == Some(&b'<') => (
+                "Line", 4, 0,
+            ),
+            CommentKind::Html => ("Line", 3, 0),
+        };
+        let (first, last) = (
+            place.saturating_add(sign),
+            (hi.0 as usize).saturating_sub(cut),
+        );
+        self.out.put("{\"type\":\"");
+        self.out.put(kind);
+        self.out.put("\",\"value\":");
+        self.out
+            .put_string(self.pieces.source.get(first..last).unwrap_or(""));
+        self.out.put(",\"start\":");
+        self.out.put_position(start);
+        self.out.put(",\"end\":");
+        self.out.put_position(end);
+        self.write_extras(comment.span, start, end);
+        self.out.put("}");
     }
 
     /// Moves the pieces of what is written now before all that is due.

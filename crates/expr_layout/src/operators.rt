@@ -1,24 +1,25 @@
-// What is noted at operators, at links of chains, and at properties.
-use crate::marks::{Gap, LINE, Marks};
-use crate::units::body_of;
+// What is noted at expressions: at operators, arrow functions and words, and by other modules at what else they are.
+use crate::arguments::{is_open_template, mark_arguments};
+use crate::assigning::mark_assignment;
+use crate::chains::mark_chain;
+use crate::lists::{
+    mark_array, mark_object, mark_params, mark_pat_array, mark_pat_object, set_blanks,
+};
+use crate::looks::{
+    arguments_of, bare, goes_on, is_bin, is_cond, is_inlined, is_logical, is_of_kind, member_of,
+    object_of, operator_of,
+};
+use layout_document::marks::{BARE, Gap, Group, LINE, Marks, PLAIN, Place, Shape};
+use layout_document::roles::{Lines, Role};
+use layout_document::units::Kind;
 use std::alloc::{AllocError, Global};
-use swc_ecma_parser::ast::expr::{BlockStmtOrExpr, Callee, MemberProp, OptChainBase};
-use swc_ecma_parser::ast::prop::PropName;
+use swc_ecma_parser::ast::expr::{BlockStmtOrExpr, MemberProp, Tpl};
 use swc_ecma_parser::ast::spanned::Spanned;
-use swc_ecma_parser::context::operator::UnaryOp;
+use swc_ecma_parser::context::operator::{BinaryOp, UnaryOp};
 use swc_ecma_parser::context::span::{BytePos, Span};
-use swc_ecma_parser::nodes::node::{ExprId, Node, PatPropNode, PropNode};
+use swc_ecma_parser::nodes::node::{ExprId, Node, PatPart};
 use swc_ecma_parser::nodes::nodes::Nodes;
 use swc_ecma_parser::nodes::reached::reached;
-
-/// What is known of a node: of a link of a chain, how many members are called in it and in the links before it; whether
-/// the node `goes_on` with the group of the node that it is a part of; and whether that group is a chain.
-#[derive(Clone, Copy)]
-struct Known {
-    calls: usize,
-    goes_on: bool,
-    is_in_chain: bool,
-}
 
 /// Notes what is known of each node that is reached from the expression.
 pub fn mark_nodes<B: Spanned + Drop>(
@@ -27,332 +28,377 @@ pub fn mark_nodes<B: Spanned + Drop>(
     nodes: &Nodes<B, B, B>,
     expr: ExprId,
 ) -> Result<(), AllocError> {
-    let mut numbers = Vec::new(alloc);
-    for part in &reached(nodes, &expr)? {
-        numbers.push(part.number())?;
+    let found = reached(nodes, &expr)?;
+    for part in found.iter().rev() {
+        mark_node(alloc, marks, nodes, part.number())?;
     }
-    mark_numbers(alloc, marks, nodes, &numbers)
+    Ok(())
 }
 
-/// Notes what is known of all nodes.
+/// Notes what is known of all nodes, of which each is after its parts.
 pub fn mark_all_nodes<B: Spanned + Drop>(
     alloc: Global,
     marks: &mut Marks,
     nodes: &Nodes<B, B, B>,
 ) -> Result<(), AllocError> {
-    let mut numbers = Vec::new(alloc);
-    for number in 0..nodes.len() {
-        numbers.push(number)?;
+    for number in (0..nodes.len()).rev() {
+        mark_node(alloc, marks, nodes, number)?;
     }
-    mark_numbers(alloc, marks, nodes, &numbers)
+    Ok(())
 }
 
-/// Notes what is known of the nodes of these numbers, of which each is after its parts.
-fn mark_numbers<B: Spanned + Drop>(
+/// Notes what is known of a node, which is noted before its parts.
+fn mark_node<B: Spanned + Drop>(
     alloc: Global,
     marks: &mut Marks,
     nodes: &Nodes<B, B, B>,
-    numbers: &[usize],
+    number: usize,
 ) -> Result<(), AllocError> {
-    let mut known = Vec::new(alloc);
-    let nothing = Known {
-        calls: 0,
-        goes_on: false,
-        is_in_chain: false,
+    let expr = ExprId(number);
+    let Some(node) = nodes.node(expr) else {
+        return Ok(());
     };
-    known.resize(nodes.len(), nothing)?;
-    for number in numbers {
-        count_calls(&mut known, nodes, *number);
+    match node {
+        Node::Assign { left, right, .. } => {
+            mark_assignment(alloc, marks, nodes, expr, *left, *right)?
+        }
+        Node::Object { span, props, .. } if !props.is_empty() => {
+            mark_object(alloc, marks, nodes, *span, props)?
+        }
+        Node::Array { span, elems, .. } if !elems.is_empty() => {
+            mark_array(marks, nodes, expr, *span, elems)
+        }
+        Node::PatObject { span, props } if !props.is_empty() => {
+            mark_pat_object(marks, nodes, expr, *span, props)
+        }
+        Node::PatArray { span, elems } if !elems.is_empty() => {
+            mark_pat_array(marks, nodes, *span, elems)
+        }
+        Node::PatAssign {
+            left: PatPart::Pat(left),
+            ..
+        } => {
+            marks.set_role(ExprId(left.0), Role::Parameter);
+            mark_operator(marks, nodes, expr, node)
+        }
+        _ if object_of(node).is_some() => mark_link(alloc, marks, nodes, expr, node)?,
+        _ => mark_operator(marks, nodes, expr, node),
     }
-    for number in numbers.iter().rev() {
-        if *number < nodes.len() {
-            let node = nodes.get(*number);
-            mark_group(marks, &mut known, nodes, *number, node);
-            mark_blanks(marks, nodes, node);
+    Ok(())
+}
+
+/// Notes a link of a chain, and the chain at its last link.
+fn mark_link<B: Spanned + Drop>(
+    alloc: Global,
+    marks: &mut Marks,
+    nodes: &Nodes<B, B, B>,
+    expr: ExprId,
+    node: &Node<B, B, B>,
+) -> Result<(), AllocError> {
+    if marks.role(expr) != Role::Link {
+        mark_chain(alloc, marks, nodes, expr)?;
+    }
+    if let Some(args) = arguments_of(node) {
+        mark_arguments(marks, nodes, node, args);
+    }
+    if let Node::TaggedTpl { tpl, .. } = node {
+        mark_template(marks, nodes, tpl);
+    }
+    if let Some(MemberProp::Computed(key)) = member_of(node) {
+        if matches!(nodes.node(key.expr), Some(Node::Num(_))) {
+            marks.shape(marks.at(key.span.lo), BARE);
         }
     }
     Ok(())
 }
 
-/// Counts the members that are called in a link and in what it is a link of, which is counted already.
-fn count_calls<B: Spanned + Drop>(known: &mut [Known], nodes: &Nodes<B, B, B>, number: usize) {
-    if number < nodes.len() {
-        if let Some(object) = object_of(nodes.get(number)) {
-            let before = known.get(object.0).map_or(0, |known| known.calls);
-            let is_call = called_member(nodes, nodes.get(number)).is_some();
-            if let Some(link) = known.get_mut(number) {
-                link.calls = before.saturating_add(usize::from(is_call));
-            }
-        }
-    }
-}
-
-/// What a node is a link of.
-fn object_of<B: Spanned + Drop>(node: &Node<B, B, B>) -> Option<ExprId> {
-    match node {
-        Node::Member(member) => Some(member.obj),
-        Node::Call {
-            callee: Callee::Expr(callee),
-            ..
-        } => Some(*callee),
-        Node::TaggedTpl { tag, .. } => Some(*tag),
-        Node::OptChain(chain) => match &*chain.base {
-            OptChainBase::Member(member) => Some(member.obj),
-            OptChainBase::Call(call) => Some(call.callee),
-        },
-        _ => None,
-    }
-}
-
-/// Where the name of the member is that a node calls, and whether `?.` is before it.
-fn called_member<B: Spanned + Drop>(
-    nodes: &Nodes<B, B, B>,
-    node: &Node<B, B, B>,
-) -> Option<(BytePos, bool)> {
-    let callee = match node {
-        Node::Call { .. } => object_of(node)?,
-        Node::OptChain(chain) => match &*chain.base {
-            OptChainBase::Call(call) => call.callee,
-            _ => return None,
-        },
-        _ => return None,
-    };
-    if callee.0 >= nodes.len() {
-        return None;
-    }
-    match nodes.get(callee.0) {
-        Node::Member(member) => Some((name_place(&member.prop)?, false)),
-        Node::OptChain(chain) => match &*chain.base {
-            OptChainBase::Member(member) => Some((name_place(&member.prop)?, chain.optional)),
-            _ => None,
-        },
-        _ => None,
-    }
-}
-
-/// Where the name of a member is that is after a dot.
-fn name_place(prop: &MemberProp<ExprId>) -> Option<BytePos> {
-    match prop {
-        MemberProp::Ident(name) => Some(name.span.lo),
-        MemberProp::PrivateName(name) => Some(name.span.lo),
-        MemberProp::Computed(_) => None,
-    }
-}
-
-/// Notes the group that a node is, and the lines in it; or those of the group that it goes on with.
-fn mark_group<B: Spanned + Drop>(
+/// Notes what is no assignment, list or link.
+fn mark_operator<B: Spanned + Drop>(
     marks: &mut Marks,
-    known: &mut [Known],
     nodes: &Nodes<B, B, B>,
-    number: usize,
+    expr: ExprId,
     node: &Node<B, B, B>,
 ) {
-    let Some(here) = known.get(number).copied() else {
-        return;
-    };
-    let place = place_of(nodes, ExprId(number)).filter(|_| !here.goes_on);
     match node {
         Node::Bin {
             op,
             left,
             right,
             ..
-        } => {
-            set_operator(marks, nodes, *right, Gap::Blank, LINE);
-            add_group(marks, place);
-            if precedence_of(nodes, *left) == Some(op.precedence()) {
-                go_on(known, *left, false);
-            }
-        }
-        Node::Cond { cons, alt, .. } => {
-            set_operator(marks, nodes, *cons, LINE, Gap::Blank);
-            set_operator(marks, nodes, *alt, LINE, Gap::Blank);
-            add_group(marks, place);
-            if is_cond(nodes, *alt) {
-                go_on(known, *alt, false);
-            }
-        }
-        _ => {
-            let is_in_chain = here.is_in_chain || !here.goes_on && 2 <= here.calls;
-            if let Some(object) = object_of(node) {
-                go_on(known, object, is_in_chain);
-            }
-            if is_in_chain {
-                mark_link(marks, nodes, node, place);
-            }
-        }
-    }
-}
-
-/// Notes the group that a link of a chain is, and the line before the dot of the member that it calls.
-fn mark_link<B: Spanned + Drop>(
-    marks: &mut Marks,
-    nodes: &Nodes<B, B, B>,
-    node: &Node<B, B, B>,
-    place: Option<Span>,
-) {
-    add_group(marks, place);
-    mark_called(marks, called_member(nodes, node));
-}
-
-/// Notes the line before the dot of a member that is called.
-fn mark_called(marks: &mut Marks, member: Option<(BytePos, bool)>) {
-    if let Some((name, is_optional)) = member {
-        let signs = if is_optional { 2 } else { 1 };
-        let gap = Gap::Line {
-            is_blank: false,
-            is_deeper: true,
-        };
-        marks.set(marks.at(name).saturating_sub(signs), gap);
-    }
-}
-
-fn add_group(marks: &mut Marks, place: Option<Span>) {
-    if let Some(place) = place {
-        marks.add_group_at(place);
-    }
-}
-
-/// Notes that a node goes on with the group of what it is a part of.
-fn go_on(known: &mut [Known], expr: ExprId, is_in_chain: bool) {
-    if let Some(part) = known.get_mut(expr.0) {
-        part.goes_on = true;
-        part.is_in_chain = is_in_chain;
-    }
-}
-
-fn precedence_of<B: Spanned + Drop>(nodes: &Nodes<B, B, B>, expr: ExprId) -> Option<u8> {
-    if expr.0 >= nodes.len() {
-        return None;
-    }
-    match nodes.get(expr.0) {
-        Node::Bin { op, .. } => Some(op.precedence()),
-        _ => None,
-    }
-}
-
-fn is_cond<B: Spanned + Drop>(nodes: &Nodes<B, B, B>, expr: ExprId) -> bool {
-    expr.0 < nodes.len() && matches!(nodes.get(expr.0), Node::Cond { .. })
-}
-
-/// Where an expression is, if it is one of the nodes.
-fn place_of<B: Spanned + Drop>(nodes: &Nodes<B, B, B>, expr: ExprId) -> Option<Span> {
-    if nodes.has_expr(expr) {
-        Some(nodes.span(expr))
-    } else {
-        None
-    }
-}
-
-fn set_operator<B: Spanned + Drop>(
-    marks: &mut Marks,
-    nodes: &Nodes<B, B, B>,
-    operand: ExprId,
-    before: Gap,
-    after: Gap,
-) {
-    if let Some(place) = place_of(nodes, operand) {
-        marks.set_operator(place.lo, before, after);
-    }
-}
-
-/// Notes a blank on each side of an operator.
-fn set_blanks<B: Spanned + Drop>(marks: &mut Marks, nodes: &Nodes<B, B, B>, operand: ExprId) {
-    set_operator(marks, nodes, operand, Gap::Blank, Gap::Blank);
-}
-
-/// Notes a blank before an expression.
-fn set_blank<B: Spanned + Drop>(marks: &mut Marks, nodes: &Nodes<B, B, B>, expr: ExprId) {
-    if let Some(place) = place_of(nodes, expr) {
-        marks.set_at(place.lo, Gap::Blank);
-    }
-}
-
-/// Notes the blanks of a node that are no places for lines.
-fn mark_blanks<B: Spanned + Drop>(marks: &mut Marks, nodes: &Nodes<B, B, B>, node: &Node<B, B, B>) {
-    match node {
-        Node::Unary {
-            op: UnaryOp::TypeOf | UnaryOp::Void | UnaryOp::Delete,
-            arg,
+        } => mark_bin(marks, nodes, expr, *op, *left, *right),
+        Node::Cond {
+            test,
+            cons,
+            alt,
             ..
-        } => set_blank(marks, nodes, *arg),
-        Node::Await { arg, .. }
-        | Node::Yield { arg: Some(arg), .. }
-        | Node::New { callee: arg, .. } => set_blank(marks, nodes, *arg),
-        Node::Assign { right, .. } | Node::PatAssign { right, .. } => {
-            set_blanks(marks, nodes, *right)
-        }
+        } => mark_cond(marks, nodes, expr, *test, *cons, *alt),
+        Node::Paren(paren) => mark_paren(marks, nodes, expr, paren.span, paren.expr),
         Node::Arrow {
             span,
+            params,
             body,
             is_async,
-            ..
         } => {
             if *is_async {
                 marks.set(marks.at(span.lo).saturating_add(1), Gap::Blank);
             }
-            mark_arrow_body(marks, nodes, body);
+            mark_params(marks, nodes, span.lo, params);
+            mark_arrow_body(marks, nodes, expr, body);
         }
-        Node::Object { props, .. } => {
-            for prop in props {
-                mark_prop(marks, nodes, prop);
-            }
-        }
-        Node::PatObject { props, .. } => {
-            for prop in props {
-                mark_pat_prop(marks, nodes, prop);
-            }
-        }
-        _ => {}
+        Node::Tpl(tpl) => mark_template(marks, nodes, tpl),
+        _ => mark_words(marks, nodes, node),
     }
 }
 
-/// Notes the blanks of the `=>` before the body of an arrow function.
+/// Notes the blanks of what has words or signs before an operand, and that of a default value.
+fn mark_words<B: Spanned + Drop>(marks: &mut Marks, nodes: &Nodes<B, B, B>, node: &Node<B, B, B>) {
+    match node {
+        Node::Unary { op, arg, .. } => {
+            if matches!(op, UnaryOp::TypeOf | UnaryOp::Void | UnaryOp::Delete) {
+                set_blank(marks, nodes, *arg);
+            }
+            let inner = bare(nodes, *arg);
+            if !is_bin(nodes, inner) && !is_cond(nodes, inner) {
+                marks.set_role(*arg, Role::Operand);
+            }
+        }
+        Node::Await { arg, .. } | Node::Yield { arg: Some(arg), .. } => {
+            set_blank(marks, nodes, *arg)
+        }
+        Node::New { callee, .. } => {
+            set_blank(marks, nodes, *callee);
+            marks.set_role(*callee, Role::Target);
+        }
+        Node::PatAssign { right, .. } => set_blanks(marks, nodes, *right),
+        _ => {}
+    }
+    if let Some(args) = arguments_of(node) {
+        mark_arguments(marks, nodes, node, args);
+    }
+}
+
+/// Notes a blank before an expression.
+fn set_blank<B: Spanned + Drop>(marks: &mut Marks, nodes: &Nodes<B, B, B>, expr: ExprId) {
+    if let Some(place) = nodes.span_of(expr) {
+        marks.set_at(place.lo, Gap::Blank);
+    }
+}
+
+/// Notes an operator of two operands: the line after it, the group of operands of the same precedence, and that of the
+/// operator with its right operand, where these are alone.
+fn mark_bin<B: Spanned + Drop>(
+    marks: &mut Marks,
+    nodes: &Nodes<B, B, B>,
+    expr: ExprId,
+    op: BinaryOp,
+    left: ExprId,
+    right: ExprId,
+) {
+    let (Some(place), Some(operand)) = (nodes.span_of(expr), nodes.span_of(right)) else {
+        return;
+    };
+    let role = marks.role(expr);
+    let (lines, is_within) = match role {
+        Role::Lined(lines) => (lines, false),
+        Role::Within(lines) => (lines, true),
+        _ => (Lines::Deeper, false),
+    };
+    let logic = is_logical(op);
+    let is_inlined = is_inlined(nodes, op, right);
+    let is_under = role == Role::Under { is_logical: logic };
+    let is_alone = !is_inlined && !is_within && !is_under && !(logic && lines == Lines::Test);
+    let is_alone = is_alone && !is_of_kind(nodes, left, logic) && !is_of_kind(nodes, right, logic);
+    let is_deeper = lines == Lines::Deeper || lines == Lines::Test && !is_alone;
+    let after = if is_inlined {
+        Gap::Blank
+    } else {
+        Gap::line(true, is_deeper)
+    };
+    marks.set_operator(operand.lo, Gap::Blank, after);
+    if !is_within && lines != Lines::Test {
+        marks.add_group_at(place);
+    }
+    if is_alone {
+        let sign = marks.before(operand.lo);
+        marks.add_group(sign, marks.before(operand.hi));
+    }
+    mark_operands(marks, nodes, op, lines, left, right);
+}
+
+/// Notes what the operands of an operator are.
+fn mark_operands<B: Spanned + Drop>(
+    marks: &mut Marks,
+    nodes: &Nodes<B, B, B>,
+    op: BinaryOp,
+    lines: Lines,
+    left: ExprId,
+    right: ExprId,
+) {
+    let under = Role::Under {
+        is_logical: is_logical(op),
+    };
+    let first = match operator_of(nodes, left) {
+        Some(before) if goes_on(op, before) => Role::Within(lines),
+        Some(_) => under,
+        None => Role::Operand,
+    };
+    let second = if is_bin(nodes, right) {
+        under
+    } else {
+        Role::Operand
+    };
+    marks.set_role(left, first);
+    marks.set_role(right, second);
+}
+
+/// Notes `a ? b : c`.
+fn mark_cond<B: Spanned + Drop>(
+    marks: &mut Marks,
+    nodes: &Nodes<B, B, B>,
+    expr: ExprId,
+    test: ExprId,
+    cons: ExprId,
+    alt: ExprId,
+) {
+    let Some(place) = nodes.span_of(expr) else {
+        return;
+    };
+    let role = marks.role(expr);
+    if role == Role::Nested {
+        marks.add_outer_at(place, Group::Nested);
+    } else {
+        marks.add_group_at(place);
+    }
+    let tested = match role {
+        _ if !is_bin(nodes, test) => Role::Operand,
+        Role::Result | Role::Argument => Role::Plain,
+        _ => Role::Lined(Lines::Level),
+    };
+    marks.set_role(test, tested);
+    mark_branch(marks, nodes, cons);
+    mark_branch(marks, nodes, alt);
+}
+
+/// Notes `? b` or `: c`.
+fn mark_branch<B: Spanned + Drop>(marks: &mut Marks, nodes: &Nodes<B, B, B>, branch: ExprId) {
+    let Some(place) = nodes.span_of(branch) else {
+        return;
+    };
+    marks.set_operator(place.lo, LINE, Gap::Blank);
+    if is_cond(nodes, branch) {
+        return marks.set_role(branch, Role::Nested);
+    }
+    marks.add_outer_at(place, Group::Operand);
+    if is_bin(nodes, branch) {
+        marks.set_role(branch, Role::Lined(Lines::Level));
+    }
+}
+
+/// Notes parentheses: those of an operand, and those around other brackets, are no group.
+fn mark_paren<B: Spanned + Drop>(
+    marks: &mut Marks,
+    nodes: &Nodes<B, B, B>,
+    expr: ExprId,
+    place: Span,
+    inner: ExprId,
+) {
+    let role = marks.role(expr);
+    let holds_brackets = matches!(
+        nodes.node(inner),
+        Some(
+            Node::Object { .. }
+                | Node::Array { .. }
+                | Node::Arrow { .. }
+                | Node::Fn(_)
+                | Node::Class(_)
+                | Node::Paren(_)
+                | Node::Assign { .. }
+        )
+    );
+    if role == Role::Operand || holds_brackets {
+        marks.shape(marks.at(place.lo), BARE);
+        if role == Role::Statement && !is_bin(nodes, inner) {
+            marks.set_role(inner, Role::Statement);
+        }
+    } else if is_bin(nodes, inner) {
+        marks.set_role(inner, Role::Lined(Lines::Level));
+    }
+}
+
+/// Notes the body of an arrow function: it begins a line, unless it is a block, a list, another arrow function, or a
+/// long template.
 fn mark_arrow_body<B: Spanned + Drop>(
     marks: &mut Marks,
     nodes: &Nodes<B, B, B>,
+    arrow: ExprId,
     body: &BlockStmtOrExpr<ExprId, B>,
 ) {
-    match body {
+    let is_curried = marks.role(arrow) == Role::Curried;
+    let expr = match body {
         BlockStmtOrExpr::BlockStmt(block) => {
-            marks.set_operator(block.span().lo, Gap::Blank, Gap::Blank)
+            if is_curried {
+                mark_curried_end(marks, block.span().lo);
+            }
+            return marks.set_operator(block.span().lo, Gap::Blank, Gap::Blank);
         }
-        BlockStmtOrExpr::Expr(expr) => set_blanks(marks, nodes, *expr),
+        BlockStmtOrExpr::Expr(expr) => *expr,
+    };
+    let Some(place) = nodes.span_of(expr) else {
+        return;
+    };
+    if is_curried && matches!(nodes.node(expr), Some(Node::Arrow { .. })) {
+        marks.set_role(expr, Role::Curried);
+        return marks.set_operator(place.lo, Gap::Blank, LINE);
+    }
+    if is_curried {
+        mark_curried_end(marks, place.lo);
+    }
+    let inner = bare(nodes, expr);
+    let is_list = matches!(
+        nodes.node(inner),
+        Some(Node::Object { .. } | Node::Array { .. } | Node::Arrow { .. })
+    );
+    if is_list || is_open_template(marks, nodes, expr) {
+        marks.set_operator(place.lo, Gap::Blank, Gap::Blank);
+    } else {
+        marks.set_operator(place.lo, Gap::Blank, LINE);
+        let group = if is_curried {
+            Group::Returned
+        } else {
+            Group::Parts
+        };
+        marks.add_signed(place, group);
+    }
+    if is_bin(nodes, expr) {
+        marks.set_role(expr, Role::Lined(Lines::Level));
     }
 }
 
-/// Notes the blanks of a property.
-fn mark_prop<B: Spanned + Drop>(marks: &mut Marks, nodes: &Nodes<B, B, B>, prop: &PropNode<B>) {
-    match prop {
-        PropNode::KeyValue { key, .. } => mark_value(marks, key),
-        PropNode::Assign(prop) => set_blanks(marks, nodes, prop.value),
-        PropNode::Getter { key, .. } | PropNode::Setter { key, .. } => {
-            marks.set_at(key.span().lo, Gap::Blank)
-        }
-        PropNode::Method { key, function } if function.is_async => {
-            let signs = usize::from(function.is_generator);
-            marks.set(marks.at(key.span().lo).saturating_sub(signs), Gap::Blank);
-        }
-        _ => {}
-    }
-    if let Some(body) = body_of(prop) {
-        marks.set_at(body.lo, Gap::Blank);
-    }
+/// Notes where the signatures of arrow functions end that return one another: after the last `=>`, or the `{` after it.
+fn mark_curried_end(marks: &mut Marks, body: BytePos) {
+    let first = marks.at(body);
+    let last = if marks.kind(first) == Kind::OpenBody {
+        first
+    } else {
+        first.saturating_sub(1)
+    };
+    marks.set_place(last, Place::After);
 }
 
-/// Notes the blanks of a property of a pattern.
-fn mark_pat_prop<B: Spanned + Drop>(marks: &mut Marks, nodes: &Nodes<B, B, B>, prop: &PatPropNode) {
-    match prop {
-        PatPropNode::KeyValue { key, .. } => mark_value(marks, key),
-        PatPropNode::Assign {
-            value: Some(value),
-            ..
-        } => set_blanks(marks, nodes, *value),
-        _ => {}
+/// Notes which expressions of a template begin lines, where the text has line breaks around them.
+fn mark_template<B: Spanned + Drop>(marks: &mut Marks, nodes: &Nodes<B, B, B>, tpl: &Tpl<ExprId>) {
+    for expr in &tpl.exprs {
+        let has_lines = match nodes.node(*expr) {
+            Some(Node::Bin { .. } | Node::Cond { .. } | Node::Seq { .. }) => true,
+            Some(node) => member_of(node).is_some(),
+            None => false,
+        };
+        if let Some(place) = nodes.span_of(*expr).filter(|_| has_lines) {
+            let shape = Shape { has_lines, ..PLAIN };
+            marks.shape(marks.before(place.lo), shape);
+        }
+        if is_bin(nodes, *expr) {
+            marks.set_role(*expr, Role::Lined(Lines::Level));
+        }
     }
-}
-
-/// Notes a blank after the colon that is after a key.
-fn mark_value(marks: &mut Marks, key: &PropName<ExprId>) {
-    marks.set(marks.at(key.span().hi).saturating_add(1), Gap::Blank);
 }

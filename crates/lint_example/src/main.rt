@@ -1,9 +1,11 @@
 //! Reads a script, and reports each `==` and each call of `eval` in it, within functions too.
 #![tactic(auto)]
 
-use reporting::LEVELS;
+use reporting::lines::Lines;
+use reporting::{LEVELS, report};
 use statement_trees::tree::{Goal, Program};
 use std::io;
+use std::process::ExitCode;
 use swc_ecma_parser::prelude::*;
 
 /// What is wrong with an expression, and where.
@@ -30,8 +32,9 @@ fn finding(program: &Program, text: &str, expr: ExprId) -> Option<(Span, &'stati
     }
 }
 
-/// Reports what is wrong, in the order of the text.
-fn lint(rt: &HostRuntime, program: &Program, text: &str) -> io::Result<()> {
+/// Reports what is wrong, in the order of the text. Answers the status.
+fn lint(rt: &HostRuntime, program: &Program, text: &str) -> io::Result<u8> {
+    let lines = Lines::new(rt.alloc(), text.as_bytes())?;
     let mut found = Vec::new(rt.alloc());
     for number in 0..program.nodes.len() {
         if let Some(wrong) = finding(program, text, ExprId(number)) {
@@ -40,18 +43,16 @@ fn lint(rt: &HostRuntime, program: &Program, text: &str) -> io::Result<()> {
     }
     found.sort_by_key(|wrong: &(Span, &str)| wrong.0.lo.0)?;
     for (span, message) in &found {
-        println!(rt; "{}: {message}", span.line_column(text.as_bytes()))?;
+        println!(rt; "{}: {message}", lines.place(span.lo))?;
     }
-    Ok(())
+    Ok(if found.is_empty() { 0 } else { 1 })
 }
 
-fn main(rt: HostRuntime) -> io::Result<()> {
+fn main(rt: HostRuntime) -> io::Result<ExitCode> {
     let text = io::read_to_string(rt.alloc(), rt.reader())?;
-    match Program::read(rt.alloc(), text.as_str(), Goal::Script, LEVELS) {
-        Ok(program) => lint(&rt, &program, text.as_str()),
-        Err(refusal) => {
-            let place = refusal.span().line_column(text.as_str().as_bytes());
-            println!(rt; "{place}: this is no script")
-        }
-    }
+    let status = match Program::read(rt.alloc(), text.as_str(), Goal::Script, LEVELS) {
+        Ok(program) => lint(&rt, &program, text.as_str())?,
+        Err(refusal) => report(&rt, text.as_bytes(), &refusal),
+    };
+    Ok(ExitCode::from(status))
 }

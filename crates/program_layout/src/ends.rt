@@ -1,6 +1,6 @@
 // Semicolons that end statements, which are no units, and braces that are bodies.
-use expr_layout::marks::Marks;
-use expr_layout::units::Kind;
+use layout_document::marks::Marks;
+use layout_document::units::{Kind, shape_commas, without_endings};
 use statement_trees::tree::{
     Class, DefaultExport, MemberKind, Program, Statement, StatementKind, SwitchCase,
 };
@@ -27,21 +27,17 @@ pub(crate) fn is_ended(kind: &StatementKind) -> bool {
     )
 }
 
-/// The units of a program, of which nothing is noted yet: braces around statements, members and clauses are bodies, and
-/// semicolons that end statements or fields, or are between members, are left out.
+/// The units of a program, of which nothing is noted yet: braces around statements, members and clauses are bodies;
+/// semicolons that end statements or fields, or are between members, and commas before closing brackets are left out.
 pub(crate) fn without_ends(
     alloc: Global,
     mut marks: Marks,
     program: &Program,
 ) -> Result<Marks, AllocError> {
     shape_all(&mut marks, program);
-    let mut units = Vec::new(alloc);
-    for unit in &marks.units {
-        if unit.kind != Kind::Ending {
-            units.push(*unit)?;
-        }
-    }
-    Marks::new(alloc, marks.whole, units)
+    shape_commas(&mut marks.units);
+    let units = without_endings(alloc, &marks.units)?;
+    Marks::new(alloc, marks.whole, marks.style, units, program.nodes.len())
 }
 
 /// Shapes the braces and the semicolons of a program.

@@ -1,24 +1,25 @@
 // The layout of a program as a text.
 use crate::ends::without_ends;
-use expr_layout::brackets::mark_brackets;
-use expr_layout::gaps::parts_of;
-use expr_layout::marks::{Gap, LINE, Marks, Whole};
+use expr_layout::assigning::{Assigned, mark_assigned};
 use expr_layout::operators::mark_all_nodes;
-use expr_layout::print::print;
-use expr_layout::units::units_of;
+use layout_document::brackets::mark_brackets;
+use layout_document::gaps::{Part, parts_of};
+use layout_document::marks::{Gap, LINE, Marks, Whole};
+use layout_document::print::print;
+use layout_document::roles::{Lines, Role};
+use layout_document::style::Style;
+use layout_document::units::{Unit, units_of};
 use reporting::{LEVELS, Refusal};
+use statement_trees::texts::read_tokens;
 use statement_trees::tree::{Goal, Program, StatementId};
 use std::alloc::{AllocError, Global};
 use swc_ecma_parser::context::span::{BytePos, Span};
 use swc_ecma_parser::nodes::node::{ExprId, Node};
-use swc_lexer::place::Kind;
-use swc_lexer::read::read_list;
-use swc_lexer::reader::End;
-use swc_lexer::stack::Start;
 
 /// What is noted at the units of a program.
 #[derive(Drop)]
 pub(crate) struct ProgramMarks<'a> {
+    alloc: Global,
     pub(crate) program: &'a Program,
     pub(crate) marks: Marks,
 }
@@ -27,24 +28,25 @@ pub(crate) struct ProgramMarks<'a> {
 ///
 /// All tokens and comments are written as they are in the text, in their order. Only these change:
 ///
-/// - blanks and line breaks outside templates, strings and comments;
+/// - blanks and line breaks outside templates, strings and comments, and those before `*` in comments;
 /// - semicolons: each statement and each field of a class that one may end has one, right after its last token, and
-///   there are none between the members of a class.
+///   there are none between the members of a class;
+/// - commas before closing brackets, by the rules of `expr_layout`.
 ///
 /// So the layout, read again, gives the same tree, but for places, and is its own layout.
 ///
 /// **Lines.** Each statement, member of a class and clause of a `switch` begins a line, and so does the `}` after them,
-/// but in `{}`. Lines in braces, and statements of a clause, are indented by 2 columns more; a block that is alone in a
+/// but in `{}`. Lines in braces, and statements of a clause, are indented by one step more; a block that is alone in a
 /// clause is on the line of that. One empty line is between them where the text has one or more, but none at the ends
 /// of braces and of the program. `else`, `catch`, `finally` and the `while` of a `do` are on the line of a `}` before
 /// them.
 ///
 /// A body of `if`, `else`, a loop or `with` that is no block is on the line of its head if both go on one line, and
-/// otherwise, or where an `else` follows, on a line of its own, indented by 2 columns more.
+/// otherwise on a line of its own, indented by one step more.
 ///
 /// **Expressions** and what is in brackets are laid out by the rules of `expr_layout`, but that functions, classes and
-/// blocks in them are laid out too. Declarators after the first, and expressions of a list that is a statement, are
-/// indented by 4 columns where they go on no line together.
+/// blocks in them are laid out too. Declarators after the first begin lines if one has a value. They, and expressions of
+/// a list that is a statement, are indented by one step more.
 ///
 /// **Comments** stay on their lines: one after a statement on its line, and one before a statement on lines of its own.
 /// Comments alone in braces are on the line of these if the text has no line break there.
@@ -53,38 +55,63 @@ pub(crate) struct ProgramMarks<'a> {
 /// are those of `Program::read`, and out of memory.
 pub fn layout(alloc: Global, text: &str, goal: Goal) -> Result<String, Refusal> {
     let program = Program::read(alloc, text, goal, LEVELS)?;
-    Ok(layout_of(alloc, text, &program)?)
+    Ok(layout_of(alloc, text, program, Style::usual())?)
 }
 
-/// The layout of the program of a text. The only error is out of memory.
-fn layout_of(alloc: Global, text: &str, program: &Program) -> Result<String, AllocError> {
-    let kind = Kind {
-        awaits: program.goal == Goal::Module,
-        yields: false,
-    };
-    let tokens = read_list(alloc, text, Start::Statements, End::Whole, kind)?;
-    let units = units_of(alloc, &tokens, &[])?;
-    let all = Marks::new(alloc, Whole::Program, units)?;
+/// The layout of the program of a text, in a style. The program goes back as soon as it is done with. The only error is
+/// out of memory.
+pub fn layout_of(
+    alloc: Global,
+    text: &str,
+    program: Program,
+    style: Style,
+) -> Result<String, AllocError> {
+    let parts = program_parts(alloc, text, program, style)?;
+    print(alloc, text, &parts, style)
+}
+
+/// The units of a program's text. Its tokens go back at once.
+fn program_units(alloc: Global, text: &str, goal: Goal) -> Result<Vec<Unit>, AllocError> {
+    let tokens = read_tokens(alloc, text, goal)?;
+    units_of(alloc, &tokens, &[])
+}
+
+/// The parts of the layout of the program of a text: what is noted at its units goes back, and so does the program. The
+/// only error is out of memory.
+fn program_parts(
+    alloc: Global,
+    text: &str,
+    whole: Program,
+    style: Style,
+) -> Result<Vec<Part>, AllocError> {
+    let program = &whole;
+    let units = program_units(alloc, text, program.goal)?;
+    let all = Marks::new(alloc, Whole::Program, style, units, 0)?;
     let marks = without_ends(alloc, all, program)?;
-    let mut noted = ProgramMarks { program, marks };
+    let mut noted = ProgramMarks {
+        alloc,
+        program,
+        marks,
+    };
+    noted.mark_program()?;
     mark_all_nodes(alloc, &mut noted.marks, &program.nodes)?;
     mark_brackets(alloc, text, &mut noted.marks)?;
-    noted.mark_program();
-    let parts = parts_of(alloc, text, &noted.marks)?;
-    print(alloc, text, &parts)
+    noted.mark_ignored(text);
+    parts_of(alloc, text, &noted.marks)
 }
 
 impl ProgramMarks<'_> {
     /// Notes what is between statements and in them, and at functions and classes.
-    fn mark_program(&mut self) {
+    fn mark_program(&mut self) -> Result<(), AllocError> {
         let program = self.program;
         self.mark_list(&program.body, false);
         for statement in &program.statements {
-            self.mark_statement(statement);
+            self.mark_statement(statement)?;
         }
         for place in &program.bodies {
-            self.mark_place(*place);
+            self.mark_place(*place)?;
         }
+        Ok(())
     }
 
     /// Notes that statements begin lines.
@@ -110,7 +137,7 @@ impl ProgramMarks<'_> {
 
     /// Notes a body, from its `{` to its `}`.
     pub(crate) fn mark_braces(&mut self, first: usize, last: usize) {
-        self.marks.add_body(first, last);
+        self.marks.add_group(first, last);
         self.marks.set(last, Gap::End);
     }
 
@@ -134,14 +161,29 @@ impl ProgramMarks<'_> {
         }
     }
 
-    /// Notes the lines of a list of expressions, `a, b`, outside brackets.
-    pub(crate) fn mark_commas(&mut self, expr: ExprId) {
+    /// Notes what a variable, a field or a property of a pattern is set to.
+    pub(crate) fn mark_assigned(&mut self, assigned: Assigned) -> Result<(), AllocError> {
+        let program = self.program;
+        mark_assigned(self.alloc, &mut self.marks, &program.nodes, assigned)
+    }
+
+    /// Notes what an expression is to its statement, and the lines of a list of expressions, `a, b`, outside brackets.
+    pub(crate) fn mark_whole(&mut self, expr: ExprId, role: Role) {
         let program = self.program;
         if let Some(Node::Seq { span, exprs }) = program.nodes.node(expr) {
             self.marks.add_group_at(*span);
             for part in exprs.iter().skip(1) {
                 self.set_expr(*part, LINE);
             }
+        } else {
+            self.marks.set_role(expr, role);
+        }
+    }
+
+    /// Notes that an expression is the test of a statement.
+    pub(crate) fn mark_test(&mut self, expr: ExprId) {
+        if let Some(Node::Bin { .. }) = self.program.nodes.node(expr) {
+            self.marks.set_role(expr, Role::Lined(Lines::Test));
         }
     }
 }

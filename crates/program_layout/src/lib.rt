@@ -7,6 +7,7 @@
 mod bodies;
 mod declarations;
 mod ends;
+mod ignored;
 pub mod layout;
 mod modules;
 mod statements;

@@ -1,6 +1,6 @@
 // What is noted at imports and exports (ECMA-262, 16.2).
 use crate::layout::ProgramMarks;
-use expr_layout::marks::Gap;
+use layout_document::marks::{Gap, PLAIN, Shape};
 use statement_trees::tree::{
     AllExports, DefaultExport, ImportAttribute, ImportDeclaration, ImportKind, ImportSpecifier,
     NamedExports, StatementKind,
@@ -28,6 +28,14 @@ impl ProgramMarks<'_> {
         for specifier in &import.specifiers {
             self.mark_specifier(specifier);
         }
+        let named = import
+            .specifiers
+            .iter()
+            .find(|specifier| matches!(specifier.kind, ImportKind::Named(_)));
+        self.mark_names(
+            named.map(|specifier| specifier.span),
+            import.specifiers.len() == 1,
+        );
         self.mark_source(place, &import.source, &import.attributes);
     }
 
@@ -54,8 +62,22 @@ impl ProgramMarks<'_> {
         for specifier in &exports.specifiers {
             self.mark_exported(&specifier.exported);
         }
+        let first = exports.specifiers.first();
+        self.mark_names(first.map(|specifier| specifier.span), false);
         if let Some(source) = &exports.source {
             self.mark_source(place, source, &exports.attributes);
+        }
+    }
+
+    /// Notes the braces before a first name: that of an import which has no other isn't broken.
+    fn mark_names(&mut self, first: Option<Span>, is_bare: bool) {
+        if let Some(first) = first {
+            let shape = Shape {
+                is_bare,
+                has_comma: self.marks.takes_commas(),
+                ..PLAIN
+            };
+            self.marks.shape(self.marks.before(first.lo), shape);
         }
     }
 

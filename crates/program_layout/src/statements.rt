@@ -1,64 +1,87 @@
 // What is noted at statements (ECMA-262, 14).
 use crate::ends::{is_ended, switch_brace};
 use crate::layout::ProgramMarks;
-use expr_layout::marks::{Gap, LINE};
+use layout_document::marks::{Gap, LINE};
+use layout_document::roles::Role;
 use statement_trees::tree::{CatchClause, Statement, StatementId, StatementKind, SwitchCase};
+use std::alloc::AllocError;
 use swc_ecma_parser::context::span::{BytePos, Span};
-
-/// A line where a statement is on more than one, indented as its first.
-const WORD_LINE: Gap = Gap::Line {
-    is_blank: true,
-    is_deeper: false,
-};
+use swc_ecma_parser::nodes::node::ExprId;
 
 impl ProgramMarks<'_> {
     /// Notes what is in a statement, but for the statements in it.
-    pub(crate) fn mark_statement(&mut self, statement: &Statement) {
+    pub(crate) fn mark_statement(&mut self, statement: &Statement) -> Result<(), AllocError> {
         let place = statement.span;
         if is_ended(&statement.kind) {
             self.end_statement(place);
         }
         match &statement.kind {
             StatementKind::Block(items) => self.mark_block(place, items),
-            StatementKind::Expr(expr) => self.mark_commas(*expr),
+            StatementKind::Expr(expr) => self.mark_whole(*expr, Role::Statement),
             StatementKind::Return(Some(expr)) | StatementKind::Throw(expr) => {
                 self.set_expr(*expr, Gap::Blank);
-                self.mark_commas(*expr);
+                self.mark_whole(*expr, Role::Result);
             }
             StatementKind::Labeled { body, .. } => self.set_body(*body, Gap::Blank),
-            StatementKind::Switch { cases, .. } => self.mark_switch(place, cases),
-            StatementKind::Variables(variables) => self.mark_declaration(variables),
+            StatementKind::Variables(variables) => self.mark_declaration(variables)?,
+            StatementKind::For { body, .. }
+            | StatementKind::ForIn { body, .. }
+            | StatementKind::ForOf { body, .. } => self.mark_for(place, &statement.kind, *body)?,
             kind => self.mark_compound(place, kind),
         }
+        Ok(())
     }
 
     /// Notes what is in a statement that ends with another one, or has words between others; or an item of a module.
     fn mark_compound(&mut self, place: Span, kind: &StatementKind) {
         match kind {
             StatementKind::If {
+                test,
                 consequent,
                 alternate,
-                ..
-            } => self.mark_if(place, *consequent, *alternate),
-            StatementKind::DoWhile { body, .. } => self.mark_do(place, *body),
-            StatementKind::While { body, .. } | StatementKind::With { body, .. } => {
-                self.mark_tested(place, 1, *body)
+            } => {
+                self.mark_test(*test);
+                self.mark_if(place, *consequent, *alternate);
+            }
+            StatementKind::DoWhile { body, test } => {
+                self.mark_test(*test);
+                self.mark_do(place, *body);
+            }
+            StatementKind::While { test, body } => {
+                self.mark_test(*test);
+                self.mark_headed(place, 1, *body);
+            }
+            StatementKind::With { body, .. } => self.mark_headed(place, 1, *body),
+            StatementKind::Switch {
+                discriminant,
+                cases,
+            } => {
+                self.mark_test(*discriminant);
+                self.mark_switch(place, cases);
             }
             StatementKind::Try {
                 block,
                 handler,
                 finalizer,
-            } => self.mark_try(place, *block, *handler, *finalizer),
-            StatementKind::For { body, .. } | StatementKind::ForIn { body, .. } => {
-                self.mark_for_head(kind);
-                self.mark_tested(place, 1, *body);
-            }
-            StatementKind::ForOf { is_await, body, .. } => {
-                self.mark_for_head(kind);
-                self.mark_tested(place, if *is_await { 2 } else { 1 }, *body);
-            }
+            } => self.mark_try(*block, *handler, *finalizer),
             kind => self.mark_item(place, kind),
         }
+    }
+
+    fn mark_for(
+        &mut self,
+        place: Span,
+        kind: &StatementKind,
+        body: StatementId,
+    ) -> Result<(), AllocError> {
+        let words = match kind {
+            StatementKind::ForOf { is_await: true, .. } => 2,
+            _ => 1,
+        };
+        let bracket = self.marks.at(place.lo).saturating_add(words);
+        self.mark_for_head(kind, bracket)?;
+        self.mark_headed(place, words, body);
+        Ok(())
     }
 
     /// Notes the braces and the statements of a block.
@@ -70,18 +93,25 @@ impl ProgramMarks<'_> {
     }
 
     /// Notes a statement that is so many words, something in parentheses, and another statement, as `while (a) b`.
-    fn mark_tested(&mut self, place: Span, words: usize, body: StatementId) {
+    fn mark_headed(&mut self, place: Span, words: usize, body: StatementId) {
         let first = self.marks.at(place.lo);
+        self.marks.set(first.saturating_add(1), Gap::Blank);
         self.marks.set(first.saturating_add(words), Gap::Blank);
-        self.set_body(body, LINE);
-        self.add_statement(place);
+        self.mark_clause(first, body);
     }
 
-    /// Notes that a statement is a group.
-    fn add_statement(&mut self, place: Span) {
-        let first = self.marks.at(place.lo);
-        let last = self.last_of(place);
-        self.marks.add_statement(first, last);
+    /// Notes a statement that another one ends with, whose head begins with the unit of the number: they are a group.
+    fn mark_clause(&mut self, first: usize, body: StatementId) {
+        self.set_body(body, LINE);
+        if let Some(statement) = self.program.statement(body) {
+            if !matches!(
+                statement.kind,
+                StatementKind::Block(_) | StatementKind::Empty
+            ) {
+                let last = self.last_of(statement.span);
+                self.marks.add_group(first, last);
+            }
+        }
     }
 
     /// Notes what is before a statement that another one ends with: before a block, a blank; before a semicolon alone,
@@ -120,8 +150,8 @@ impl ProgramMarks<'_> {
     }
 
     fn mark_if(&mut self, place: Span, consequent: StatementId, alternate: Option<StatementId>) {
-        self.mark_tested(place, 1, consequent);
-        let Some(alternate) = alternate else {
+        self.mark_headed(place, 1, consequent);
+        let Some((id, part)) = alternate.and_then(|id| Some((id, self.place_of(id)?))) else {
             return;
         };
         let gap = if self.is_block(consequent) {
@@ -129,12 +159,13 @@ impl ProgramMarks<'_> {
         } else {
             Gap::Break
         };
-        if let Some(part) = self.place_of(alternate) {
-            let word = self.marks.at(part.lo).saturating_sub(1);
-            self.marks.set(word, gap);
+        let word = self.marks.before(part.lo);
+        self.marks.set(word, gap);
+        if self.is_if(id) {
+            self.set_body(id, Gap::Blank);
+        } else {
+            self.mark_clause(word, id);
         }
-        let is_chain = self.is_if(alternate);
-        self.set_body(alternate, if is_chain { Gap::Blank } else { LINE });
     }
 
     fn mark_do(&mut self, place: Span, body: StatementId) {
@@ -144,17 +175,16 @@ impl ProgramMarks<'_> {
             let gap = if self.is_block(body) {
                 Gap::Word
             } else {
-                WORD_LINE
+                Gap::line(true, false)
             };
             self.marks.set(word, gap);
             self.marks.set(word.saturating_add(1), Gap::Blank);
         }
-        self.add_statement(place);
+        self.marks.add_group_at(place);
     }
 
     fn mark_try(
         &mut self,
-        place: Span,
         block: StatementId,
         handler: Option<CatchClause>,
         finalizer: Option<StatementId>,
@@ -165,13 +195,15 @@ impl ProgramMarks<'_> {
             self.marks.set(word, Gap::Word);
             self.marks.set(word.saturating_add(1), Gap::Blank);
             self.set_body(clause.body, Gap::Blank);
+            if let Some(param) = clause.param {
+                self.marks.set_role(ExprId(param.0), Role::Parameter);
+            }
         }
         if let Some(part) = finalizer.and_then(|block| self.place_of(block)) {
             let first = self.marks.at(part.lo);
             self.marks.set(first, Gap::Word);
             self.marks.set(first.saturating_sub(1), Gap::Word);
         }
-        self.add_statement(place);
     }
 
     fn mark_switch(&mut self, place: Span, cases: &[SwitchCase]) {
@@ -190,7 +222,7 @@ impl ProgramMarks<'_> {
         self.set_line(case.span.lo);
         if let Some(test) = case.test {
             self.set_expr(test, Gap::Blank);
-            self.mark_commas(test);
+            self.mark_whole(test, Role::Plain);
         }
         match case.consequent.as_slice() {
             [] => {}
@@ -198,7 +230,7 @@ impl ProgramMarks<'_> {
             items => {
                 let first = self.marks.at(case.span.lo);
                 let last = self.last_of(case.span);
-                self.marks.add_body(first, last);
+                self.marks.add_group(first, last);
                 self.mark_list(items, true);
             }
         }

@@ -46,12 +46,14 @@ pub(crate) fn bind<'a>(
 ) -> Result<(), AllocError> {
     let known = known_of(alloc, scopes, bindings)?;
     let mut open: HashMap<&'a str, Vec<Known<'a>>> = HashMap::new(alloc);
+    let mut again = Vec::new(alloc);
     for event in name_events(alloc, scopes, &known, names)? {
         match event.what {
             What::Begins => {
                 if let Some(begun) = known.get(event.number) {
                     let same = open.entry(begun.text)?.or_insert(Vec::new(alloc));
                     let first = first_of(same.last(), *begun);
+                    again.push((begun.place.lo.0, first.place))?;
                     same.push(first)?;
                 }
             }
@@ -68,7 +70,22 @@ pub(crate) fn bind<'a>(
             }
         }
     }
+    for (at, first) in again {
+        note_first(names, at, first);
+    }
     Ok(())
+}
+
+/// Notes the first declaration of the name that is declared there, if that is another one.
+fn note_first(names: &mut [Name<'_>], at: u32, first: Span) {
+    let number = names.partition_point(|name| name.span.lo.0 < at);
+    if let Some(name) = names.get_mut(number)
+        && name.how == Use::Bound
+        && name.span.lo.0 == at
+        && first.lo.0 != at
+    {
+        name.first = Some(first);
+    }
 }
 
 /// The one that counts of the last binding of a text and the next: of two of one scope the first.

@@ -80,6 +80,7 @@ impl<'a> Collector<'a> {
             span,
             how,
             binding: None,
+            first: None,
         })?;
         Ok(())
     }

@@ -38,6 +38,8 @@ pub struct Name<'a> {
     pub how: Use,
     /// The place of the declaration that it refers to; none if it is a declaration, or if it is free.
     pub binding: Option<Span>,
+    /// Of a declaration after another one of its name in its scope, the first one.
+    pub first: Option<Span>,
 }
 
 /// The names that a program reads, writes and binds, in the order of the text. The only error is out of memory. Takes

@@ -9,8 +9,9 @@ use crate::source::ProgramInput;
 use std::alloc::Global;
 use swc_bodies::bodies::{Bodies, BodyForms};
 use swc_bodies::deferred::{DeferredBodies, Waiting};
+use swc_context::context::Context;
 use swc_context::error::PResult;
-use swc_context::span::Span;
+use swc_context::span::{BytePos, Span};
 use swc_input::buffer::Buffer;
 
 /// The hook that keeps the places of functions, classes and blocks, with their contexts, and passes over what is in
@@ -18,6 +19,8 @@ use swc_input::buffer::Buffer;
 #[derive(Drop)]
 pub struct ProgramBodies {
     kept: DeferredBodies,
+    /// Where the last body begins whose braces aren't in the list, and its context.
+    unclosed: Option<(BytePos, Context)>,
 }
 
 impl ProgramBodies {
@@ -27,6 +30,7 @@ impl ProgramBodies {
     {
         ProgramBodies {
             kept: DeferredBodies::new(alloc),
+            unclosed: None,
         }
     }
 
@@ -38,14 +42,25 @@ impl ProgramBodies {
     {
         self.kept.pop()
     }
-}
 
-/// Passes over what is in the braces of the body that begins with the current token.
-fn pass_over(input: &mut Buffer<ProgramInput>)
-    ensures { PassesOver input.old input.new }
-{
-    let start = input.cur_span().lo;
-    input.input().pass_over(start);
+    /// Takes out where the last body begins whose braces aren't in the list, and its context. The body was refused.
+    pub fn take_unclosed(&mut self) -> Option<(BytePos, Context)>
+        ensures kept { self.new.kept ≡ self.old.kept }
+    {
+        self.unclosed.take()
+    }
+
+    /// Passes over what is in the braces of the body that begins with the current token, or notes that they aren't
+    /// in the list.
+    fn pass_over(&mut self, input: &mut Buffer<ProgramInput>)
+        ensures passes { PassesOver input.old input.new }
+        ensures kept { self.new.kept ≡ self.old.kept }
+    {
+        let start = input.cur_span().lo;
+        if !input.input().pass_over(start) {
+            self.unclosed = Some((start, input.get_ctx()));
+        }
+    }
 }
 
 impl BodyForms for ProgramBodies {
@@ -66,17 +81,17 @@ impl Bodies<ProgramInput> for ProgramBodies {
     ghost is_faithful = { false };
 
     fn fun(&mut self, input: &mut Buffer<ProgramInput>) -> PResult<Span> {
-        pass_over(input);
+        self.pass_over(input);
         self.kept.fun(input)
     }
 
     fn class(&mut self, input: &mut Buffer<ProgramInput>) -> PResult<Span> {
-        pass_over(input);
+        self.pass_over(input);
         self.kept.class(input)
     }
 
     fn block(&mut self, input: &mut Buffer<ProgramInput>) -> PResult<Span> {
-        pass_over(input);
+        self.pass_over(input);
         self.kept.block(input)
     }
 

@@ -10,3 +10,4 @@
 pub mod brackets;
 pub mod hook;
 pub mod source;
+pub mod texts;

@@ -3,11 +3,13 @@ ghost use Rattle.std.specs.Prelude.{◌≡◌, ◌<◌, ◌≤◌, length};
 
 use crate::brackets::Bracketed;
 use std::alloc::{AllocError, Global};
+use swc_context::atom::Atom;
 use swc_context::context::{Context, EsVersion, Syntax, TokenContexts};
 use swc_context::error::Error;
 use swc_context::span::{BytePos, Span};
+use swc_context::word::{Keyword, Word};
 use swc_input::listed::TokensInput;
-use swc_input::token::TokenAndSpan;
+use swc_input::token::{Token, TokenAndSpan};
 use swc_input::tokens::Tokens;
 use swc_lexer::legacy::legacy_fault;
 
@@ -16,6 +18,7 @@ use swc_lexer::legacy::legacy_fault;
 /// `pass_over` leaves out what is in the braces of a function, a class or a block, in a step, however much that is.
 #[derive(Drop)]
 pub struct ProgramInput {
+    alloc: Global,
     list: Bracketed,
     /// The number of the next token.
     at: usize,
@@ -29,8 +32,8 @@ pub struct ProgramInput {
     waiting: usize,
     /// How many of these were recorded before the first one that was in strict code.
     strict: Option<usize>,
-    /// The first number or escape of old scripts that was given in strict code.
-    legacy: Option<Error>,
+    /// The numbers and escapes of old scripts that were given in strict code.
+    legacy: Vec<Error>,
 }
 
 impl ProgramInput {
@@ -42,6 +45,7 @@ impl ProgramInput {
     {
         let target = EsVersion::default();
         ProgramInput {
+            alloc,
             list,
             at: 0,
             jump: None,
@@ -50,7 +54,7 @@ impl ProgramInput {
             notes: TokensInput::new(alloc, Vec::new(alloc), context, syntax, target),
             waiting: 0,
             strict: None,
-            legacy: None,
+            legacy: Vec::new(alloc),
         }
     }
 
@@ -68,14 +72,16 @@ impl ProgramInput {
 
     /// Leaves out the rest of the function, the class or the block whose first token begins at the place, and was given
     /// already: from now on only its braces come. Does nothing if the braces aren't in the list, or if a token after
-    /// the `{` was given.
-    pub fn pass_over(&mut self, start: BytePos)
+    /// the `{` was given. Says whether they are in the list; if not, no token comes any more.
+    pub fn pass_over(&mut self, start: BytePos) -> bool
         ensures still { StillOpen self.old self.new }
         ensures lower { tokens_left self.new ≤ tokens_left self.old }
     {
         let first = self.list.index_of(start.0);
         let Some((open, close)) = self.list.braces(first) else {
-            return;
+            self.at = self.list.len();
+            self.jump = None;
+            return false;
         };
         if self.at <= open {
             self.at = open;
@@ -83,12 +89,24 @@ impl ProgramInput {
         } else if self.at <= close && self.at - open == 1 {
             self.at = close;
         }
+        true
     }
 
     /// Whether `static` is before the first token that begins at the place or after it: so the block that begins there
     /// is one of a class (ECMA-262, 15.7), and the body of no function.
     pub fn is_after_static(&self, start: BytePos) -> bool {
         self.list.is_after_static(self.list.index_of(start.0))
+    }
+
+    /// Whether `await` is before the first token that begins at the place or after it.
+    pub fn is_after_await(&self, start: BytePos) -> bool {
+        self.list.is_after_await(self.list.index_of(start.0))
+    }
+
+    /// The place of the word before the first token that begins at the place or after it, if that word means a keyword
+    /// and is a name because it is written with an escape.
+    pub fn escaped_before(&self, start: BytePos) -> Option<Span> {
+        self.list.escaped_before(self.list.index_of(start.0))
     }
 
     /// The place of the token that is where the name would be of the function or the class that begins there; `None` if
@@ -98,12 +116,15 @@ impl ProgramInput {
     }
 
     /// Notes a number or an escape of old scripts (ECMA-262, 12.9.3.1 and 12.9.4.1), which strict code must not have.
-    fn note_legacy(&mut self, token: &TokenAndSpan)
+    fn note_legacy(&mut self, token: &TokenAndSpan) -> Result<(), AllocError>
         ensures { self.new ≡ record self.old { legacy = self.new.legacy } }
     {
-        if self.legacy.is_none() && self.notes.ctx().strict {
-            self.legacy = legacy_fault(token);
+        if self.notes.ctx().strict {
+            if let Some(fault) = legacy_fault(token) {
+                self.legacy.push(fault)?;
+            }
         }
+        Ok(())
     }
 
     /// Goes on to the next token.
@@ -119,22 +140,42 @@ impl ProgramInput {
         };
     }
 
-    /// Takes out a fault of strict code, if there is one: the first number or escape of old scripts, or otherwise the
-    /// first fault that was recorded in strict code and waits for a module.
-    pub fn take_strict_fault(&mut self) -> Option<Error> {
-        if let Some(fault) = self.legacy.take() {
-            return Some(fault);
-        }
-        let index = self.strict.take()?;
+    /// Takes out the faults of strict code: the numbers and escapes of old scripts, and then the faults that were
+    /// recorded in strict code and wait for a module, each in the order of the text. The only error is out of memory.
+    pub fn take_strict_faults(&mut self) -> Result<Vec<Error>, AllocError> {
+        let mut faults = std::mem::replace(&mut self.legacy, Vec::new(self.alloc));
+        let Some(index) = self.strict.take() else {
+            return Ok(faults);
+        };
         let context = self.notes.ctx();
         let module = Context {
             module: true,
             ..context
         };
         let _ = self.notes.set_ctx(module);
-        let faults = self.notes.take_errors();
+        let waiting = self.notes.take_errors();
         let _ = self.notes.set_ctx(context);
-        faults.into_iter().nth(index)
+        for fault in waiting.into_iter().skip(index) {
+            faults.push(fault)?;
+        }
+        Ok(faults)
+    }
+}
+
+/// A copy of the token. Where `await` is no operator (13.1), it is a name like others.
+fn named(
+    alloc: Global,
+    context: Context,
+    token: &TokenAndSpan,
+) -> Result<TokenAndSpan, AllocError> {
+    let is_operator = context.in_async || context.module || context.in_static_block;
+    match token.token {
+        Token::Word(Word::Keyword(Keyword::Await)) if !is_operator => Ok(TokenAndSpan {
+            token: Token::Word(Word::Ident(Atom::new(alloc, "await")?)),
+            had_line_break: token.had_line_break,
+            span: token.span,
+        }),
+        _ => token.try_clone(),
     }
 }
 
@@ -152,13 +193,17 @@ impl Iterator for ProgramInput {
         if self.failed || self.ended {
             return None;
         }
+        let (alloc, context) = (self.alloc, self.notes.ctx());
         let Some(token) = self.list.get(self.at) else {
             self.ended = true;
             return None;
         };
-        match token.try_clone() {
+        match named(alloc, context, token) {
             Ok(copy) => {
-                self.note_legacy(&copy);
+                if self.note_legacy(&copy).is_err() {
+                    self.failed = true;
+                    return None;
+                }
                 self.step();
                 Some(copy)
             }

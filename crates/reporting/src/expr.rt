@@ -3,7 +3,7 @@ ghost use Rattle.std.specs.Prelude.{IfOk};
 ghost use Rattle.swc_nodes.specs.{NodeParts.expr_part, GrowingNodes.From};
 ghost use Rattle.swc_ecma_parser.specs.Calls.{nodes_of};
 
-use crate::openers::Ending;
+use crate::openers::{Ending, end_for};
 use crate::{LEVELS, Refusal};
 use std::alloc::{AllocError, Global};
 use swc_ecma_parser::bodies::token_bodies::TokenBodies;
@@ -63,8 +63,20 @@ pub fn read_part(
 pub fn read_expr(alloc: Global, text: &str, context: Context) -> Result<(Nodes, ExprId), Refusal>
     ensures stands { IfOk result (λ read. From 0 read.0 (expr_part read.1)) }
 {
+    read_expr_within(alloc, text, context, LEVELS)
+}
+
+/// The same, where what is nested deeper than so many levels is refused.
+pub fn read_expr_within(
+    alloc: Global,
+    text: &str,
+    context: Context,
+    levels: usize,
+) -> Result<(Nodes, ExprId), Refusal>
+    ensures stands { IfOk result (λ read. From 0 read.0 (expr_part read.1)) }
+{
     let part = read_part(alloc, text, 0, End::Whole, context)?;
-    parse_part(alloc, part, context)
+    parse_part_within(alloc, part, context, levels)
 }
 
 /// The nodes of a part of a text that is one expression, and the number of this. All places are of the whole text.
@@ -75,12 +87,24 @@ pub fn read_expr(alloc: Global, text: &str, context: Context) -> Result<(Nodes, 
 pub fn parse_part(alloc: Global, part: Part, context: Context) -> Result<(Nodes, ExprId), Refusal>
     ensures stands { IfOk result (λ read. From 0 read.0 (expr_part read.1)) }
 {
+    parse_part_within(alloc, part, context, LEVELS)
+}
+
+/// The same, where what is nested deeper than so many levels is refused.
+pub fn parse_part_within(
+    alloc: Global,
+    part: Part,
+    context: Context,
+    levels: usize,
+) -> Result<(Nodes, ExprId), Refusal>
+    ensures stands { IfOk result (λ read. From 0 read.0 (expr_part read.1)) }
+{
     let (start, syntax) = (position(part.start), Syntax::default());
     let ending = Ending::new(alloc, &part.tokens, start, context.strict)?;
     let tokens = part.tokens;
     let source = TokensInput::new_at(alloc, start, tokens, context, syntax, EsVersion::default());
     let mut parser = Parser::new_from(alloc, source, TokenBodies::new(alloc));
-    parser.limit_nesting(LEVELS);
+    parser.limit_nesting(levels);
     let read = read_to_end(&mut parser);
     let is_too_deep = parser.is_too_deep();
     let recorded = parser.take_errors().into_iter().next();
@@ -99,12 +123,25 @@ pub fn parse_part(alloc: Global, part: Part, context: Context) -> Result<(Nodes,
 fn read_to_end(parser: &mut Parser<TokensInput, TokenBodies>) -> PResult<ExprId>
     ensures stands { IfOk result (λ expr. From 0 (nodes_of parser.new) (expr_part expr)) }
 {
-    let expr = parser.parse_expr_id()?;
+    let expr = match parser.parse_expr_id() {
+        Ok(expr) => expr,
+        Err(fault) => return Err(at_end(parser, fault)),
+    };
     if parser.at_end()? {
         return Ok(expr);
     }
     let left = parser.buffer().cur_span();
     Err(Error::new(left, SyntaxError::Unexpected(Wanted::Comma)))
+}
+
+/// The fault of the parser, which is the end of the text where an expression is wanted there.
+fn at_end(parser: &mut Parser<TokensInput, TokenBodies>, fault: Error) -> Error {
+    let input = parser.buffer();
+    let end = match input.cur() {
+        Some(_) => None,
+        None => Some(input.last_pos()),
+    };
+    end_for(fault, end)
 }
 
 /// The position of a byte. A text in which it doesn't fit is refused by the lexer.

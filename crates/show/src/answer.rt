@@ -71,8 +71,9 @@ impl Answer {
     }
 }
 
-/// Reads the text as it is asked. A fault of the reader of tokens is a refusal.
-pub fn answer_to(alloc: Global, text: Vec<u8>, asked: Asked) -> Answer
+/// Reads the text as it is asked. A fault of the reader of tokens is a refusal, and so is what is nested deeper than so
+/// many levels, as `OutOfMemory`.
+pub fn answer_to(alloc: Global, text: Vec<u8>, asked: Asked, levels: usize) -> Answer
     ensures { IsHeeded asked.context asked.syntax
         → Answers (symbol_of asked.what) asked.context asked.syntax text.items result.shown result.recorded.items }
 {
@@ -88,8 +89,8 @@ pub fn answer_to(alloc: Global, text: Vec<u8>, asked: Asked) -> Answer
             // It is asked for first: what is asked for after large blocks went back may not grow where it is.
             let room = room_for(alloc, len);
             match asked.what {
-                What::Expr => answer_expr(alloc, source, room),
-                What::Pat => answer_pat(alloc, source, room),
+                What::Expr => answer_expr(alloc, source, room, levels),
+                What::Pat => answer_pat(alloc, source, room, levels),
             }
         }
         Err(fault) => Answer {
@@ -115,7 +116,7 @@ fn room_for(alloc: Global, len: usize) -> PResult<String>
 }
 
 /// Reads all that the source gives as an expression, and prints it in the room.
-fn answer_expr(alloc: Global, source: AsciiInput, room: PResult<String>) -> Answer
+fn answer_expr(alloc: Global, source: AsciiInput, room: PResult<String>, levels: usize) -> Answer
     requires { IfErr room (λ e. e.kind ≡ OutOfMemory) }
     ensures { IsJudged Expr (input_state source) (tokens_of source) result.shown result.recorded.items }
 {
@@ -124,7 +125,7 @@ fn answer_expr(alloc: Global, source: AsciiInput, room: PResult<String>) -> Answ
         nodes,
         recorded,
         too_deep: _,
-    } = read_whole_expr(alloc, source, CountedBodies::new(alloc), usize::MAX);
+    } = read_whole_expr(alloc, source, CountedBodies::new(alloc), levels);
     let shown = show_expr(&nodes, read, room);
     // The program ends soon: its memory goes back as a whole, faster than a node at a time.
     forget(nodes);
@@ -132,7 +133,7 @@ fn answer_expr(alloc: Global, source: AsciiInput, room: PResult<String>) -> Answ
 }
 
 /// Reads all that the source gives as a binding pattern, and prints it in the room.
-fn answer_pat(alloc: Global, source: AsciiInput, room: PResult<String>) -> Answer
+fn answer_pat(alloc: Global, source: AsciiInput, room: PResult<String>, levels: usize) -> Answer
     requires { IfErr room (λ e. e.kind ≡ OutOfMemory) }
     ensures { IsJudged Pat (input_state source) (tokens_of source) result.shown result.recorded.items }
 {
@@ -141,7 +142,7 @@ fn answer_pat(alloc: Global, source: AsciiInput, room: PResult<String>) -> Answe
         nodes,
         recorded,
         too_deep: _,
-    } = read_whole_pat(alloc, source, CountedBodies::new(alloc), usize::MAX);
+    } = read_whole_pat(alloc, source, CountedBodies::new(alloc), levels);
     let shown = show_pat(&nodes, read, room);
     forget(nodes);
     Answer { shown, recorded }

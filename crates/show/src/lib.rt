@@ -4,5 +4,6 @@
 pub mod answer;
 mod arguments;
 pub mod counted;
+pub mod levels;
 pub mod run;
 pub mod streams;

@@ -26,6 +26,7 @@ const UNREADABLE: &str = "cannot read standard input";
 pub fn run<R: Input, W: Output, C: Write>(
     alloc: Global,
     arguments: &[&str],
+    levels: usize,
     input: &mut R,
     output: &mut W,
     complaints: &mut C,
@@ -45,7 +46,7 @@ pub fn run<R: Input, W: Output, C: Write>(
         let _ = writeln!(complaints, "{UNREADABLE}");
         return BAD_CALL;
     };
-    let answer = answer_to(alloc, text, asked);
+    let answer = answer_to(alloc, text, asked, levels);
     match output.write_answer(&answer) {
         Ok(()) => answer.status(),
         Err(_) => BAD_CALL,

@@ -1,6 +1,7 @@
 //! Shows what the parser makes of an expression on standard input.
 #![tactic(auto)]
 
+use show::levels::levels;
 use show::run::run;
 use std::alloc::AllocError;
 use std::process::ExitCode;
@@ -31,6 +32,13 @@ fn main(rt: HostRuntime) -> ExitCode {
     let mut input = rt.reader();
     let mut output = io::writer(&rt);
     let mut complaints = rt.stderr();
-    let status = run(rt.alloc(), &texts, &mut input, &mut output, &mut complaints);
+    let status = run(
+        rt.alloc(),
+        &texts,
+        levels(&rt),
+        &mut input,
+        &mut output,
+        &mut complaints,
+    );
     ExitCode::from(status)
 }

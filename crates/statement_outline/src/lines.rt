@@ -6,7 +6,7 @@ use statement_trees::tree::{
     CatchClause, Class, Function, Goal, Member, MemberKind, MethodKind, Program, Statement,
     StatementId, StatementKind, SwitchCase,
 };
-use std::alloc::Global;
+use std::alloc::{AllocError, Global};
 use swc_ecma_parser::context::span::{BytePos, Span};
 use swc_ecma_parser::nodes::node::ExprId;
 use swc_lexer::read::out_of_memory;
@@ -32,9 +32,17 @@ pub(crate) enum Line<'a> {
 /// clause and member. The refusals are those of `Program::read`, and out of memory.
 pub fn tree_of(alloc: Global, text: &str, goal: Goal) -> Result<String, Refusal> {
     let program = Program::read(alloc, text, goal, LEVELS)?;
+    match outline_of(alloc, &program) {
+        Ok(outline) => Ok(outline),
+        Err(AllocError) => Err(Refusal::Fault(out_of_memory())),
+    }
+}
+
+/// The text of a program that was read. The only error is out of memory.
+pub fn outline_of(alloc: Global, program: &Program) -> Result<String, AllocError> {
     let mut outline = Outline {
         alloc,
-        program: &program,
+        program,
         text: String::new(alloc),
         failed: false,
         named: Vec::new(alloc),
@@ -50,7 +58,7 @@ pub fn tree_of(alloc: Global, text: &str, goal: Goal) -> Result<String, Refusal>
         outline.put_body(place);
     }
     if outline.failed {
-        return Err(Refusal::Fault(out_of_memory()));
+        return Err(AllocError);
     }
     Ok(outline.text)
 }

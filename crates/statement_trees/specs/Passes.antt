@@ -1,9 +1,13 @@
 -- What passes leave: which bodies wait, and which were read.
-use Rattle.std.specs.Prelude.{◌≡◌, ◌<◌, ◌++◌, List, [], map, reverse}
+use Rattle.std.specs.Prelude.{◌≡◌, ℕ, ◌<◌, ◌≤◌, ◌++◌, List, [], length, map, reverse}
 use Rattle.std.specs.List.{AllPairs, Contains}
 use Rattle.swc_bodies.specs.declared.deferred.Waiting.{Waiting}
 use Rattle.swc_context.specs.declared.span.Span.{Span}
 use Rattle.statement_trees.specs.{declared.program.Passes.Passes, Contexts.kept_bodies}
+
+-- the place of a text: from its beginning to its end, as far as places reach
+abbrev pub Spans : List ℕ → Span → Type 0
+Spans text s = (s.lo.0 ≡ 0) × (length text ≤ 4294967295 → s.hi.0 ≡ length text)
 
 -- places in the order in which they begin, no two at one
 abbrev pub InOrder : List Span → Type 0

@@ -5,6 +5,7 @@ ghost use Rattle.statement_trees.specs.Contexts.{context_of, work};
 use crate::frame::Owner;
 use crate::reader::Reader;
 use crate::tree::{Block, Class, Function};
+use swc_ecma_parser::ast::ident::Ident;
 use swc_ecma_parser::context::context::Context;
 use swc_ecma_parser::context::error::{PResult, Wanted};
 use swc_ecma_parser::context::operator::BinOpToken;
@@ -67,7 +68,7 @@ impl Reader {
         let name = if self.at(&Token::LParen) {
             None
         } else {
-            Some(self.name()?)
+            Some(self.function_name()?)
         };
         let context = self.context();
         let params = self.params_in(context.function_params(is_async, is_generator))?;
@@ -82,6 +83,24 @@ impl Reader {
         };
         let pushed = self.functions.push(function);
         self.kept(pushed)
+    }
+
+    /// The name of a function. Whether it may be `await` or `yield` depends on whether the function is a declaration,
+    /// which isn't known here: so that is no fault here, but an early error.
+    fn function_name(&mut self) -> PResult<Ident>
+        ensures context { context_of self.new ≡ context_of self.old }
+        ensures lower { work self.new ≤ work self.old }
+    {
+        let before = self.context();
+        self.set_context(Context {
+            in_async: false,
+            in_generator: false,
+            in_static_block: false,
+            ..before
+        });
+        let name = self.name();
+        self.set_context(before);
+        name
     }
 
     /// Parameters (15.1) with their parentheses, read in the context; that from before is put back.

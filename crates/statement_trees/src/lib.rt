@@ -16,17 +16,14 @@
 //! a node it is named by its place, by which `Program::function`, `Program::class` and `Program::block` find it. The
 //! source of a program passes over what is in its braces in one step, so functions in one another take linear time.
 //!
-//! It isn't promised that these trees are those of ECMA-262. These are not checked: names that are bound twice; whether
-//! a label, a loop or a `switch` is there for `break` and `continue`, whether a label is there twice, or `default`;
-//! which functions are the body of an `if`, a loop or a label; the parameters of getters and setters; that the name of
-//! a class is strict code; the name and the parameters of a function whose body begins with `"use strict"`; which
-//! members are named `constructor` or `prototype`; private names that no class declares; `with` and `delete` of a name
-//! in strict code; names that a module exports twice or doesn't declare, and words among them; `import.meta` in
-//! scripts; attributes of one key. `return` is taken in static blocks.
+//! It isn't promised that these trees are those of ECMA-262. A program is refused at the first fault of its text. Early
+//! errors, as names that are declared twice, are no faults here, but for those that the parser has: the crate
+//! early_errors looks for the rest.
 #![tactic(auto)]
 
 mod body;
 mod calls;
+pub mod faults;
 mod frame;
 mod member;
 mod module;
@@ -34,6 +31,7 @@ mod part;
 mod program;
 mod reader;
 mod statement;
+pub mod texts;
 pub mod tree;
 mod variables;
 mod words;

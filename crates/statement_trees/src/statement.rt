@@ -107,7 +107,13 @@ impl Reader {
     {
         match self.keyword() {
             Some(Keyword::Class | Keyword::Const) => Err(self.wants(Wanted::LBrace)),
-            Some(Keyword::Let) if self.at_let() => Err(self.wants(Wanted::LBrace)),
+            Some(Keyword::Let) if self.at_let() && !self.at_let_alone() => {
+                Err(self.wants(Wanted::LBrace))
+            }
+            Some(Keyword::Let) => {
+                let start = self.start();
+                self.other_statement(start)
+            }
             _ => self.statement(),
         }
     }

@@ -63,7 +63,8 @@ impl Reader {
     }
 
     /// A name or a pattern that is declared, and its value or nothing. `is_alone` says whether it may be a single one
-    /// before `of` or `in`, and afterwards whether it is.
+    /// before `of` or `in`, and afterwards whether it is. In sloppy code one of `var` may have a value before `in`
+    /// (B.3.5).
     fn declarator(&mut self, kind: VariableKind, is_alone: &mut bool) -> PResult<Declarator>
         ensures context { context_of self.new ≡ context_of self.old }
         ensures lower { work self.new ≤ work self.old }
@@ -72,12 +73,15 @@ impl Reader {
         let is_name = !self.at(&Token::LBracket) && !self.at(&Token::LBrace);
         let id = self.pat()?;
         let is_of = self.at_word("of");
+        let is_sloppy_var = kind == VariableKind::Var && is_name && !self.context().strict;
+        let may_have_value = *is_alone && is_sloppy_var;
         *is_alone = *is_alone && (is_of || self.keyword() == Some(Keyword::In));
         let init = if *is_alone {
             None
         } else {
             self.value(!is_name || kind == VariableKind::Const)?
         };
+        *is_alone |= may_have_value && init.is_some() && self.keyword() == Some(Keyword::In);
         let span = self.span_from(start);
         Ok(Declarator { span, id, init })
     }

@@ -11,16 +11,19 @@ use swc_ecma_parser::context::word::{Keyword, Word};
 use swc_ecma_parser::input::token::Token;
 
 impl Reader {
-    /// Whether the word, which is no keyword, is current.
+    /// Whether the word, which is no keyword, is current, and has no escape in it (5.1.5).
     pub(crate) fn at_word(&mut self, word: &str) -> bool
         ensures current { result ≡ true → IsSome (current (buffer_of self.new.parser)) }
         ensures context { context_of self.new ≡ context_of self.old }
         ensures lower { work self.new ≤ work self.old }
     {
-        match self.parser.buffer().cur() {
+        let input = self.parser.buffer();
+        let is_word = match input.cur() {
             Some(Token::Word(Word::Ident(name))) => name.as_str() == word,
             _ => false,
-        }
+        };
+        let span = input.cur_span();
+        is_word && span.hi.0.saturating_sub(span.lo.0) as usize == word.len()
     }
 
     /// Consumes the word, which is no keyword, if it is current. Says whether it did.
@@ -110,6 +113,22 @@ impl Reader {
                 Some(Token::Word(Word::Keyword(Keyword::In | Keyword::InstanceOf))) => false,
                 next => matches!(next, Some(Token::Word(_) | Token::LBracket | Token::LBrace)),
             }
+    }
+
+    /// Whether a line ends after `let`, which is current, and no `[` is after it: as a part of another statement, `let`
+    /// is a name then (14.5).
+    pub(crate) fn at_let_alone(&mut self) -> bool
+        ensures context { context_of self.new ≡ context_of self.old }
+        ensures lower { work self.new ≤ work self.old }
+    {
+        let input = self.parser.buffer();
+        match input.cur() {
+            Some(_) => {
+                !matches!(input.peek(), Some(Token::LBracket))
+                    && input.has_linebreak_between_cur_and_peeked()
+            }
+            None => false,
+        }
     }
 
     /// Whether a string is current.

@@ -61,10 +61,6 @@ module _ {F C K : Type 0} where
       rest_of r s d t ≡ node rest s (cons d (cons t nil))
   rest-is r s d t h = rw h refl
 
-  ident-rebound : (p : Tree F C K) → is_ident p ≡ true → want Rebind p ≡ p
-  ident-rebound (node (ident w) s ts) h = ap (node (ident w) s) (keeps-by Same Rebind (ident w) (λ t us. refl) ts)
-  ident-rebound (node k s ts) h = cc
-
   ident-ok : (p : Tree F C K) → is_ident p ≡ true → rest_ok Rebind p ≡ true
   ident-ok p h = rw h refl
 
@@ -102,7 +98,7 @@ module _ {F C K : Type 0} where
     prop-same k key_value s (cons q (cons v nil)) ts h e = rw (binds-same v h, keep-is q, e) refl
     prop-same k binding_prop s us ts h e = rw (keeps-by Same (Inside Rebind) binding_prop (λ t vs. refl) us, e) refl
     prop-same k rest s (cons d (cons p nil)) ts h e = rw (
-      ident-rebound p h,
+      keep-is p,
       keep-is d,
       rest-is Rebind s d p (ident-ok p h),
       e,

@@ -186,7 +186,6 @@ module _ {F C K : Type 0} (fun_at : F → Span) (class_at : C → Span) (block_a
       now i ≡ sought (role.RebindRest s) (old i)
   again-by s (n.PatIdent b) i h = h
   again-by s (n.PatInvalid b) i h = h
-  again-by s (n.PatExpr e) i h = h
   again-by s x i h = h
 
   -- what a part becomes by its role, and what an object's rest holds
@@ -343,7 +342,9 @@ module _ {F C K : Type 0} (fun_at : F → Span) (class_at : C → Span) (block_a
       cons-are (ap (λ w. node binding_prop s (cons (leaf (ident k.id.sym) k.id.span) (cons w nil)))
       (h.0 ∙ sym (keep-is (olds v)))) refl
   bare-prop (pat_prop.Rest s d p) us h =
-      cons-are (ap (λ v. node rest s (cons (leaf dots d) (cons v nil))) (bare-rest s p h)) refl
+      let t = part_tree old p in
+      cons-are (ap (λ v. node rest s (cons (leaf dots d) (cons v nil)))
+      (bare-rest s p h ∙ ap (λ v. sought (role.RebindRest s) v) (sym (keep-is t)))) refl
 
   bare-props : (xs : List PatPropNode) → Did (flat pat_prop_dues xs) →
       props_now (map bare_prop xs)
@@ -478,6 +479,7 @@ module _ {F C K : Type 0} (fun_at : F → Span) (class_at : C → Span) (block_a
   dressed (role.BindRest z) x y k a m h = rest-dressed z x y k a m h
   dressed (role.RebindRest z) x y k a m h = again-dressed z x y k a m h
   dressed role.Nothing x y k a m h = ap tree_now m
+  dressed (role.NothingAt z) x y k a m h = ap tree_now m
 
 -- what each tree becomes, by the role of its node
 pub law-sought : {F C K : Type 0} (fun_at : F → Span) (class_at : C → Span) (block_at : K → Span) →

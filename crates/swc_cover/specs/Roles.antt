@@ -6,7 +6,7 @@ use Rattle.swc_ast.specs.Tree.{invalid, Tree, span_of}
 use Rattle.swc_cover.specs.Wanted as wanted
 use Rattle.swc_cover.specs.Wanted.{want, rest_ok}
 use Rattle.swc_nodes.specs.declared.role.Role.{Role}
-use Rattle.swc_nodes.specs.declared.role.Role.TheVariants.{Keep, Bind, Assign, Rebind, BindRest, RebindRest, Nothing}
+use Rattle.swc_nodes.specs.declared.role.Role.TheVariants.{Keep, Bind, Assign, Rebind, BindRest, RebindRest, Nothing, NothingAt}
 
 -- what an object's rest holds, which spans s
 abbrev pub held_rest : {F C K : Type 0} → wanted.Role → Span → Tree F C K → Tree F C K
@@ -18,8 +18,9 @@ sought Bind t = want wanted.Bind t
 sought Assign t = want wanted.Assign t
 sought Rebind t = want wanted.Rebind t
 sought (BindRest s) t = held_rest wanted.Bind s (want wanted.Bind t)
-sought (RebindRest s) t = held_rest wanted.Rebind s (want wanted.Rebind t)
+sought (RebindRest s) t = held_rest wanted.Rebind s t
 sought Nothing t = leaf invalid (span_of t)
+sought (NothingAt s) t = leaf invalid s
 
 -- what an expression becomes
 abbrev pub refines : Role → Bool

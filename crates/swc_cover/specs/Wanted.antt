@@ -144,10 +144,11 @@ left_as Bind true = Rebind
 left_as r true = Keep
 left_as r false = r
 
--- what is held inside
-abbrev pub held_as : Role → Role
-held_as (Inside r) = r
-held_as r = Keep
+-- What is held inside. What an object's rest holds that is to bind is looked at as it is.
+abbrev pub held_as : {F C K : Type 0} → Kind F C K → Role → Role
+held_as rest (Inside Rebind) = Keep
+held_as k (Inside r) = r
+held_as k r = Keep
 
 abbrev pub last_as : {F C K : Type 0} → Role → Trees F C K → Role
 last_as r nil = r
@@ -174,7 +175,7 @@ part_as Array r k t ts = Inside r
 part_as Object r k t ts = Inside r
 part_as Objects r k t ts = Inside r
 part_as Default r k t ts = first_as (left_as r (is_pattern t)) ts
-part_as Holder r k t ts = last_as (held_as r) ts
+part_as Holder r k t ts = last_as (held_as k r) ts
 part_as b r k t ts = Keep
 
 abbrev mutual

@@ -26,8 +26,8 @@ use Rattle.swc_steps.specs.Parsing.{scope, seen, tree_of, Heard, On, Parses, Unh
 use Rattle.swc_steps.proofs.Steps.{Reader, give, consumes_of, more_recorded, read_scope}
 use Rattle.swc_steps.proofs.{Endings.read-valid, Steps.Calls.on_call_read}
 use Rattle.swc_ecma_parser.specs.{CoverNames.covers_left, CoverNames.parts_covers_left, declared.parser.Parser.Parser}
-use Rattle.swc_ecma_parser.proofs.{Left.expr-left, Left.pat-left, ArrowParams.heard_behind, Calling.failing, Calling.not_both, Moving.moved-as, Top.stripped, Top.complete}
-use Rattle.swc_ecma_parser.specs.Calls.{buffer_of, nodes_of, commas_of, has_failed, wants_memory, parser_failed, Kept}
+use Rattle.swc_ecma_parser.proofs.{Left.expr-left, Left.pat-left, ArrowParams.heard_behind, Calling.bounded, Calling.failing, Calling.not_both, Calling.shallow, Moving.moved-as, Top.stripped, Top.complete}
+use Rattle.swc_ecma_parser.specs.Calls.{buffer_of, nodes_of, commas_of, has_failed, wants_memory, standing, Ends, parser_failed, Kept}
 use Rattle.swc_ecma_parser.specs.Finishing.{no_places, parts_done, ChecksAnswer, ChecksCovers}
 use Rattle.swc_ecma_parser.specs.ForHeads.{boxed_head, coded, for_head_at, head_by, head_done, head_expr, is_each_word, is_target_id, DerivesHead, HeadAnswer, HeadPromise, PromisedHead, RemembersHead}
 use Rattle.swc_ecma_parser.specs.Promise.{Complete, Derivation, Finished, Unmarred, covers_done}
@@ -560,13 +560,15 @@ module _ {S H T F C K : Type 0} {fg : Ghosts F} {cg : Ghosts C} {kg : Ghosts K} 
     commas = λ n. refl;
     nodes = same;
     fails = λ runs. absurd (not_both h.0 runs);
+    bound = refl;
+    shallow = λ runs. absurd (not_both h.0 runs);
   }
 
   -- the buffer, the nodes and the commas before the parser remembers that it is out of memory
-  pub promised-head : {p q : Parser S H F C K fg cg kg} {f : Bool} (b : Buffer S) (ns : Nodes F C K fg cg kg)
+  pub promised-head : {p q : Parser S H F C K fg cg kg} {f : Bool × ℕ} (b : Buffer S) (ns : Nodes F C K fg cg kg)
       (cs : TrailingCommas)
-      (a r : Result T Error) → has_failed p ≡ false → f ≡ has_failed p → r ≡ a → buffer_of q ≡ b → nodes_of q ≡ ns
-      → commas_of q ≡ cs → has_failed q ≡ (f || wants_memory a)
+      (a r : Result T Error) → has_failed p ≡ false → f ≡ standing p → r ≡ a → buffer_of q ≡ b → nodes_of q ≡ ns
+      → commas_of q ≡ cs → Ends f a q
       → HeadPromise model sure (answer.derives hook is_await) (answer.head ns) (buffer_of p) a b
       → MatchResult a (λ t. RemembersHead model hook is_await answer.strip (answer.head ns t) (buffer_of p) b
       (commas_of p) cs)
@@ -583,4 +585,6 @@ module _ {S H T F C K : Type 0} {fg : Ghosts F} {cg : Ghosts C} {kg : Ghosts K} 
         commas = rw (e, buffer, nodes, commas) remembers;
         nodes = left;
         fails = λ w. failing a r runs same e fails;
+        bound = bounded a same fails;
+        shallow = λ w. shallow a r e fails;
       }

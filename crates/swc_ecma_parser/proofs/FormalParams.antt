@@ -4,7 +4,7 @@ use Rattle.std.specs.{declared.alloc.Global.Global, declared.vec.Vec.Vec}
 use Rattle.swc_context.specs.{declared.error.Error.Error, declared.error.SyntaxError.TheVariants.OutOfMemory, declared.span.BytePos.BytePos, declared.span.Span.Span}
 use Rattle.swc_input.specs.Buffer.{Future, Known, last_position, previous}
 use Rattle.swc_input.specs.{declared.buffer.Buffer.Buffer, declared.token.TokenAndSpan.TokenAndSpan, Laws.Known-after, Laws.Known-Future, Recording.no_memory, Source.Model}
-use Rattle.swc_ast.specs.Tree.{Tree, node, Trees, args, nil, cons, no_span, trees}
+use Rattle.swc_ast.specs.Tree.{Tree, node, Trees, args, nil, cons, no_span, span_of, trees}
 use Rattle.swc_ast.specs.Trees.{are_grouped, are_valid, items_of, listed, unmarked, all_unmarked}
 use Rattle.swc_ast.specs.{Parts.param_tree, Pedantic.all_privates_ok, Pedantic.none_left, TreeOf.pat_tree, declared.function.Param.Param, declared.pat.Pat.Pat as PatOf, declared.spanned.Spanned.Ghosts}
 use Rattle.swc_bodies.specs.Readings.{Hook, LawfulHook}
@@ -17,7 +17,7 @@ use Rattle.swc_laws.proofs.PedanticTrees.{all-covers-unmarked, all-privates-unma
 use Rattle.swc_nodes.specs.Commas.{comma_at, commas_in, commas_of_all, part_commas, recalled, Recalls}
 use Rattle.swc_nodes.specs.GrowingNodes.{tree_at, bare_at, Apart, CutTo}
 use Rattle.swc_nodes.specs.{NodeParts.flat, NodeParts.param_parts, declared.commas.TrailingCommas.TrailingCommas, declared.node.PatId.PatId, declared.nodes.Nodes.Nodes}
-use Rattle.swc_steps.specs.Params.{params_at, params_of, params_close}
+use Rattle.swc_steps.specs.Params.{params_at, params_of, params_close, pat_at, placed}
 use Rattle.swc_patterns.specs.ParamsRead.{AllReadAlone}
 use Rattle.swc_input.specs.Calls.{recorded, Checks, Loud}
 use Rattle.swc_steps.specs.Parsing.{scope, Acts, On, Unheard}
@@ -25,16 +25,19 @@ use Rattle.swc_steps.specs.{Keys.expected, Lists.eaten}
 use Rattle.swc_steps.proofs.Hearing.{same_faults}
 use Rattle.swc_steps.proofs.Steps.{Reader, forgoes_later, forgoes_refuses, on_checked_in, on_then, on_within_call, spent, more_recorded, unheard_call, unheard_memory}
 use Rattle.swc_ecma_parser.specs.CoverNames.{covers_left, covers_left_of_all, parts_covers_left}
-use Rattle.swc_ecma_parser.specs.Calls.{buffer_of, nodes_of, commas_of, has_failed, wants_memory, parser_failed, params_tree, Kept}
-use Rattle.swc_ecma_parser.specs.Promise.{ClosedBy, Derivation, DerivesOnlyParams, DerivesParams, Finished, ParamsAnswer, PromisedParams, RemembersParams, Unmarred, items_done, pats_of}
+use Rattle.swc_ecma_parser.specs.Calls.{buffer_of, nodes_of, commas_of, has_failed, wants_memory, standing, Ends, parser_failed, params_tree, Kept}
+use Rattle.swc_ecma_parser.specs.Promise.{ClosedBy, Derivation, DerivesOnlyParams, DerivesParams, Finished, ParamsAnswer, PromisedParams, RemembersParams, Unmarred, each_placed, items_done, pats_of}
 use Rattle.swc_ecma_parser.specs.{Finishing.parts_done, Finishing.ChecksAnswer, declared.parser.Parser.Parser}
 use Rattle.swc_ecma_parser.proofs.Finished.{finished, finished-from, finished-into, parts-told}
 use Rattle.swc_ecma_parser.proofs.Top.{as_many, memory, parts}
-use Rattle.swc_ecma_parser.proofs.{Calling.failing, Calling.not_both, ParamsAlone.AllFine, ParamsAlone.all-fine}
+use Rattle.swc_ecma_parser.proofs.{Calling.bounded, Calling.failing, Calling.not_both, Calling.shallow, ParamsAlone.AllFine, ParamsAlone.all-fine}
 
 -- ---- patterns of parameters
 
 module _ {F C K : Type 0} where
+  same_place : (t : Tree F C K) → span_of (unmarked t) ≡ span_of t
+  same_place (node k s ts) = refl
+
   -- the patterns that nodes of parameters hold
   abbrev first_parts : Trees F C K → Trees F C K
   first_parts nil = nil
@@ -478,6 +481,52 @@ module _ {F C K : Type 0} {fg : Ghosts F} {cg : Ghosts C} {kg : Ghosts K} where
   params-kept ms ns last k (Ok x) (Err e) same cut = same
   params-kept ms ns last k (Err x) r same e = same
 
+  -- where they lie
+  placed_by : (f : PatOf F C K → Tree F C K) (ns : Nodes F C K fg cg kg) (xs : List (Param (PatOf F C K)))
+      (ys : List (Param PatId))
+      → trees (map (param_tree f) xs) ≡ trees (map (param_tree (λ (p : PatId). bare_at ns p.0)) ys) → placed ns ys
+      → each_placed f xs
+  placed_by f ns [] ys e h = tt
+  placed_by f ns (x ∷ xs) [] e h = absurd cc
+  placed_by f ns (x ∷ xs) (y ∷ ys) e h =
+      let at : x.span ≡ y.span = cc in
+      let tree : f x.pat ≡ bare_at ns y.pat.0 = cc in
+      let rest : trees (map (param_tree f) xs) ≡ trees (map (param_tree (λ (p : PatId). bare_at ns p.0)) ys) = cc in (
+        at ∙ h.0 ∙ sym (same_place (tree_at ns y.pat.0)) ∙ ap (λ t. span_of t) (sym tree),
+        placed_by f ns xs ys rest h.1,
+      )
+
+  pub placed-moved : (ns : Nodes F C K fg cg kg) (last : BytePos) (answer : Result (Vec (Param PatId) Global) Error)
+      (r : Result (Vec (Param (PatOf F C K)) Global) Error) → MatchResult answer
+      (λ x. MatchResult r
+      (λ v. params_tree (pat_tree F C K fg.place cg.place kg.place) v ≡ params_tree (λ (p : PatId). bare_at ns p.0) x)
+      (λ e. e ≡ no_memory last))
+      (λ e. r ≡ Err e) → IfOk answer (λ x. placed ns x.items)
+      → IfOk r (λ v. each_placed (pat_tree F C K fg.place cg.place kg.place) v.items)
+  placed-moved ns last (Ok x) (Ok v) e h =
+      placed_by (pat_tree F C K fg.place cg.place kg.place) ns v.items x.items (ap (λ t. items_of t) e) h
+  placed-moved ns last (Err e) (Ok v) m h = absurd cc
+  placed-moved ns last answer (Err e) m h = tt
+
+  each_at : (ns : Nodes F C K fg cg kg) (xs : List (Param PatId)) → placed ns xs → each_placed (λ p. pat_at ns p) xs
+  each_at ns [] h = tt
+  each_at ns (x ∷ xs) h = (h.0, each_at ns xs h.1)
+
+  pub placed-kept : (ms ns : Nodes F C K fg cg kg) (last : BytePos) (k : ℕ)
+      (answer r : Result (Vec (Param PatId) Global) Error)
+      → Kept last answer r → MatchResult r (λ x. ns ≡ ms) (λ e. CutTo k ms ns)
+      → IfOk answer (λ x. placed ms x.items) → IfOk r (λ v. each_placed (λ p. pat_at ns p) v.items)
+  placed-kept ms ns last k (Ok x) (Ok y) same e h =
+      let moved : placed ns y.items = subst (λ m. placed m y.items) (sym e) (subst (λ v. placed ms v.items) (sym same) h) in
+      each_at ns y.items moved
+  placed-kept ms ns last k answer (Err e) same cut h = tt
+  placed-kept ms ns last k (Err x) (Ok y) same e h = absurd cc
+
+  pub params-placed : (ns : Nodes F C K fg cg kg) (k : ℕ) (answer : Result (Vec (Param PatId) Global) Error)
+      → IfOk answer (λ x. params_of k ns x) → IfOk answer (λ x. placed ns x.items)
+  params-placed ns k (Ok x) h = h.1
+  params-placed ns k (Err e) h = tt
+
   pub params-apart : (ns : Nodes F C K fg cg kg) (k : ℕ) (answer : Result (Vec (Param PatId) Global) Error)
       → IfOk answer (λ x. params_of k ns x) → IfOk answer (λ x. Apart k ns (flat param_parts x.items))
   params-apart ns k (Ok x) h = h.0
@@ -499,20 +548,24 @@ module _ {S H T F C K : Type 0} {fg : Ghosts F} {cg : Ghosts C} {kg : Ghosts K} 
     valid = λ runs. absurd (not_both h.0 runs);
     privates = λ runs. absurd (not_both h.0 runs);
     binds = λ runs. absurd (not_both h.0 runs);
+    spans = tt;
     commas = λ n. refl;
     nodes = same;
     fails = λ runs. absurd (not_both h.0 runs);
+    bound = refl;
+    shallow = λ runs. absurd (not_both h.0 runs);
   }
 
   -- the buffer, the nodes and the commas before the parser remembers that it is out of memory
-  pub promised-params : {p q : Parser S H F C K fg cg kg} {f : Bool} (b : Buffer S) (ns : Nodes F C K fg cg kg)
+  pub promised-params : {p q : Parser S H F C K fg cg kg} {f : Bool × ℕ} (b : Buffer S) (ns : Nodes F C K fg cg kg)
       (cs : TrailingCommas)
-      (a r : Result T Error) → has_failed p ≡ false → f ≡ has_failed p →
-      r ≡ a → buffer_of q ≡ b → nodes_of q ≡ ns → commas_of q ≡ cs → has_failed q ≡ (f || wants_memory a)
+      (a r : Result T Error) → has_failed p ≡ false → f ≡ standing p →
+      r ≡ a → buffer_of q ≡ b → nodes_of q ≡ ns → commas_of q ≡ cs → Ends f a q
       → MeetsParams model sure hook (answer.derives hook Params) answer.strip (answer.pats ns) (buffer_of p) a b
       (commas_of p) cs
-      → answer.leaves (nodes_of p) a ns → PromisedParams model sure hook answer p r q
-  promised-params {p} {q} b ns cs a r runs same e buffer nodes commas fails done kept =
+      → answer.leaves (nodes_of p) a ns → IfOk a (λ v. answer.placed ns v)
+      → PromisedParams model sure hook answer p r q
+  promised-params {p} {q} b ns cs a r runs same e buffer nodes commas fails done kept spans =
       let meets : MeetsParams model sure hook (answer.derives hook Params) answer.strip (answer.pats (nodes_of q))
       (buffer_of p) r (buffer_of q)
       (commas_of p) (commas_of q) = rw (e, buffer, nodes, commas) done in
@@ -526,7 +579,10 @@ module _ {S H T F C K : Type 0} {fg : Ghosts F} {cg : Ghosts C} {kg : Ghosts K} 
         valid = λ w. meets.valid;
         privates = λ w. meets.privates;
         binds = λ w. meets.binds;
+        spans = rw (e, nodes) spans;
         commas = meets.commas;
         nodes = rw (e, nodes) kept;
         fails = λ w. failing a r runs same e fails;
+        bound = bounded a same fails;
+        shallow = λ w. shallow a r e fails;
       }

@@ -14,9 +14,9 @@ use Rattle.swc_cover.specs.Moving.{KeptTo}
 use Rattle.swc_input.specs.Calls.{Loud}
 use Rattle.swc_steps.specs.Parsing.{Acts}
 use Rattle.swc_steps.proofs.{Hearing.same_faults, Steps.spent, Steps.forgoes_refuses}
-use Rattle.swc_ecma_parser.specs.Calls.{buffer_of, nodes_of, commas_of, has_failed, wants_memory, parser_failed, pats_tree}
+use Rattle.swc_ecma_parser.specs.Calls.{buffer_of, nodes_of, commas_of, has_failed, wants_memory, standing, Ends, parser_failed, pats_tree}
 use Rattle.swc_ecma_parser.specs.{Promise.Unmarred, Refinement.PromisedRefinement, Refinement.Recasts, declared.parser.Parser.Parser}
-use Rattle.swc_ecma_parser.proofs.{Calling.failing, Calling.not_both, Top.memory}
+use Rattle.swc_ecma_parser.proofs.{Calling.bounded, Calling.failing, Calling.not_both, Calling.shallow, Top.memory}
 
 -- What making patterns of expressions does and answers, from one state of the buffer to another.
 pub record MeetsRefinement {S T A : Type 0} (model : Model S) (valid : Bool) (pattern : Option A) (becomes : A)
@@ -117,13 +117,15 @@ module _ {S H T A F C K : Type 0} {fg : Ghosts F} {cg : Ghosts C} {kg : Ghosts K
     commas = refl;
     nodes = kept;
     fails = λ runs. absurd (not_both h.0 runs);
+    bound = refl;
+    shallow = λ runs. absurd (not_both h.0 runs);
   }
 
   -- the buffer, the nodes and the commas before the parser remembers that it is out of memory
-  pub promised-refinement : {p q : Parser S H F C K fg cg kg} {f : Bool} (b : Buffer S) (ns : Nodes F C K fg cg kg)
+  pub promised-refinement : {p q : Parser S H F C K fg cg kg} {f : Bool × ℕ} (b : Buffer S) (ns : Nodes F C K fg cg kg)
       (cs : TrailingCommas)
-      (a r : Result T Error) → has_failed p ≡ false → f ≡ has_failed p →
-      r ≡ a → buffer_of q ≡ b → nodes_of q ≡ ns → commas_of q ≡ cs → has_failed q ≡ (f || wants_memory a)
+      (a r : Result T Error) → has_failed p ≡ false → f ≡ standing p →
+      r ≡ a → buffer_of q ≡ b → nodes_of q ≡ ns → commas_of q ≡ cs → Ends f a q
       → MeetsRefinement model valid pattern becomes strip view (buffer_of p) a b
       → Records (buffer_of p) a b → cs ≡ commas_of p → Keeps (nodes_of p) ns
       → PromisedRefinement model valid pattern becomes strip view Records Keeps p r q
@@ -140,6 +142,8 @@ module _ {S H T A F C K : Type 0} {fg : Ghosts F} {cg : Ghosts C} {kg : Ghosts K
         commas = commas ∙ same_commas;
         nodes = rw (nodes) kept;
         fails = λ w. failing a r runs same e fails;
+        bound = bounded a same fails;
+        shallow = λ w. shallow a r e fails;
       }
 
 -- what was recorded and refused before the answer was moved out

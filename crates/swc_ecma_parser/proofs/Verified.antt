@@ -11,9 +11,9 @@ use Rattle.swc_ecma_parser.specs.{CoverNames.cover_names, declared.parser.Parser
 use Rattle.swc_ecma_parser.specs.Faults.{cover_faults, begins_fit, Appends}
 use Rattle.swc_input.specs.Calls.{Loud, Tries}
 use Rattle.swc_steps.proofs.Steps.{spent}
-use Rattle.swc_ecma_parser.specs.Calls.{buffer_of, nodes_of, commas_of, has_failed, parser_failed, wants_memory}
+use Rattle.swc_ecma_parser.specs.Calls.{buffer_of, nodes_of, commas_of, has_failed, parser_failed, wants_memory, standing, Ends}
 use Rattle.swc_ecma_parser.specs.Verification.{PromisedVerification, RecordsFaults, TriesFaults}
-use Rattle.swc_ecma_parser.proofs.Calling.{failing, not_both}
+use Rattle.swc_ecma_parser.proofs.Calling.{bounded, failing, not_both, shallow}
 
 -- ---- what was recorded
 
@@ -128,13 +128,15 @@ module _ {S H T F C K : Type 0} {fg : Ghosts F} {cg : Ghosts C} {kg : Ghosts K} 
     commas = refl;
     nodes = refl;
     fails = λ runs. absurd (not_both h.0 runs);
+    bound = refl;
+    shallow = λ runs. absurd (not_both h.0 runs);
   }
 
   -- the buffer, the nodes and the commas before the parser remembers that it is out of memory
-  pub promised-verification : {p q : Parser S H F C K fg cg kg} {f : Bool} (b : Buffer S) (ns : Nodes F C K fg cg kg)
+  pub promised-verification : {p q : Parser S H F C K fg cg kg} {f : Bool × ℕ} (b : Buffer S) (ns : Nodes F C K fg cg kg)
       (cs : TrailingCommas)
-      (a r : Result T Error) → has_failed p ≡ false → f ≡ has_failed p
-      → r ≡ a → buffer_of q ≡ b → nodes_of q ≡ ns → commas_of q ≡ cs → has_failed q ≡ (f || wants_memory a)
+      (a r : Result T Error) → has_failed p ≡ false → f ≡ standing p
+      → r ≡ a → buffer_of q ≡ b → nodes_of q ≡ ns → commas_of q ≡ cs → Ends f a q
       → MeetsVerification model given view (buffer_of p) a b
       → cs ≡ commas_of p → SameNodes (nodes_of p) ns → PromisedVerification model given view p r q
   promised-verification {p} {q} b ns cs a r runs same e buffer nodes commas fails done same_commas kept =
@@ -150,4 +152,6 @@ module _ {S H T F C K : Type 0} {fg : Ghosts F} {cg : Ghosts C} {kg : Ghosts K} 
         commas = commas ∙ same_commas;
         nodes = rw (nodes) kept;
         fails = λ w. failing a r runs same e fails;
+        bound = bounded a same fails;
+        shallow = λ w. shallow a r e fails;
       }

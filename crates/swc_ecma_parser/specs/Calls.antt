@@ -1,5 +1,5 @@
 -- What the calls of a parser do.
-use Rattle.std.specs.Prelude.{◌≡◌, ℕ, List, map, Bool, true, false, None, IsSome, Option, Result, Ok, Err, IfOk, IfErr, OnOk, MatchResult}
+use Rattle.std.specs.Prelude.{◌≡◌, ◌||◌, ℕ, List, map, Bool, true, false, None, IsSome, Option, Result, Ok, Err, IfOk, IfErr, OnOk, MatchResult}
 use Rattle.std.specs.{declared.alloc.Global.Global, declared.boxed.Box.Box, declared.vec.Vec.Vec}
 use Rattle.swc_context.specs.{declared.error.Error.Error, declared.error.SyntaxError.TheVariants.ParserFailed, declared.span.BytePos.BytePos, declared.span.Span.Span}
 use Rattle.swc_input.specs.Buffer.{ReadSome, Looked, current, last_position, previous, state_of}
@@ -78,6 +78,11 @@ abbrev pub met_bound : {S H F C K : Type 0} {fg : Ghosts F} {cg : Ghosts C} {kg 
     → Parser S H F C K fg cg kg → Bool
 met_bound p = p.productions.too_deep
 
+-- whether it has failed, and its bound: what the steps of a call leave as they are
+abbrev pub standing : {S H F C K : Type 0} {fg : Ghosts F} {cg : Ghosts C} {kg : Ghosts K}
+    → Parser S H F C K fg cg kg → Bool × ℕ
+standing p = (has_failed p, bound_of p)
+
 -- with another bound
 abbrev pub with_bound : {S H F C K : Type 0} {fg : Ghosts F} {cg : Ghosts C} {kg : Ghosts K} → ℕ
     → Parser S H F C K fg cg kg → Parser S H F C K fg cg kg
@@ -87,6 +92,14 @@ with_bound n p = record p { room = n }
 abbrev pub wants_memory : {T : Type 0} → Result T Error → Bool
 wants_memory (Ok t) = false
 wants_memory (Err e) = is_memory e.kind
+
+-- How a call ends that answers a: the parser has failed if it had before, or is out of memory, and keeps its bound. Where
+-- it isn't out of memory, nothing was nested too deeply.
+pub record Ends {S H F C K T : Type 0} {fg : Ghosts F} {cg : Ghosts C} {kg : Ghosts K} (was : Bool × ℕ)
+    (a : Result T Error) (q : Parser S H F C K fg cg kg) : Type 0 where
+  pub failed : has_failed q ≡ (was.0 || wants_memory a)
+  pub bound : bound_of q ≡ was.1
+  pub shallow : wants_memory a ≡ false → met_bound q ≡ false
 
 -- the refusal of a parser that has failed
 abbrev pub parser_failed : Span → Error
@@ -104,6 +117,9 @@ module _ {S H F C K T : Type 0} {fg : Ghosts F} {cg : Ghosts C} {kg : Ghosts K} 
     pub nodes : nodes_of q ≡ nodes_of p
     pub commas : commas_of q ≡ commas_of p
     pub fails : has_failed p ≡ false → has_failed q ≡ wants_memory r
+    -- the bound on nesting stays; and it was met only where the call refuses when out of memory
+    pub bound : bound_of q ≡ bound_of p
+    pub shallow : has_failed p ≡ false → wants_memory r ≡ false → met_bound q ≡ false
 
 module _ {S H F C K X T : Type 0} {fg : Ghosts F} {cg : Ghosts C} {kg : Ghosts K} where
   -- the answer in boxes: what the numbers stand for among the nodes, without the marks of commas, or memory ran out
@@ -159,6 +175,9 @@ module _ {S H F C K : Type 0} {fg : Ghosts F} {cg : Ghosts C} {kg : Ghosts K} wh
     pub makes : has_failed p ≡ false → MakesObject fg.place cg.place kg.place span props (buffer_of p) r (buffer_of q)
     pub nodes : nodes_of q ≡ nodes_of p
     pub fails : has_failed p ≡ false → has_failed q ≡ wants_memory r
+    -- the bound on nesting stays; and it was met only where the call refuses when out of memory
+    pub bound : bound_of q ≡ bound_of p
+    pub shallow : has_failed p ≡ false → wants_memory r ≡ false → met_bound q ≡ false
     pub remembers : OnOk r (Remembers span.lo.0 comma (commas_of p) (commas_of q))
 
 module _ {S F C K : Type 0} (model : Model S) (fun_at : F → Span) (class_at : C → Span) (block_at : K → Span) where
@@ -183,4 +202,7 @@ module _ {S H F C K : Type 0} {fg : Ghosts F} {cg : Ghosts C} {kg : Ghosts K} wh
         (buffer_of q)
     pub nodes : nodes_of q ≡ nodes_of p
     pub fails : has_failed p ≡ false → has_failed q ≡ wants_memory r
+    -- the bound on nesting stays; and it was met only where the call refuses when out of memory
+    pub bound : bound_of q ≡ bound_of p
+    pub shallow : has_failed p ≡ false → wants_memory r ≡ false → met_bound q ≡ false
     pub remembers : OnOk r (Remembers span.lo.0 None (commas_of p) (commas_of q))

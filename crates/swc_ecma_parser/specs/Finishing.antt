@@ -8,7 +8,7 @@ use Rattle.swc_nodes.specs.{GrowingNodes.tree_at, GrowingNodes.CutTo, NodeParts.
 use Rattle.swc_input.specs.Calls.{Checks, Forgoes}
 use Rattle.swc_steps.specs.Parsing.{scope}
 use Rattle.swc_ecma_parser.specs.{CoverNames.parts_covers_left, declared.parser.Parser.Parser}
-use Rattle.swc_ecma_parser.specs.Calls.{buffer_of, nodes_of, has_failed, wants_memory, with_buffer, Kept, MovesOut, RemembersParts}
+use Rattle.swc_ecma_parser.specs.Calls.{buffer_of, nodes_of, standing, Ends, with_buffer, Kept, MovesOut, RemembersParts}
 
 abbrev pub no_places : List Span → Bool
 no_places [] = true
@@ -45,7 +45,7 @@ pub record HandsOut {S H F C K X T : Type 0} {fg : Ghosts F} {cg : Ghosts C} {kg
   pub commas : RemembersParts parts p answer r q
   pub nodes : CutTo start (nodes_of p) (nodes_of q)
   pub buffer : buffer_of q ≡ buffer_of p
-  pub fails : has_failed q ≡ (has_failed p || wants_memory r)
+  pub fails : Ends (standing p) r q
 
 module _ {S H F C K X : Type 0} {fg : Ghosts F} {cg : Ghosts C} {kg : Ghosts K} (model : Model S)
     (parts : X → List Part) (start : ℕ) (p : Parser S H F C K fg cg kg) (answer : Result X Error) where
@@ -65,7 +65,7 @@ module _ {S H F C K X : Type 0} {fg : Ghosts F} {cg : Ghosts C} {kg : Ghosts K} 
     pub commas : RemembersParts parts p checked r q
     pub nodes : MatchResult r (λ x. nodes_of q ≡ nodes_of p) (λ e. CutTo start (nodes_of p) (nodes_of q))
     pub buffer : buffer_of q ≡ at
-    pub fails : has_failed q ≡ (has_failed p || wants_memory r)
+    pub fails : Ends (standing p) r q
 
   -- Or it was moved out of them.
   pub record MovesCheckedOut {T : Type 0} (by : (ℕ → Tree F C K) → X → Tree F C K) (view : T → Tree F C K)

@@ -16,7 +16,7 @@ use Rattle.swc_nodes.specs.GrowingNodes.{tree_at, Apart, SameNodes}
 use Rattle.swc_nodes.specs.{Commas.commas_in, Commas.Recalls, NodeParts.for_head_parts, declared.commas.TrailingCommas.TrailingCommas, declared.node.ForHeadId.ForHeadId, declared.node.ForHeadId.ForHeadId as number, declared.nodes.Nodes.Nodes}
 use Rattle.swc_input.specs.Calls.{Loud}
 use Rattle.swc_steps.specs.Parsing.{scope, seen, Consumes}
-use Rattle.swc_ecma_parser.specs.Calls.{buffer_of, nodes_of, commas_of, tree_by, has_failed, wants_memory, parser_failed}
+use Rattle.swc_ecma_parser.specs.Calls.{buffer_of, nodes_of, commas_of, tree_by, has_failed, bound_of, met_bound, wants_memory, parser_failed}
 use Rattle.swc_ecma_parser.specs.Promise.{Answer, AddsParts, Complete, Derivation, Finished, Promised, Unmarred, covers_done}
 use Rattle.swc_ecma_parser.specs.declared.parser.Parser.{Parser}
 
@@ -191,3 +191,6 @@ pub record PromisedHead {S H T F C K : Type 0} {fg : Ghosts F} {cg : Ghosts C} {
   pub nodes : answer.leaves (nodes_of p) r (nodes_of q)
   -- it has failed from now on where it refuses when out of memory, and only there
   pub fails : has_failed p ≡ false → has_failed q ≡ wants_memory r
+  -- the bound on nesting stays; and it was met only where the call refuses when out of memory
+  pub bound : bound_of q ≡ bound_of p
+  pub shallow : has_failed p ≡ false → wants_memory r ≡ false → met_bound q ≡ false

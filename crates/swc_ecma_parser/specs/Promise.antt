@@ -8,7 +8,7 @@ use Rattle.swc_input.specs.Buffer.{Read, ReadSome, Future, Known, previous, to_c
 use Rattle.swc_input.specs.{declared.buffer.Buffer.Buffer, declared.token.TokenAndSpan.TokenAndSpan, Source.Model, Kinds.at_token}
 use Rattle.swc_ast.specs.Parts.{lit_tree, prop_name_tree, args_tree, tpl_tree}
 use Rattle.swc_ast.specs.Pedantic.{all_privates_ok, no_cover_left, none_left, privates_ok}
-use Rattle.swc_ast.specs.Tree.{Tree, Trees, node, args, args_with, no_span, trees}
+use Rattle.swc_ast.specs.Tree.{Tree, Trees, node, args, args_with, no_span, span_of, trees}
 use Rattle.swc_ast.specs.TreeOf.{pat_tree, pat_prop_tree, prop_or_spread_tree}
 use Rattle.swc_ast.specs.Trees.{is_grouped, are_grouped, is_valid, are_valid, items_of, comma_of, listed, unmarked, all_unmarked}
 use Rattle.swc_ast.specs.{declared.expr.Expr.Expr as ExprOf, declared.expr.ExprOrSpread.ExprOrSpread, declared.expr.Tpl.Tpl, declared.function.Param.Param, declared.lit.Lit.Lit, declared.pat.ObjectPatProp.ObjectPatProp, declared.pat.Pat.Pat as PatOf, declared.prop.PropName.PropName, declared.prop.PropOrSpread.PropOrSpread, declared.spanned.Spanned.Ghosts}
@@ -27,7 +27,7 @@ use Rattle.swc_nodes.specs.{Lists.pats_parts, declared.commas.TrailingCommas.Tra
 use Rattle.swc_steps.specs.Params.{pat_at, params_at}
 use Rattle.swc_input.specs.Calls.{Loud}
 use Rattle.swc_steps.specs.Parsing.{scope, Acts, Consumes, key_at, tree_of}
-use Rattle.swc_ecma_parser.specs.Calls.{buffer_of, nodes_of, commas_of, tree_by, pats_tree, has_failed, wants_memory, parser_failed}
+use Rattle.swc_ecma_parser.specs.Calls.{buffer_of, nodes_of, commas_of, tree_by, pats_tree, has_failed, bound_of, met_bound, wants_memory, parser_failed}
 use Rattle.swc_ecma_parser.specs.declared.parser.Parser.{Parser}
 
 -- a derivation of A: in the scope, from the tokens from the first list on to before the second
@@ -381,6 +381,9 @@ pub record Promised {S H T F C K : Type 0} {fg : Ghosts F} {cg : Ghosts C} {kg :
   pub nodes : answer.leaves (nodes_of p) r (nodes_of q)
   -- it has failed from now on where it refuses when out of memory, and only there
   pub fails : has_failed p ≡ false → has_failed q ≡ wants_memory r
+  -- the bound on nesting stays; and it was met only where the call refuses when out of memory
+  pub bound : bound_of q ≡ bound_of p
+  pub shallow : has_failed p ≡ false → wants_memory r ≡ false → met_bound q ≡ false
 
 -- What a call on a name does and promises, from b to c: by the calls of swc_ident, and that what is answered is what
 -- the grammar derives, and the other way.
@@ -420,18 +423,26 @@ abbrev pub pats_of : {F C K : Type 0} → (F → Span) → (C → Span) → (K �
     → Trees F C K
 pats_of {F} {C} {K} fun class block ps = trees (map (λ p. pat_tree F C K fun class block p.pat) ps.items)
 
--- How a call answers parameters: which patterns an answer stands for, by the nodes that the parser then has; what
--- derives them, finished; what is left in them of patterns with their marks of commas; and what becomes of the nodes.
+-- each parameter lies where its pattern does
+abbrev pub each_placed : {F C K X : Type 0} → (X → Tree F C K) → List (Param X) → Type 0
+each_placed at [] = Unit {0}
+each_placed at (p ∷ ps) = (p.span ≡ span_of (at p.pat)) × each_placed at ps
+
+-- How a call answers parameters: which patterns an answer stands for, by the nodes that the parser then has, and that
+-- the parameters lie where these do; what derives them, finished; what is left in them of patterns with their marks of
+-- commas; and what becomes of the nodes.
 pub record ParamsAnswer (T F C K : Type 0) (fg : Ghosts F) (cg : Ghosts C) (kg : Ghosts K) : Type 1 where
   pub pats : Nodes F C K fg cg kg → T → Trees F C K
+  pub placed : Nodes F C K fg cg kg → T → Type 0
   pub derives : Hook F C K → Symbol → Derivation (Tree F C K)
   pub strip : Trees F C K → Trees F C K
   pub leaves : Nodes F C K fg cg kg → Result T Error → Nodes F C K fg cg kg → Type 0
 
 abbrev pub params_in_boxes : {F C K : Type 0} {fg : Ghosts F} {cg : Ghosts C} {kg : Ghosts K}
     → ParamsAnswer (Vec (Param (PatOf F C K)) Global) F C K fg cg kg
-params_in_boxes {fg = fg} {cg = cg} {kg = kg} = record {
+params_in_boxes {F} {C} {K} {fg = fg} {cg = cg} {kg = kg} = record {
   pats = λ ns ps. pats_of fg.place cg.place kg.place ps;
+  placed = λ ns ps. each_placed (pat_tree F C K fg.place cg.place kg.place) ps.items;
   derives = λ hook s. Finished items_done (ReadsUnmarked hook s);
   strip = λ ts. all_unmarked ts;
   leaves = λ ns r ms. SameNodes ns ms;
@@ -441,6 +452,7 @@ abbrev pub params_by_number : {F C K : Type 0} {fg : Ghosts F} {cg : Ghosts C} {
     → ParamsAnswer (Vec (Param PatId) Global) F C K fg cg kg
 params_by_number = record {
   pats = λ ns ps. params_at ns ps;
+  placed = λ ns ps. each_placed (λ p. pat_at ns p) ps.items;
   derives = λ hook s. Finished items_done (Reads hook s);
   strip = λ ts. ts;
   leaves = AddsParts (λ ps. flat param_parts ps.items);
@@ -519,6 +531,8 @@ pub record PromisedParams {S H T F C K : Type 0} {fg : Ghosts F} {cg : Ghosts C}
       → all_privates_ok false false (answer.pats (nodes_of q) v) ≡ true)
   pub binds : has_failed p ≡ false → Loud model (buffer_of p) → IfOk r (λ v. Unmarred model (buffer_of p) (buffer_of q)
       → all_bind_names any (answer.pats (nodes_of q) v) ≡ true)
+  -- Each parameter lies where its pattern does, faults or not.
+  pub spans : IfOk r (λ v. answer.placed (nodes_of q) v)
   -- The commas of literals in initialisers and keys were remembered; what is refused but when out of memory leaves what
   -- there was.
   pub commas : MatchResult r
@@ -529,6 +543,9 @@ pub record PromisedParams {S H T F C K : Type 0} {fg : Ghosts F} {cg : Ghosts C}
   pub nodes : answer.leaves (nodes_of p) r (nodes_of q)
   -- it has failed from now on where it refuses when out of memory, and only there
   pub fails : has_failed p ≡ false → has_failed q ≡ wants_memory r
+  -- the bound on nesting stays; and it was met only where the call refuses when out of memory
+  pub bound : bound_of q ≡ bound_of p
+  pub shallow : has_failed p ≡ false → wants_memory r ≡ false → met_bound q ≡ false
 
 -- what a hook reads where a statement is, of the context alone
 abbrev pub ReadsBody : {V : Type 0} → Reading V → Derivation V

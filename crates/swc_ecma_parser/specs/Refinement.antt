@@ -17,7 +17,7 @@ use Rattle.swc_cover.specs.{Faults.Verdict, Faults.params_verdict, Items.want_it
 use Rattle.swc_steps.specs.Params.{pat_at}
 use Rattle.swc_input.specs.Calls.{Loud}
 use Rattle.swc_steps.specs.Parsing.{Acts}
-use Rattle.swc_ecma_parser.specs.Calls.{buffer_of, nodes_of, commas_of, has_failed, parser_failed, tree_by, wants_memory}
+use Rattle.swc_ecma_parser.specs.Calls.{buffer_of, nodes_of, commas_of, has_failed, bound_of, met_bound, parser_failed, tree_by, wants_memory}
 use Rattle.swc_ecma_parser.specs.{Promise.Unmarred, declared.parser.Parser.Parser}
 
 -- What a call promises that makes patterns of expressions, from the parser p to q, where it answers r. By the grammar
@@ -53,6 +53,9 @@ pub record PromisedRefinement {S H T A F C K : Type 0} {fg : Ghosts F} {cg : Gho
   pub nodes : Keeps (nodes_of p) (nodes_of q)
   -- it has failed from now on where it refuses when out of memory, and only there
   pub fails : has_failed p ≡ false → has_failed q ≡ wants_memory r
+  -- the bound on nesting stays; and it was met only where the call refuses when out of memory
+  pub bound : bound_of q ≡ bound_of p
+  pub shallow : has_failed p ≡ false → wants_memory r ≡ false → met_bound q ≡ false
 
 -- the parameters that items in parentheses are, where a comma is after them or none, and they bind what they may
 -- in the context

@@ -10,7 +10,7 @@ use Rattle.swc_nodes.specs.{NodeParts.expr_part, declared.node.ExprId.ExprId}
 use Rattle.swc_ecma_parser.specs.{CoverNames.cover_names, declared.parser.Parser.Parser}
 use Rattle.swc_ecma_parser.specs.Faults.{cover_faults, begins_fit, Appends}
 use Rattle.swc_input.specs.Calls.{Forgoes, Leads, Loud, Tries}
-use Rattle.swc_ecma_parser.specs.Calls.{buffer_of, nodes_of, commas_of, has_failed, parser_failed, tree_by, wants_memory}
+use Rattle.swc_ecma_parser.specs.Calls.{buffer_of, nodes_of, commas_of, has_failed, bound_of, met_bound, parser_failed, tree_by, wants_memory}
 
 -- What is promised of a call that is given the tree of an expression, from the parser p to q, where it answers r.
 pub record PromisedVerification {S H T F C K : Type 0} {fg : Ghosts F} {cg : Ghosts C} {kg : Ghosts K}
@@ -42,6 +42,9 @@ pub record PromisedVerification {S H T F C K : Type 0} {fg : Ghosts F} {cg : Gho
   pub nodes : SameNodes (nodes_of p) (nodes_of q)
   -- it has failed from now on where it refuses when out of memory, and only there
   pub fails : has_failed p ≡ false → has_failed q ≡ wants_memory r
+  -- the bound on nesting stays; and it was met only where the call refuses when out of memory
+  pub bound : bound_of q ≡ bound_of p
+  pub shallow : has_failed p ≡ false → wants_memory r ≡ false → met_bound q ≡ false
 
 module _ {S H F C K : Type 0} {fg : Ghosts F} {cg : Ghosts C} {kg : Ghosts K} where
   -- the names that are left over in an expression in a box are recorded, and the expression answered

@@ -1,5 +1,5 @@
 -- All that a listed source gives, read as one expression or as one binding pattern: the headline, in its own words.
-use Rattle.std.specs.Prelude.{◌≡◌, Bool, true, false, not, List, [], map, Some, Result, Ok, Err, IfOk, MatchResult}
+use Rattle.std.specs.Prelude.{◌≡◌, ◌≢◌, Bool, true, false, not, List, [], ◌++◌, map, Some, Result, Ok, Err, IfOk, MatchResult}
 use Rattle.swc_context.specs.{Contexts.view, declared.context.Context.Context, declared.context.Syntax.Syntax, declared.error.Error.Error, declared.error.SyntaxError.TheVariants.OutOfMemory}
 use Rattle.swc_input.specs.{declared.token.TokenAndSpan.TokenAndSpan, Plain.plain, Source.Model, Source.Source}
 use Rattle.swc_ast.specs.{declared.spanned.Spanned.Ghosts, Tree.Tree}
@@ -41,6 +41,46 @@ module _ {N F C K : Type 0} {fg : Ghosts F} {cg : Ghosts C} {kg : Ghosts K} wher
     -- recorded, or memory was wanted. The hook has to be faithful.
     pub complete : sure ≡ true → (t : Tree F C K) → Finished covers_done (Reads hook s) (scope_of (view c) x) ts [] t
         → MatchResult read (λ r. (tree nodes r.0 ≡ t) × (r.1 ≡ false) × (recorded ≡ [])) (λ e. e.kind ≡ OutOfMemory)
+
+-- By the tokens ts, in a context and by a syntax: the tree t was read of the first of them, and tokens are left after
+-- those or not.
+pub record ReadsFront {F C K : Type 0} (hook : Hook F C K) (s : Symbol) (c : Context) (x : Syntax)
+    (ts : List TokenAndSpan) (unread : Bool) (t : Tree F C K) : Type 0 where
+  pub consumed : List TokenAndSpan
+  pub rest : List TokenAndSpan
+  pub split : ts ≡ consumed ++ rest
+  pub none : unread ≡ false → rest ≡ []
+  pub some : unread ≡ true → rest ≢ []
+  -- The grammar derives it from the tokens consumed, as a list of their own and with those that are left. No other is
+  -- derived from the tokens consumed.
+  pub derived : Finished covers_done (Reads hook s) (scope_of (view c) x) consumed [] t
+  pub ahead : Finished covers_done (Reads hook s) (scope_of (view c) x) ts rest t
+  pub only : (u : Tree F C K) → Finished covers_done (Reads hook s) (scope_of (view c) x) consumed [] u → u ≡ t
+
+module _ {S F C K : Type 0} (model : Model S) (hook : Hook F C K) (s : Symbol) where
+  abbrev derives : S → List TokenAndSpan → List TokenAndSpan → Tree F C K → Type 0
+  derives source xs ys t =
+      Finished covers_done (Reads hook s) (scope_of (view (model.state source).context) (model.state source).syntax)
+      xs ys t
+
+  -- By what a source gave, listed or not: the same.
+  pub record ReadsGiven (source : S) (unread : Bool) (t : Tree F C K) : Type 0 where
+    -- what the source is after that, and the tokens that it gave: those consumed, and one that was looked at after them
+    pub last : S
+    pub consumed : List TokenAndSpan
+    pub seen : List TokenAndSpan
+    pub gave : model.gives source (consumed ++ seen) last
+    pub none : unread ≡ false → (seen ≡ []) × ((model.state last).ended ≡ true)
+    pub some : unread ≡ true → seen ≢ []
+    pub derived : derives source consumed [] t
+    -- with all that may yet come
+    pub ahead : (more : List TokenAndSpan) → ((model.state last).ended ≡ true → more ≡ [])
+        → ((m : List TokenAndSpan) → (model.state last).known ≡ Some m → more ≡ m)
+        → derives source ((consumed ++ seen) ++ more) (seen ++ more) t
+    -- and no other one is derived from what was consumed: the tokens given, but for that one
+    pub sole : List TokenAndSpan
+    pub gave_sole : model.gives source (sole ++ seen) last
+    pub only : (u : Tree F C K) → derives source sole [] u → u ≡ t
 
 module _ {S H N F C K : Type 0} {fg : Ghosts F} {cg : Ghosts C} {kg : Ghosts K} (model : Model S) (sure : Bool)
     (hook : Hook F C K)

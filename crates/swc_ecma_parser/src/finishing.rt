@@ -1,8 +1,9 @@
 // What is looked for in an answer before a call hands it out.
-ghost use Rattle.std.specs.Prelude.{IfOk};
+ghost use Rattle.std.specs.Prelude.{◌≡◌, true, IfOk, OnOk};
 ghost use Rattle.swc_nodes.specs.GrowingNodes.{tree_at, Apart};
 ghost use Rattle.swc_steps.specs.Parsing.{scope};
-ghost use Rattle.swc_ecma_parser.specs.Finishing.{parts_done, ChecksAnswer, ChecksItem};
+ghost use Rattle.swc_ecma_parser.specs.{CoverNames.parts_covers_left, Finishing.parts_done, Finishing.ChecksAnswer, Finishing.ChecksItem, Faults.cover_faults};
+ghost use Rattle.swc_input.specs.{Calls.Loud, Recordings.RecordsAll};
 
 use crate::taking::Covers;
 use crate::verifier::record_cover_names;
@@ -22,8 +23,11 @@ pub(crate) fn check_answer<
     T: Covers<F, C, K> + Drop,
 >(input: &mut Buffer<I>, nodes: &Nodes<F, C, K>, answer: PResult<T>) -> PResult<T>
     requires { IfOk answer (λ x. Apart 0 nodes.now (T.parts x)) }
-    ensures { ChecksAnswer I.model (λ x. parts_done (scope I.model input.old) (tree_at nodes.now) (T.parts x))
+    ensures checks { ChecksAnswer I.model (λ x. parts_done (scope I.model input.old) (tree_at nodes.now) (T.parts x))
         input.old answer result input.new }
+    ensures records { (scope I.model input.old).syntax.pedantic ≡ true → Loud I.model input.old → IfOk answer (λ x.
+        OnOk result (RecordsAll I.model (cover_faults (parts_covers_left (tree_at nodes.now) (T.parts x)))
+        input.old input.new)) }
 {
     match answer {
         Ok(item) => {
@@ -44,8 +48,11 @@ fn check_covers<
     T: Covers<F, C, K>,
 >(input: &mut Buffer<I>, nodes: &Nodes<F, C, K>, item: &T) -> PResult<()>
     requires { Apart 0 nodes.now (T.parts item.now) }
-    ensures { ChecksItem I.model (parts_done (scope I.model input.old) (tree_at nodes.now) (T.parts item.now))
+    ensures checks { ChecksItem I.model (parts_done (scope I.model input.old) (tree_at nodes.now) (T.parts item.now))
         input.old result input.new }
+    ensures records { (scope I.model input.old).syntax.pedantic ≡ true → Loud I.model input.old → OnOk result
+        (RecordsAll I.model (cover_faults (parts_covers_left (tree_at nodes.now) (T.parts item.now)))
+        input.old input.new) }
 {
     let syntax = input.syntax();
     if !syntax.pedantic {

@@ -7,7 +7,7 @@ ghost use Rattle.swc_nodes.specs.Commas.{comma_at, part_commas, Recalls};
 ghost use Rattle.swc_nodes.specs.NumberedTrees.{floor};
 ghost use Rattle.swc_nodes.specs.GrowingNodes.{count, seat_at, tree_at, bare_at, Apart, Left, CutTo};
 ghost use Rattle.swc_grammar.specs.Symbols.{Expr, Assign, Level, Unary};
-ghost use Rattle.swc_ecma_parser.specs.Calls.{buffer_of, hook_of, nodes_of, commas_of, with_buffer, with_hook, with_nodes, with_bound, bound_of, met_bound, has_failed, wants_memory, found_import, parser_failed, Called, SeesEnd, Kept, MovesOut, RemembersParts};
+ghost use Rattle.swc_ecma_parser.specs.Calls.{buffer_of, hook_of, nodes_of, commas_of, with_buffer, with_hook, with_nodes, with_bound, bound_of, met_bound, has_failed, standing, Ends, wants_memory, found_import, parser_failed, Called, SeesEnd, Kept, MovesOut, RemembersParts};
 ghost use Rattle.swc_ecma_parser.specs.Promise.{Promised, PromisedLit, in_boxes, by_number};
 ghost use Rattle.swc_ecma_parser.specs.Finishing.{HandsOut, KeepsChecked, MovesCheckedOut};
 ghost use Rattle.swc_ecma_parser.specs.contracts.parser.Parser.{the_row};
@@ -158,6 +158,7 @@ impl<I: Tokens, B: Bodies<I>> Parser<I, B> {
     pub fn is_too_deep(&self) -> bool
         ensures told { bound_of self.now ≢ usize.MAX → result ≡ met_bound self.now }
         ensures never { bound_of self.now ≡ usize.MAX → result ≡ false }
+        ensures shallow { met_bound self.now ≡ false → result ≡ false }
     {
         self.room != usize::MAX && self.productions.too_deep
     }
@@ -464,7 +465,7 @@ impl<I: Tokens, B: Bodies<I>> Parser<I, B> {
         ensures nodes { MatchResult result (λ id. nodes_of self.new ≡ nodes_of self.old)
             (λ e. CutTo start (nodes_of self.old) (nodes_of self.new)) }
         ensures buffer { buffer_of self.new ≡ buffer_of self.old }
-        ensures runs { has_failed self.new ≡ has_failed self.old }
+        ensures runs { standing self.new ≡ standing self.old }
     {
         let answer = self.remember(answer);
         if answer.is_err() {
@@ -484,7 +485,7 @@ impl<I: Tokens, B: Bodies<I>> Parser<I, B> {
         ensures commas { RemembersParts T.parts self.old answer result self.new }
         ensures nodes { nodes_of self.new ≡ nodes_of self.old }
         ensures buffer { buffer_of self.new ≡ buffer_of self.old }
-        ensures runs { has_failed self.new ≡ has_failed self.old }
+        ensures runs { standing self.new ≡ standing self.old }
     {
         match answer {
             Ok(id) => match id.remember(&self.productions.nodes, &mut self.commas) {
@@ -507,7 +508,7 @@ impl<I: Tokens, B: Bodies<I>> Parser<I, B> {
         ensures commas { RemembersParts T.parts self.old answer result self.new }
         ensures nodes { CutTo start (nodes_of self.old) (nodes_of self.new) }
         ensures buffer { buffer_of self.new ≡ buffer_of self.old }
-        ensures runs { has_failed self.new ≡ has_failed self.old }
+        ensures runs { standing self.new ≡ standing self.old }
     {
         match answer {
             Ok(numbers) => {
@@ -537,7 +538,7 @@ impl<I: Tokens, B: Bodies<I>> Parser<I, B> {
         ensures commas { OnOk result (Recalls (part_commas (tree_at (nodes_of self.old)) (T.parts numbers))
             (commas_of self.old) (commas_of self.new)) }
         ensures buffer { buffer_of self.new ≡ buffer_of self.old }
-        ensures runs { has_failed self.new ≡ has_failed self.old }
+        ensures runs { standing self.new ≡ standing self.old }
     {
         numbers.remember(&self.productions.nodes, &mut self.commas)?;
         numbers.take(&mut self.productions.nodes, self.productions.alloc)
@@ -557,18 +558,23 @@ impl<I: Tokens, B: Bodies<I>> Parser<I, B> {
         Ok(self.productions.nodes.len())
     }
 
-    /// Remembers out of memory.
+    /// Remembers out of memory. Only then was something nested too deeply.
     fn finish<T>(&mut self, answer: PResult<T>) -> PResult<T>
         ensures answer { result ≡ answer }
         ensures buffer { buffer_of self.new ≡ buffer_of self.old }
         ensures nodes { nodes_of self.new ≡ nodes_of self.old }
         ensures commas { commas_of self.new ≡ commas_of self.old }
-        ensures fails { has_failed self.new ≡ (has_failed self.old || wants_memory answer) }
+        ensures fails { Ends (standing self.old) answer self.new }
+        ensures deep { wants_memory answer ≡ true → met_bound self.new ≡ met_bound self.old }
     {
-        if let Err(error) = &answer {
-            if is_out_of_memory(error) {
-                self.failed = true;
-            }
+        let lacks_memory = match &answer {
+            Ok(_) => false,
+            Err(error) => is_out_of_memory(error),
+        };
+        if lacks_memory {
+            self.failed = true;
+        } else {
+            self.productions.too_deep = false;
         }
         answer
     }

@@ -1,7 +1,9 @@
 // Where operators are in the text that was parsed.
 ghost use Rattle.std.specs.Prelude.{◌≡◌, IfSome};
 ghost use Rattle.swc_nodes.specs.Lookup.{IsTextAt};
-ghost use Rattle.swc_ecma_parser.specs.Places.{IsOperatorAt};
+ghost use Rattle.swc_nodes.specs.GrowingNodes.{tree_at};
+ghost use Rattle.swc_ecma_parser.specs.Places.{BehindBlanks, IsOperatorAt};
+ghost use Rattle.swc_ecma_parser.specs.Places as places;
 
 use swc_ast::spanned::Spanned;
 use swc_context::span::{BytePos, Span};
@@ -33,7 +35,9 @@ pub fn operator_span<N: NodeNumber, F: Spanned + Drop, C: Spanned + Drop, K: Spa
 fn operator_from<F: Spanned + Drop, C: Spanned + Drop, K: Spanned + Drop>(
     nodes: &Nodes<F, C, K>,
     node: &Node<F, C, K>,
-) -> Option<BytePos> {
+) -> Option<BytePos>
+    ensures { IfSome result (λ from. from.0 ≡ places.operator_from (tree_at nodes.now) node.now) }
+{
     let from = match node {
         Node::Bin { left, .. } => nodes.span_of(*left)?.hi,
         Node::Assign { left, .. } => nodes.span_of(*left)?.hi,
@@ -50,7 +54,8 @@ fn operator_from<F: Spanned + Drop, C: Spanned + Drop, K: Spanned + Drop>(
 
 /// The place of the word in the text, where it comes after the position, with blanks and comments before it.
 fn find_word(text: &[u8], from: usize, word: &[u8]) -> Option<Span>
-    ensures { IfSome result (λ span. IsTextAt text.now span word.now) }
+    ensures text { IfSome result (λ span. IsTextAt text.now span word.now) }
+    ensures first { IfSome result (λ span. BehindBlanks text.now from span) }
 {
     let rest = text.get(from..)?;
     let lo = from + blanks_len(rest);

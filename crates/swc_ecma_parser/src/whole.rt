@@ -1,12 +1,12 @@
 // All that a source gives, read as one expression, or as one binding pattern.
-ghost use Rattle.std.specs.Prelude.{◌≡◌, List, false, IfOk};
+ghost use Rattle.std.specs.Prelude.{◌≡◌, List, [], true, false, IfOk};
 ghost use Rattle.swc_input.specs.declared.token.TokenAndSpan.{TokenAndSpan};
 ghost use Rattle.swc_grammar.specs.Symbols.{Expr, Pat};
 ghost use Rattle.swc_nodes.specs.{NodeParts.expr_part, NodeParts.pat_part, GrowingNodes.From};
 ghost use Rattle.swc_steps.specs.Params.{pat_at};
 ghost use Rattle.swc_steps.specs.Parsing.{tree_of};
-ghost use Rattle.swc_ecma_parser.specs.Calls.{has_failed, nodes_of};
-ghost use Rattle.swc_ecma_parser.specs.WholeList.{plain_list, IsHeeded, Headline, Lists, Tries};
+ghost use Rattle.swc_ecma_parser.specs.Calls.{has_failed, nodes_of, wants_memory};
+ghost use Rattle.swc_ecma_parser.specs.WholeList.{plain_list, IsHeeded, Headline, Lists, ReadsFront, ReadsGiven, Tries};
 
 use crate::parser::Parser;
 use std::alloc::Global;
@@ -53,6 +53,10 @@ pub fn parse_whole_expr<B: Bodies<TokensInput>>(
     ensures headline { IsHeeded ctx syntax
         → Headline B.is_faithful B.forms Expr tree_of ctx syntax (plain_list tokens.items)
         result.read result.nodes result.recorded.items }
+    ensures front { IsHeeded ctx syntax → IfOk result.read (λ r. result.recorded.items ≡ []
+        → ReadsFront B.forms Expr ctx syntax (plain_list tokens.items) r.1 (tree_of result.nodes r.0)) }
+    ensures deep { wants_memory result.read ≡ false → result.too_deep ≡ false }
+    ensures unbounded { levels ≡ usize.MAX → result.too_deep ≡ false }
 {
     let source = TokensInput::new(alloc, tokens, ctx, syntax, target);
     read_whole_expr(alloc, source, bodies, levels)
@@ -72,6 +76,11 @@ pub fn read_whole_expr<I: Tokens, B: Bodies<I>>(
         → IsHeeded (I.model.state source).context (I.model.state source).syntax
         → Headline B.is_faithful B.forms Expr tree_of (I.model.state source).context (I.model.state source).syntax ts
         result.read result.nodes result.recorded.items }
+    ensures front { IsHeeded (I.model.state source).context (I.model.state source).syntax
+        → IfOk result.read (λ r. result.recorded.items ≡ (I.model.state source).errors
+        → ReadsGiven I.model B.forms Expr source r.1 (tree_of result.nodes r.0)) }
+    ensures deep { wants_memory result.read ≡ false → result.too_deep ≡ false }
+    ensures unbounded { levels ≡ usize.MAX → result.too_deep ≡ false }
 {
     let mut parser = Parser::new_from(alloc, source, bodies);
     parser.limit_nesting(levels);
@@ -116,6 +125,10 @@ pub fn parse_whole_pat<B: Bodies<TokensInput>>(
     ensures headline { IsHeeded ctx syntax
         → Headline B.is_faithful B.forms Pat pat_at ctx syntax (plain_list tokens.items)
         result.read result.nodes result.recorded.items }
+    ensures front { IsHeeded ctx syntax → IfOk result.read (λ r. result.recorded.items ≡ []
+        → ReadsFront B.forms Pat ctx syntax (plain_list tokens.items) r.1 (pat_at result.nodes r.0)) }
+    ensures deep { wants_memory result.read ≡ false → result.too_deep ≡ false }
+    ensures unbounded { levels ≡ usize.MAX → result.too_deep ≡ false }
 {
     let source = TokensInput::new(alloc, tokens, ctx, syntax, target);
     read_whole_pat(alloc, source, bodies, levels)
@@ -134,6 +147,11 @@ pub fn read_whole_pat<I: Tokens, B: Bodies<I>>(
         → IsHeeded (I.model.state source).context (I.model.state source).syntax
         → Headline B.is_faithful B.forms Pat pat_at (I.model.state source).context (I.model.state source).syntax ts
         result.read result.nodes result.recorded.items }
+    ensures front { IsHeeded (I.model.state source).context (I.model.state source).syntax
+        → IfOk result.read (λ r. result.recorded.items ≡ (I.model.state source).errors
+        → ReadsGiven I.model B.forms Pat source r.1 (pat_at result.nodes r.0)) }
+    ensures deep { wants_memory result.read ≡ false → result.too_deep ≡ false }
+    ensures unbounded { levels ≡ usize.MAX → result.too_deep ≡ false }
 {
     let mut parser = Parser::new_from(alloc, source, bodies);
     parser.limit_nesting(levels);

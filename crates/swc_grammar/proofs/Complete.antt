@@ -1,15 +1,15 @@
 -- What the grammar derives, the clean parser reads, where nothing goes on that it would take too.
-mod Bools
-mod Stops
-mod Sides
+pub mod Bools
+pub mod Stops
+pub mod Sides
 mod Lists
 mod Properties
 mod Primaries
-mod LeftSides
-mod Operators
-mod Arrows
-mod Asyncs
-mod Assignments
+pub mod LeftSides
+pub mod Operators
+pub mod Arrows
+pub mod Asyncs
+pub mod Assignments
 mod Patterns
 use Rattle.std.specs.Prelude.{◌≡◌, zero, suc, min, true, false, List, ◌∷◌, Some, None, ◌&&◌}
 use Rattle.std.proofs.Common.{refl, ap, ◌∙◌, arith, sym as sym_path, subst}
@@ -349,7 +349,7 @@ module _ {F C K : Type 0} (hook : Hook F C K) where
       picks hook ParamsTail c xs p (params_tail c xs) refl (picked-params-tail hook p (forget hook d))
       (side-reads hook (Some 2) d (ready-params-tail hook {c = c} ys p))
 
-  claim : {s : Symbol} {c : Scope} {xs ys : List TokenAndSpan} {t : Answer F C K s} → Reads hook s c xs ys t
+  pub claim : {s : Symbol} {c : Scope} {xs ys : List TokenAndSpan} {t : Answer F C K s} → Reads hook s c xs ys t
       → Claim hook s c xs ys t
   claim d = every hook (Claim hook) (λ s c r xs ys t p e. claim-by p e) d
 

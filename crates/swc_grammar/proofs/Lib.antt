@@ -32,7 +32,10 @@ pub mod Names
 pub mod One
 pub mod Only
 pub mod Openings
+pub mod Quiet
 pub mod Related
 pub mod Rules
+pub mod Shapes
+pub mod Soft
 pub mod Sound
 pub mod Texts

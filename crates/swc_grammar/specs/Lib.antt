@@ -1,7 +1,9 @@
 pub mod Arrows
+pub mod AwaitName
 pub mod Clean
 pub mod Cover
 pub mod Cut
+pub mod Endings
 pub mod Firsts
 pub mod ForHead
 pub mod ForHeadClean

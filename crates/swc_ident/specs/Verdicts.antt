@@ -4,6 +4,7 @@ use Rattle.std.specs.Prelude.{ℕ, Bool, true, false, not, ◌&&◌, ◌||◌, i
 use Rattle.swc_context.specs.Reserved.{is_reserved, strict_names, strict_binding_words}
 use Rattle.swc_context.specs.{Texts.is_text, Texts.is_one_of, Words.word_text, declared.context.Context.Context, declared.error.SyntaxError.SyntaxError, declared.error.SyntaxError.SyntaxError as kind, declared.word.Keyword.Keyword as keyword, declared.word.Word.Word, declared.word.Word.Word as word}
 use Rattle.swc_input.specs.declared.token.Token.{Token, Token as token}
+pub use Rattle.swc_input.specs.Kinds.{is_word}
 
 -- a fault with which a word is taken: one that is recorded at once, or one of modules, which waits elsewhere
 pub data Fault : Type 0 where
@@ -89,10 +90,6 @@ name_of_any c w = taken
 abbrev pub is_bindable : Context → Token → Bool
 is_bindable c (token.Word w) = not (is_reserved c w)
 is_bindable c t = false
-
-abbrev pub is_word : Token → Bool
-is_word (token.Word w) = true
-is_word t = false
 
 abbrev pub is_str : Token → Bool
 is_str (token.Str value raw) = true

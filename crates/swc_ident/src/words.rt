@@ -174,21 +174,10 @@ pub(crate) fn take_word<I: Tokens>(input: &mut Buffer<I>) -> PResult<Word>
 {
     input.require_cur()?;
     if is_at_word(input) {
-        return Ok(bump_word(input));
+        return Ok(input.bump_word());
     }
     let at = input.cur_span();
     Err(input.syntax_error(at, SyntaxError::ExpectedIdent))
-}
-
-/// Consumes the current word.
-fn bump_word<I: Tokens>(input: &mut Buffer<I>) -> Word
-    requires { at_token is_word (current input.old) ≡ true }
-    ensures { Bumped I.model input.old (token.Word result) input.new }
-{
-    match input.bump() {
-        Token::Word(word) => word,
-        _ => unreachable!(),
-    }
 }
 
 /// Consumes the current `#`.

@@ -10,3 +10,7 @@ at_token f (Some t) = f t.token
 abbrev pub is_hash : Token → Bool
 is_hash token.Hash = true
 is_hash t = false
+
+abbrev pub is_word : Token → Bool
+is_word (token.Word w) = true
+is_word t = false

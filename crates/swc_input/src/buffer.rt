@@ -4,16 +4,19 @@ ghost use Rattle.std.specs.Option.{option_copied};
 ghost use Rattle.std.specs.Borrow.{sem, follows, follows_so};
 ghost use mathlib.Core.Option.{none};
 ghost use Rattle.swc_context.specs.declared.operator.BinOpToken.TheVariants.{LShift};
-ghost use Rattle.swc_input.specs.Source.{HeldBack, Hinted, with_context};
+ghost use Rattle.swc_input.specs.Source.{HeldBack, Hinted, regexp, with_context};
 ghost use Rattle.swc_input.specs.Buffer.{current, peeked, previous, last_position, source, held, token_of, state_of, to_come, with_current, with_source, cut, stored, fresh, Took, Read, Looked, Peeked, Bumped};
+ghost use Rattle.swc_input.specs.Kinds.{at_token, is_word};
+ghost use Rattle.swc_input.specs.declared.token.Token.TheVariants as tokens;
 ghost use Rattle.swc_input.specs.{declared.token.Token.TheVariants.BinOp, declared.token.TokenAndSpan.TokenAndSpan, Plain.plain, contracts.buffer.Buffer.the_row};
 
 use crate::token::{Token, TokenAndSpan};
-use crate::tokens::{Tokens, ask};
+use crate::tokens::Tokens;
 use std::alloc::AllocError;
 use swc_context::context::{Context, EsVersion, Syntax};
 use swc_context::operator::BinOpToken;
 use swc_context::span::{BytePos, Span};
+use swc_context::word::Word;
 
 /// A source, and the tokens that were taken from it ahead: the current one and, where it was peeked
 /// at, the one after it.
@@ -46,6 +49,18 @@ fn put(place: &mut Option<TokenAndSpan>, token: Option<TokenAndSpan>)
     ensures { place.new ≡ token }
 {
     *place = token;
+}
+
+/// The word that the token is.
+#[inline(always)]
+fn word_in(token: Token) -> Word
+    requires { is_word token ≡ true }
+    ensures { tokens.Word result ≡ token }
+{
+    match token {
+        Token::Word(word) => word,
+        _ => unreachable!(),
+    }
 }
 
 impl<I: Tokens> Buffer<I> {
@@ -112,6 +127,35 @@ impl<I: Tokens> Buffer<I> {
         }
     }
 
+    /// Consumes the current token, which is dropped where it lies.
+    #[inline(always)]
+    pub fn pass(&mut self)
+        requires { IsSome (current self.old) }
+        ensures passed { MatchOption (current self.old) ⊤ (λ t. Bumped I.model self.old t.token self.new) }
+        ensures falls { to_come I.model self.new < to_come I.model self.old }
+    {
+        match &self.cur {
+            Some(token) => self.prev_span = token.span,
+            None => unreachable!(),
+        }
+        put(&mut self.cur, None);
+    }
+
+    /// Consumes the current word, and gives it.
+    #[inline(always)]
+    pub fn bump_word(&mut self) -> Word
+        requires { at_token is_word (current self.old) ≡ true }
+        ensures { Bumped I.model self.old (tokens.Word result) self.new }
+    {
+        match self.cur.take() {
+            Some(found) => {
+                self.prev_span = found.span;
+                word_in(found.token)
+            }
+            None => unreachable!(),
+        }
+    }
+
     /// Whether the current token is known already.
     pub fn knows_cur(&self) -> bool
         ensures { IsTrue result ↔ IsSome (current self.now) }
@@ -125,8 +169,7 @@ impl<I: Tokens> Buffer<I> {
         ensures { Peeked I.model self.old self.new }
     {
         if self.next.is_none() {
-            let token = ask(&mut self.iter);
-            put(&mut self.next, token);
+            self.iter.fill(&mut self.next);
         }
     }
 
@@ -189,8 +232,7 @@ impl<I: Tokens> Buffer<I> {
             put(&mut self.cur, token);
             return;
         }
-        let token = ask(&mut self.iter);
-        put(&mut self.cur, token);
+        self.iter.fill(&mut self.cur);
     }
 
     /// The current token.
@@ -321,6 +363,7 @@ impl<I: Tokens> Buffer<I> {
         ensures took { Took I.model self.old [] self.new }
         ensures rest { self.new ≡ with_source (source self.new) self.old }
         ensures state { Hinted start (state_of I.model self.old) (state_of I.model self.new) }
+        ensures told { I.model.told (source self.old) (regexp start) (source self.new) }
     {
         self.iter.set_next_regexp(start);
     }

@@ -96,6 +96,13 @@ pub trait Tokens: Iterator<Item = TokenAndSpan> {
     fn failed(&self) -> bool
         ensures { result ≡ (model.state self.now).failed };
 
+    /// Puts the next token in a place, as `next` answers it. A source may write it there, where it would be moved.
+    fn fill(&mut self, place: &mut Option<TokenAndSpan>)
+        ensures { Asked model self.old place.new self.new }
+    {
+        *place = self.next();
+    }
+
     ghost laws: { Laws model };
 
     ghost unmoved: { (s : Self) (contexts : TokenContexts) → Unmoved model s (with_contexts s contexts) };

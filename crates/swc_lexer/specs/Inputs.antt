@@ -59,6 +59,10 @@ text_state s =
 abbrev pub known_of : List TokenAndSpan → Option (List TokenAndSpan)
 known_of ts = known_if (any_legacy ts) (map plain ts)
 
+-- all tokens of a text, from a place on
+abbrev pub all_of : End → ℕ → Start → List ℕ → Context → List TokenAndSpan
+all_of e at s bs c = map plain (tokens_of e at s (kind_in c) bs)
+
 -- a source that nothing was asked of
 abbrev pub new_state : End → ℕ → Start → List ℕ → Context → Syntax → EsVersion → Source
 new_state e at s bs c x v = record {
@@ -183,7 +187,7 @@ with_contexts s contexts = record s { notes = record s.notes { contexts = contex
 abbrev pub text_model : Model TextInput
 text_model = record { state = text_state; gives = TextGives; told = λ s h t. t ≡ s }
 
-known_some : (b : Bool) (l m : List TokenAndSpan) → known_if b l ≡ Some m → (b ≡ false) × (l ≡ m)
+pub known_some : (b : Bool) (l m : List TokenAndSpan) → known_if b l ≡ Some m → (b ≡ false) × (l ≡ m)
 known_some true l m h = cc
 known_some false l m h = (refl, (cc))
 
@@ -200,7 +204,8 @@ not_over (Some t) false h = cc
 only_held : (s : TextInput) → s.held ≡ None → to_come s ≡ tokens_from s.end (bytes_of s) (reading s)
 only_held s h = ap (λ o. held_list o ++ tokens_from s.end (bytes_of s) (reading s)) h
 
-none_left : (s : TextInput) → is_over s.reader.ended s.held ≡ true → coming s ≡ []
+-- after the end nothing comes
+pub none_left : (s : TextInput) → is_over s.reader.ended s.held ≡ true → coming s ≡ []
 none_left s e =
     let o = not_over s.held s.reader.ended e in
     ap (map plain) (only_held s o.1 ∙ from_end s.end (bytes_of s) (reading s)

@@ -136,6 +136,28 @@ read p t r = record r {
       passed (mark_of t.token) (nat_eq p.blanks 0) t.had_line_break r.state;
 }
 
+-- the text of a template, or what ends it, comes next
+abbrev pub has_no_blanks : Goal → Bool
+has_no_blanks goal.Text = true
+has_no_blanks goal.Delimiter = true
+has_no_blanks g = false
+
+abbrev pub is_in_template : Reading → Bool
+is_in_template r = has_no_blanks (stacks.goal r.state false)
+
+-- the same reading, further on
+abbrev pub skipped : ℕ → Reading → Reading
+skipped at r = record r { at = at }
+
+-- the reading after a word between two places, which was a fault
+abbrev pub word_passed : Token → ℕ → ℕ → List ℕ → Reading → Reading
+word_passed t lo hi bs r = record {
+  at = hi;
+  state =
+      passed (mark_of t) (nat_eq (lo - r.at) 0) (has_break (drop r.at bs) (lo - r.at)) r.state;
+  ended = false;
+}
+
 abbrev pub given_of : List ℕ → Reading → Piece → Option TokenAndSpan → TokenAndSpan × Reading
 given_of bs r p None = (fault_of_kind p.kind (r.at + p.blanks) p.len bs, ended r)
 given_of bs r p (Some t) = (t, read p t r)

@@ -1,7 +1,8 @@
 //! The comments of a text (ECMA-262, 12.4 and 12.5).
-ghost use Rattle.std.specs.Prelude.{◌≡◌, ◌+◌, ◌++◌, ◌≤◌, ◌<◌, ◌^◌, length, IfOk, OnOk, MatchOption, [], ◌∷◌};
+ghost use Rattle.std.specs.Prelude.{◌≡◌, ◌+◌, ◌++◌, ◌≤◌, ◌<◌, ◌^◌, length, Err, IfErr, IfOk, OnOk, MatchOption, [], ◌∷◌};
 ghost use Rattle.swc_lexer.specs.Comments as grammar;
 ghost use Rattle.swc_lexer.specs.Readings as readings;
+ghost use Rattle.swc_lexer.specs.Reads as reads;
 
 use crate::place::Kind;
 use crate::read::{out_of_memory, read_text};
@@ -23,6 +24,8 @@ pub enum CommentKind {
     Block,
     /// `#!` and its line, at the beginning of a text.
     Hashbang,
+    /// `<!--` or `-->` and its line, in a script (ECMA-262, B.1.1). The functions of this module find none.
+    Html,
 }
 
 /// A comment, and where it is, in bytes: with its signs, and without the line terminator after it.
@@ -190,8 +193,9 @@ pub fn read_comments(
     end: End,
     kind: Kind,
 ) -> PResult<Vec<Comment>>
-    ensures { IfOk result (λ v. length text.now < 2 ^ 32
+    ensures read { IfOk result (λ v. length text.now < 2 ^ 32
         → v.items ≡ grammar.comments_of text.now (readings.tokens_of end 0 start kind text.now)) }
+    ensures refused { IfErr result (λ e. reads.Answers (Err e) (readings.tokens_of end 0 start kind text.now)) }
 {
     let tokens = read_text(alloc, text, start, end, kind)?;
     match comments_of(alloc, text, tokens.as_slice()) {

@@ -64,6 +64,7 @@ impl TextInput {
     ) -> TextInput
         ensures state { inputs.text_state result
             ≡ inputs.new_state end 0 start (string_bytes text) context syntax target }
+        ensures coming { inputs.coming result ≡ inputs.all_of end 0 start (string_bytes text) context }
     {
         TextInput::new_at(alloc, text, 0, start, end, context, syntax, target)
     }
@@ -83,6 +84,7 @@ impl TextInput {
         requires { at ≤ length (string_bytes text) }
         ensures state { inputs.text_state result
             ≡ inputs.new_state end at start (string_bytes text) context syntax target }
+        ensures coming { inputs.coming result ≡ inputs.all_of end at start (string_bytes text) context }
     {
         let reader = Reader::new(alloc, text.as_str().as_bytes(), at, start, kind_in(context));
         TextInput {

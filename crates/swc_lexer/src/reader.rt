@@ -1,5 +1,5 @@
 //! Reading a text, token by token.
-ghost use Rattle.std.specs.Prelude.{◌≡◌, ◌+◌, ◌≤◌, ◌<◌, ◌^◌, length, drop, false, IfOk, IfSome, OnErr, Some, None};
+ghost use Rattle.std.specs.Prelude.{◌≡◌, ◌+◌, ◌≤◌, ◌<◌, ◌^◌, length, drop, false, IfOk, IfSome, OnErr, OnOk, Some, None};
 ghost use Rattle.swc_lexer.specs.Readings as readings;
 ghost use Rattle.swc_lexer.specs.Stacks as stacks;
 ghost use Rattle.swc_lexical.specs.Blanks.{blanks_len};
@@ -247,6 +247,56 @@ impl Reader {
         ensures { result ≡ self.now.at }
     {
         self.at
+    }
+
+    /// Whether the text of a template, or what ends it, comes next: so nothing there is a blank or a comment.
+    pub fn is_in_template(&self) -> bool
+        ensures { result ≡ readings.is_in_template (readings.reading_of self.now) }
+    {
+        matches!(self.stack.goal(false), Goal::Text | Goal::Delimiter)
+    }
+
+    /// Goes on at a place of the text, as if what is before it were blanks: an HTML-like comment (ECMA-262, B.1.1), say.
+    pub fn skip_to(&mut self, text: &[u8], at: usize)
+        requires { at ≤ length text.now }
+        ensures value { readings.reading_of self.new ≡ readings.skipped at (readings.reading_of self.old) }
+        ensures within { self.new.at ≤ length text.now }
+    {
+        self.at = at;
+    }
+
+    /// Goes on after a word of the text that was given as a fault, as after this token. The only error is out of memory,
+    /// and then nothing changes.
+    pub fn pass_word(
+        &mut self,
+        text: &[u8],
+        token: Token,
+        lo: usize,
+        hi: usize,
+    ) -> Result<TokenAndSpan, AllocError>
+        requires small { length text.now < 2 ^ 32 }
+        requires order { self.old.at ≤ lo }
+        requires word { lo ≤ hi }
+        requires end { hi ≤ length text.now }
+        ensures value { OnOk result
+            (readings.reading_of self.new ≡ readings.word_passed token lo hi text.now (readings.reading_of self.old)) }
+        ensures within { OnOk result (self.new.at ≤ length text.now) }
+        ensures unchanged { OnErr result (readings.reading_of self.new ≡ readings.reading_of self.old) }
+    {
+        let blanks = lo - self.at;
+        let had_line_break = has_break(rest_from(text, self.at), blanks);
+        self.stack
+            .pass(mark_of(&token), blanks == 0, had_line_break)?;
+        self.at = hi;
+        self.ended = false;
+        Ok(TokenAndSpan {
+            token,
+            had_line_break,
+            span: Span {
+                lo: BytePos(lo as u32),
+                hi: BytePos(hi as u32),
+            },
+        })
     }
 
     /// Gives a fault, after which nothing comes.

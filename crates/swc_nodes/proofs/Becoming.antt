@@ -57,6 +57,7 @@ module _ {F C K : Type 0} (at : ℕ → Node F C K) (place : ℕ → Span) (own 
       slots y ≡ map (turned at) (dues_of r x)
   slots-are role.Keep x y h = plain-slots to.Same role.Keep x y refl h
   slots-are role.Nothing x y h = plain-slots to.Nothing role.Nothing x y refl h
+  slots-are (role.NothingAt z) x y h = plain-slots (to.Instead z) (role.NothingAt z) x y refl h
   slots-are role.Bind (n.Ident i) y h = ap slots h
   slots-are role.Bind (n.Array s elems comma) y h =
       ap slots h.is ∙ ap (flat (if_some pat_elem_part)) h.items ∙ elems-are at place role.Bind elems.items refl
@@ -109,6 +110,7 @@ module _ {F C K : Type 0} (at : ℕ → Node F C K) (place : ℕ → Span) (own 
       recast (becomes_as r x) r x y → view_ok (new_view (becomes_as r x) r v) (form y) ≡ true
   form-is role.Keep v x y u k h = ap (λ z. view_ok v (form z)) h ∙ k
   form-is role.Nothing v x y u k h = plain-form to.Nothing role.Nothing x y refl refl h
+  form-is (role.NothingAt z) v x y u k h = plain-form (to.Instead z) (role.NothingAt z) x y refl refl h
   form-is role.Bind v (n.Ident i) y u k h = ap (λ z. view_ok pat (form z)) h
   form-is role.Bind v (n.Array s elems comma) y u k h = ap (λ z. view_ok pat (form z)) h.is
   form-is role.Bind v (n.Object s props comma) y u k h = ap (λ z. view_ok pat (form z)) h.is
@@ -222,6 +224,7 @@ module _ {F C K : Type 0} (at by : ℕ → Node F C K) (place spot : ℕ → Spa
         is (becomes_as r x) r x y
     recast-alike role.Keep x y a k h = h
     recast-alike role.Nothing x y a k h = plain-alike to.Nothing role.Nothing x y refl k h
+    recast-alike (role.NothingAt z) x y a k h = plain-alike (to.Instead z) (role.NothingAt z) x y refl k h
     recast-alike role.Bind (n.Ident i) y a k h = h
     recast-alike role.Bind (n.Array s elems comma) y a k h =
         record { elems = h.elems; is = h.is; items = h.items ∙ elems-alike role.Bind elems.items a }
@@ -297,6 +300,7 @@ rest-suits role.Rebind s h = absurd cc
 rest-suits (role.BindRest z) s h = refl
 rest-suits (role.RebindRest z) s h = absurd cc
 rest-suits role.Nothing s h = refl
+rest-suits (role.NothingAt z) s h = refl
 
 item-suit : (r : Role) (last : Bool) (s : Option Span) (e : ExprId) → suits r expr ≡ true →
     suit (item_dues r last s e) ≡ true
@@ -330,6 +334,7 @@ left-suits role.Rebind = refl
 left-suits (role.BindRest s) = refl
 left-suits (role.RebindRest s) = refl
 left-suits role.Nothing = refl
+left-suits (role.NothingAt z) = refl
 
 left-suit : (r : Role) (l : TargetNode) (qs : List Due) → suits r expr ≡ true → suit qs ≡ true →
     suit (left_due r l ∷ qs) ≡ true
@@ -376,6 +381,7 @@ module _ {F C K : Type 0} where
   pub dues-suit : (r : Role) (x : Node F C K) → suit (dues_of r x) ≡ true
   dues-suit role.Keep x = suit-kept (slots x)
   dues-suit role.Nothing x = refl
+  dues-suit (role.NothingAt z) x = refl
   dues-suit role.Bind (n.Array s elems comma) = elems-suit role.Bind elems.items refl
   dues-suit role.Bind (n.Object s props comma) = listed-suit (prop_dues role.Bind)
       (λ p. prop-suit role.Bind p refl) props.items

@@ -50,6 +50,7 @@ view-is b role.Rebind v h = refl
 view-is b (role.BindRest s) v h = refl
 view-is b (role.RebindRest s) v h = refl
 view-is b role.Nothing v h = refl
+view-is b (role.NothingAt z) v h = refl
 
 pub rest-turns : (r : Role) (s : Span) → turns r ≡ true → turns (rest_role r s) ≡ true
 rest-turns role.Keep s h = cc
@@ -59,6 +60,7 @@ rest-turns role.Rebind s h = refl
 rest-turns (role.BindRest z) s h = refl
 rest-turns (role.RebindRest z) s h = refl
 rest-turns role.Nothing s h = refl
+rest-turns (role.NothingAt z) s h = refl
 
 flat-append : {X Y : Type 0} (f : X → List Y) (xs ys : List X) → flat f (xs ++ ys) ≡ flat f xs ++ flat f ys
 flat-append f [] ys = refl
@@ -161,6 +163,7 @@ module _ {F C K : Type 0} (at : ℕ → Node F C K) where
   left-is (role.BindRest s) (target.Pat p) h = refl
   left-is (role.RebindRest s) (target.Pat p) h = refl
   left-is role.Nothing (target.Pat p) h = refl
+  left-is (role.NothingAt z) (target.Pat p) h = refl
 
   -- the parts of a pattern that is to bind
   pub bound-part : (p : PatPart) → part_parts (bare_part p) ≡ map (turned at) (part_dues role.Rebind p)

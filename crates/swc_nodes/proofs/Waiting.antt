@@ -1,8 +1,7 @@
 -- Operators are put on the pending ones and taken from them, and their operands lie apart.
-use Rattle.std.proofs.Common.{◌≡◌, ℕ, zero, suc, ◌+◌, ◌<◌, true, List, [], ◌∷◌, ◌++◌, refl, sym, ap, subst, ◌∙◌, lt-ltb, arith, Option, Some, None, Result, Ok, Err, length, ◌-◌}
+use Rattle.std.proofs.Common.{◌≡◌, ℕ, suc, ◌+◌, ◌<◌, true, List, [], ◌∷◌, ◌++◌, refl, sym, ap, subst, ◌∙◌, lt-ltb, arith, Option, Some, None}
 use Rattle.std.proofs.lemmas.List.{append-nil}
-use Rattle.std.specs.Prelude.{if◌then◌else◌, slice_get, option_to_list}
-use Rattle.std.specs.Result.{is_ok}
+use Rattle.std.specs.Prelude.{option_to_list}
 use Rattle.swc_context.specs.Operators.{precedence_of}
 use Rattle.swc_ast.specs.{declared.spanned.Spanned.Ghosts, Trees.min_right}
 use Rattle.swc_nodes.specs.GrowingNodes.{count, seat_at, first_at, Apart, From, Grows}
@@ -23,31 +22,22 @@ pub rises_fewer : (m : ℕ) (ws : List PendingOperator) (w : PendingOperator) �
 rises_fewer m [] w h = refl
 rises_fewer m (v ∷ ws) w h = let b = both_true h in true_both b.0 (rises_fewer (min_right v.op) ws w b.1)
 
--- the same of what a vector answers
-pub rises_pushed : {A B : Type 0} (r : Result A B) (ws vs : List PendingOperator) (w : PendingOperator)
-    → vs ≡ (if is_ok r then ws ++ w ∷ [] else ws) → rises 0 ws ≡ true → least_above 0 ws < precedence_of w.op
-    → rises 0 vs ≡ true
-rises_pushed (Ok a) ws vs w e h lt = ap (rises 0) e ∙ rises_more 0 ws w h lt
-rises_pushed (Err a) ws vs w e h lt = ap (rises 0) e ∙ h
+-- the same of the list below the one on top
+pub rises_put : (o : Option PendingOperator) (ws vs : List PendingOperator) (w : PendingOperator)
+    → vs ≡ ws ++ option_to_list o → rises 0 (ws ++ option_to_list o) ≡ true
+    → least_above 0 (ws ++ option_to_list o) < precedence_of w.op → rises 0 (vs ++ w ∷ []) ≡ true
+rises_put o ws vs w e h lt = ap (λ us. rises 0 (us ++ w ∷ [])) e ∙ rises_more 0 (ws ++ option_to_list o) w h lt
 
-pub rises_popped : (o : Option PendingOperator) (ws vs : List PendingOperator) → ws ≡ vs ++ option_to_list o
-    → rises 0 ws ≡ true → rises 0 vs ≡ true
-rises_popped None ws vs e h = ap (rises 0) (sym (append-nil vs)) ∙ ap (rises 0) (sym e) ∙ h
-rises_popped (Some w) ws vs e h = rises_fewer 0 vs w (ap (rises 0) (sym e) ∙ h)
+rises_below : (o : Option PendingOperator) (ws : List PendingOperator) → rises 0 (ws ++ option_to_list o) ≡ true
+    → rises 0 ws ≡ true
+rises_below None ws h = ap (rises 0) (sym (append-nil ws)) ∙ h
+rises_below (Some w) ws h = rises_fewer 0 ws w h
+
+pub rises_taken : (o p : Option PendingOperator) (ws vs : List PendingOperator) → ws ≡ vs ++ option_to_list p
+    → rises 0 (ws ++ option_to_list o) ≡ true → rises 0 (vs ++ option_to_list p) ≡ true
+rises_taken o p ws vs e h = ap (rises 0) (sym e) ∙ rises_below o ws h
 
 -- what the operator on top leaves to its right
-least_at : (m i : ℕ) (ws : List PendingOperator) (w : PendingOperator) → suc i ≡ length ws
-    → Some w ≡ slice_get ws i → least_above m ws ≡ min_right w.op
-least_at m i [] w l h = absurd cc
-least_at m zero (v ∷ []) w l h = let same : w ≡ v = cc in ap (λ u. min_right u.op) (sym same)
-least_at m zero (v ∷ u ∷ ws) w l h = absurd (omega arith)
-least_at m (suc i) (v ∷ ws) w l h = least_at (min_right v.op) i ws w (omega arith) h
-
-pub least_on_top : (m : ℕ) (ws : List PendingOperator) (w : PendingOperator) → Some w ≡ slice_get ws (length ws - 1)
-    → least_above m ws ≡ min_right w.op
-least_on_top m [] w h = cc
-least_on_top m (v ∷ ws) w h = least_at m (length (v ∷ ws) - 1) (v ∷ ws) w (omega arith) h
-
 pub least_more : (m : ℕ) (ws : List PendingOperator) (w : PendingOperator)
     → least_above m (ws ++ w ∷ []) ≡ min_right w.op
 least_more m [] w = refl

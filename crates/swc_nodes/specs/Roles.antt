@@ -77,7 +77,6 @@ rest_as s x = to.Instead s
 abbrev pub again_as : {F C K : Type 0} → Span → Node F C K → Becomes
 again_as s (n.PatIdent b) = to.Same
 again_as s (n.PatInvalid i) = to.Same
-again_as s (n.PatExpr e) = to.Nothing
 again_as s x = to.Instead s
 
 abbrev pub becomes_as : {F C K : Type 0} → Role → Node F C K → Becomes
@@ -88,6 +87,7 @@ becomes_as role.Rebind x = rebound_as x
 becomes_as (role.BindRest s) x = rest_as s x
 becomes_as (role.RebindRest s) x = again_as s x
 becomes_as role.Nothing x = to.Nothing
+becomes_as (role.NothingAt s) x = to.Instead s
 
 -- ---- what a part is to become
 
@@ -142,9 +142,14 @@ abbrev pub left_due : Role → TargetNode → Due
 left_due r (target.Simple e) = expr_due r e
 left_due r (target.Pat p) = record { part = pat_part p; role = left_role r }
 
+-- an expression that is assigned to binds nothing
+abbrev pub expr_role : Role → Role
+expr_role (role.RebindRest s) = role.NothingAt s
+expr_role r = role.Nothing
+
 abbrev pub part_dues : Role → PatPart → List Due
 part_dues r (of_pat.Pat p) = record { part = pat_part p; role = r } ∷ []
-part_dues r (of_pat.Expr e) = expr_due role.Nothing e ∷ []
+part_dues r (of_pat.Expr e) = expr_due (expr_role r) e ∷ []
 
 abbrev pub pat_elem_dues : Option PatElem → List Due
 pat_elem_dues None = []
@@ -197,6 +202,7 @@ ready role.Rebind f = view_ok pat f
 ready (role.BindRest s) f = view_ok expr f
 ready (role.RebindRest s) f = view_ok pat f
 ready role.Nothing f = view_ok expr f
+ready (role.NothingAt s) f = view_ok expr f
 
 abbrev pub suits : Role → View → Bool
 suits role.Keep v = true

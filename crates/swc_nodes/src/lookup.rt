@@ -1,6 +1,7 @@
 // What has a number among the nodes: its node, its place, its text, and how its operator is written. No call has a
 // condition.
-ghost use Rattle.std.specs.Prelude.{◌≡◌, ◌<◌, ◌≤◌, not, Some, None, IfSome, MatchOption};
+ghost use Rattle.std.specs.Prelude.{◌≡◌, ◌<◌, ◌≤◌, not, Some, None, IfSome, IsSome, MatchOption};
+ghost use Rattle.std.specs.Str.{IsCharBoundary};
 ghost use Rattle.swc_context.specs.Spans.{in_order};
 ghost use Rattle.swc_ast.specs.Tree.{span_of as tree_span};
 ghost use Rattle.swc_nodes.specs.NodeParts.{expr, form, view_ok};
@@ -112,8 +113,11 @@ impl<F: Spanned + Drop, C: Spanned + Drop, K: Spanned + Drop> Nodes<F, C, K> {
     /// The text of the expression or the pattern that has the number, as it is in the text that was parsed; `None`
     /// where no node has it, and where its place isn't one in that text.
     pub fn text_of<'a, N: NodeNumber>(&self, text: &'a str, id: N) -> Option<&'a str>
-        ensures { IfSome result (λ part. IsTextAt text.now
+        ensures is { IfSome result (λ part. IsTextAt text.now
             (in_order (tree_span (tree_at self.now (N.at id)))) part.now) }
+        ensures found { N.at id < count self.now
+            → IsCharBoundary text.now (in_order (tree_span (tree_at self.now (N.at id)))).lo.0
+            → IsCharBoundary text.now (in_order (tree_span (tree_at self.now (N.at id)))).hi.0 → IsSome result }
     {
         let span = self.span_of(id)?;
         text.get(span.lo.0 as usize..span.hi.0 as usize)

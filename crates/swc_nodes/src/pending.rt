@@ -1,5 +1,5 @@
 // Binary operators whose right operands are being read (ECMA-262, 13.6 to 13.13).
-ghost use Rattle.std.specs.Prelude.{◌≡◌, ◌<◌, ◌++◌, ◌∷◌, [], true, MatchResult, MatchOption};
+ghost use Rattle.std.specs.Prelude.{◌≡◌, ◌<◌, ◌++◌, ◌∷◌, [], true, None, MatchResult, MatchOption, option_to_list};
 ghost use Rattle.swc_context.specs.Operators.{precedence_of};
 ghost use Rattle.swc_ast.specs.Trees.{min_right};
 ghost use Rattle.swc_nodes.specs.Rising.{waiting, least_above, rises};
@@ -20,16 +20,18 @@ pub struct PendingOperator {
 ///
 /// From bottom to top their precedences rise, and only `**` is on an operator of its own precedence, on `**`: so of
 /// all others there are never more than ten. They are one list, so however many `**` follow one another, no recursion
-/// is needed.
+/// is needed. The one on top is beside that list: so most expressions take no memory for it.
 pub struct PendingOperators {
-    operators: Vec<PendingOperator>,
-    ghost rising: { rises 0 operators.items ≡ true },
+    below: Vec<PendingOperator>,
+    top: Option<PendingOperator>,
+    ghost rising: { rises 0 (below.items ++ option_to_list top) ≡ true },
+    ghost empty: { top ≡ None → below.items ≡ [] },
 }
 
 // Not derived: so dropping the operators is a call, and is proved here alone.
 impl Drop for PendingOperators {
     fn drop(self) {
-        let PendingOperators { operators: _ } = self;
+        let PendingOperators { below: _, top: _ } = self;
     }
 }
 
@@ -41,16 +43,18 @@ impl PendingOperators {
         ensures { all_pending result ≡ [] }
     {
         PendingOperators {
-            operators: Vec::new(alloc),
+            below: Vec::new(alloc),
+            top: None,
         }
     }
 
     /// The precedence above which an operator belongs to the right operand of the one on top: that one's own, or one
     /// less for `**`, which groups to the right. 0, below any operator, where nothing is pending.
+    #[tactic(auto, using(crate::proofs::Waiting::least_more))]
     pub fn min_prec(&self) -> u8
         ensures { result ≡ least_above 0 (all_pending self.now) }
     {
-        match self.operators.last() {
+        match self.top {
             Some(operator) => right_min_prec(operator.op),
             None => 0,
         }
@@ -64,10 +68,9 @@ impl PendingOperators {
             (λ u. all_pending self.new ≡ all_pending self.old ++ waiting left op ∷ [])
             (λ e. all_pending self.new ≡ all_pending self.old) }
     {
-        match self.operators.push(PendingOperator { left, op }) {
-            Ok(()) => Ok(()),
-            Err(_) => Err(AllocError),
-        }
+        put_below(&mut self.below, self.top)?;
+        self.top = Some(PendingOperator { left, op });
+        Ok(())
     }
 
     /// Takes out the operator on top, the right operand of which was read; or answers nothing, where nothing is
@@ -77,7 +80,9 @@ impl PendingOperators {
             ((all_pending self.old ≡ []) × (all_pending self.new ≡ []))
             (λ operator. all_pending self.old ≡ all_pending self.new ++ operator ∷ []) }
     {
-        self.operators.pop()
+        let top = self.top;
+        self.top = self.below.pop();
+        top
     }
 }
 
@@ -89,5 +94,20 @@ fn right_min_prec(op: BinaryOp) -> u8
         // groups to the right
         BinaryOp::Exp => op.precedence() - 1,
         _ => op.precedence(),
+    }
+}
+
+/// Puts the operator that was on top, if one was, on those below it. Refused only when out of memory.
+fn put_below(
+    below: &mut Vec<PendingOperator>,
+    top: Option<PendingOperator>,
+) -> Result<(), AllocError>
+    ensures { MatchResult result
+        (λ u. below.new.items ≡ below.old.items ++ option_to_list top)
+        (λ e. below.new.items ≡ below.old.items) }
+{
+    match top {
+        Some(top) => Ok(below.push(top)?),
+        None => Ok(()),
     }
 }

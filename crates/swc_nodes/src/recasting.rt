@@ -13,7 +13,7 @@ ghost use Rattle.swc_nodes.specs.declared.role.Role.{Role as AnyRole};
 
 use crate::apart::{PartId, Parts, parts_of};
 use crate::node::{ExprId, Node, PatElem, PatId, PatPart, PatPropNode, PropNode, TargetNode};
-use crate::role::{Becomes, Duty, Role, how, of_rest};
+use crate::role::{Becomes, Duty, Role, how, of_expr, of_rest};
 use crate::shape::place_of;
 use std::alloc::{AllocError, Global};
 use swc_ast::expr::{ExprOrSpread, Invalid};
@@ -483,7 +483,7 @@ fn rebind_part(due: &mut Vec<Duty>, role: Role, part: &mut PatPart) -> Result<()
         PatPart::Expr(id) => {
             due.push(Duty {
                 part: PartId::Expr(id),
-                role: Role::Nothing,
+                role: of_expr(role),
             })?;
             *part = PatPart::Pat(PatId(id.0));
         }

@@ -1,6 +1,6 @@
 // What a node is to become, where an expression becomes a pattern, or a pattern that was assigned to one that binds.
 ghost use Rattle.std.specs.Prelude.{◌≡◌};
-ghost use Rattle.swc_nodes.specs.Roles.{becomes_as, bound_as, assigned_as, rebound_as, rest_as, again_as, rest_role};
+ghost use Rattle.swc_nodes.specs.Roles.{becomes_as, bound_as, assigned_as, rebound_as, rest_as, again_as, rest_role, expr_role};
 
 use crate::apart::PartId;
 use crate::node::Node;
@@ -24,6 +24,8 @@ pub enum Role {
     RebindRest(Span),
     /// No pattern, of an expression: a fault was recorded.
     Nothing,
+    /// The same, with this place.
+    NothingAt(Span),
 }
 
 /// How a node becomes that.
@@ -68,6 +70,7 @@ pub(crate) fn how<F, C, K>(role: Role, node: &Node<F, C, K>) -> Becomes
         Role::BindRest(span) => bound_rest(node, span),
         Role::RebindRest(span) => rebound_rest(node, span),
         Role::Nothing => Becomes::Nothing,
+        Role::NothingAt(span) => Becomes::Instead(span),
     }
 }
 
@@ -142,7 +145,6 @@ fn rebound_rest<F, C, K>(node: &Node<F, C, K>, span: Span) -> Becomes
 {
     match node {
         Node::PatIdent(_) | Node::PatInvalid(_) => Becomes::Same,
-        Node::PatExpr(_) => Becomes::Nothing,
         _ => Becomes::Instead(span),
     }
 }
@@ -155,5 +157,16 @@ pub(crate) fn of_rest(role: Role, span: Span) -> Role
         Role::Bind => Role::BindRest(span),
         Role::Rebind => Role::RebindRest(span),
         _ => role,
+    }
+}
+
+/// What an expression that is assigned to is to become, where what holds it is to become that: no pattern, since it
+/// binds nothing.
+pub(crate) fn of_expr(role: Role) -> Role
+    ensures { result ≡ expr_role role }
+{
+    match role {
+        Role::RebindRest(span) => Role::NothingAt(span),
+        _ => Role::Nothing,
     }
 }

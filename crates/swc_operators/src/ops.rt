@@ -1,8 +1,11 @@
 // Binary and unary operators, `++`, `--` and `await` (ECMA-262, 13.4 to 13.13 and 15.8).
 ghost use Rattle.std.specs.Prelude.{◌+◌, ◌++◌, ◌∷◌, [], ◌≡◌, ◌≢◌, ◌<◌, ◌≤◌, true, false, not, ◌&&◌, nat_lt, OnOk, IfOk, IfErr, IsSome};
 ghost use Rattle.swc_context.specs.Operators.{precedence_of};
-ghost use Rattle.swc_context.specs.declared.error.SyntaxError.TheVariants.{OutOfMemory, ParserFailed, TS1109};
-ghost use Rattle.swc_input.specs.Buffer.{current, context, last_position, to_come};
+ghost use Rattle.swc_context.specs.declared.error.SyntaxError.TheVariants.{OutOfMemory, ParserFailed, TS1102, TS1109};
+ghost use Rattle.swc_context.specs.Spans.{in_order};
+ghost use Rattle.swc_input.specs.Source.{with_module_error};
+ghost use Rattle.swc_ast.specs.Tree.{span_of};
+ghost use Rattle.swc_input.specs.Buffer.{current, context, last_position, state_of, to_come};
 ghost use Rattle.swc_input.specs.{Recording.no_memory, Kinds.at_token};
 ghost use Rattle.swc_ast.specs.{Targets.is_target, Trees.left_ok};
 ghost use Rattle.swc_ast.specs.Trees as trees;
@@ -531,6 +534,11 @@ fn check_delete<I: Tokens, B: Bodies<I>>(
     requires { From 0 nodes.now (expr_part arg) }
     ensures checks { Checked I.model
         (trees.delete_ok (context I.model input.old) op (tree_of nodes.now arg)) input.old result input.new }
+    ensures waits { (context I.model input.old).ignore_error ≡ false
+        → (trees.is_delete op && trees.is_ident (tree_of nodes.now arg)) ≡ true
+        → OnOk result (state_of I.model input.new
+        ≡ with_module_error (record { span = in_order (span_of (tree_of nodes.now arg)); kind = TS1102 })
+        (state_of I.model input.old)) }
     ensures falls { OnOk result (to_come I.model input.new ≤ to_come I.model input.old) }
 {
     if is_ident_deleted(nodes, op, arg) {

@@ -13,6 +13,8 @@ ghost use Rattle.swc_nodes.specs.NodeParts.{args_parts};
 ghost use Rattle.swc_nodes.specs.GrowingNodes.{count, first_start, last_end, Apart};
 ghost use Rattle.swc_steps.specs.Args.{paren_from, paren_closed};
 ghost use Rattle.swc_steps.specs.Readers.{by_production, named_expr, private_operand};
+ghost use Rattle.swc_context.specs.{declared.atom.Atom.Atom, declared.error.SyntaxError.TheVariants.InvalidIdentInStrict};
+ghost use Rattle.swc_input.specs.Source.{with_module_error};
 ghost use Rattle.swc_input.specs.Calls.{Here, Checked, Refuses};
 ghost use Rattle.swc_steps.specs.Parsing.{lit_in, seen, ParsesAlone, Produces, GoesOn, ContinuesAlone, TookLiteral, Parses, by_hook, itself, tree_of, args_at, ident_spelling};
 ghost use Rattle.swc_primary.specs.Openings.{in_comes, primary_kind, literal, BeginsPlain};
@@ -452,6 +454,10 @@ fn check_strict_word<I: Tokens>(
 ) -> PResult<()>
     ensures checks { Checked I.model
         (not ((context I.model input.old).module && is_strict)) input.old result input.new }
+    ensures waits { (context I.model input.old).ignore_error ≡ false → is_strict ≡ true
+        → OnOk result ((sym : Atom) × (state_of I.model input.new
+        ≡ with_module_error (record { span = ident.now.span; kind = InvalidIdentInStrict sym })
+        (state_of I.model input.old))) }
     ensures falls { OnOk result (to_come I.model input.new ≤ to_come I.model input.old) }
 {
     if !is_strict {

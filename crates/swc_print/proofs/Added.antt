@@ -12,6 +12,7 @@ numbers-append [] ys = refl
 numbers-append (piece.Text t ∷ xs) ys = numbers-append xs ys
 numbers-append (piece.Count k ∷ xs) ys = numbers-append xs ys
 numbers-append (piece.Node i ∷ xs) ys = ap (λ v. i ∷ v) (numbers-append xs ys)
+numbers-append (piece.Next i ∷ xs) ys = ap (λ v. i ∷ v) (numbers-append xs ys)
 numbers-append (piece.Last i ∷ xs) ys = ap (λ v. i ∷ v) (numbers-append xs ys)
 numbers-append (piece.Bracketed o i ∷ xs) ys = ap (λ v. i ∷ v) (numbers-append xs ys)
 numbers-append (piece.Property o t ∷ xs) ys = numbers-append xs ys
@@ -68,6 +69,7 @@ reverse_one : (p : Piece) → reverse (numbers (p ∷ [])) ≡ numbers (p ∷ []
 reverse_one (piece.Text t) = refl
 reverse_one (piece.Count k) = refl
 reverse_one (piece.Node i) = refl
+reverse_one (piece.Next i) = refl
 reverse_one (piece.Last i) = refl
 reverse_one (piece.Bracketed o i) = refl
 reverse_one (piece.Property o t) = refl
@@ -107,3 +109,33 @@ last_taken old left new p q i whole e one f none h =
     let same : numbers new ≡ numbers left = piece_more left new q f ∙ ap (λ v. numbers left ++ v) none ∙ append-nil
     (numbers left) in
     node_taken old left p i whole e one h ∙ ap (λ v. v ++ i ∷ []) (sym same)
+
+-- ---- a node that is begun
+
+-- its first part, and a piece with the others
+pub part_first : (old new : List Piece) (p : Piece) (i : ℕ) → new ≡ old ++ p ∷ []
+    → numbers new ++ i ∷ [] ≡ numbers old ++ reverse (i ∷ numbers (p ∷ []))
+part_first old new p i e =
+    let turned : reverse (i ∷ numbers (p ∷ [])) ≡ numbers (p ∷ []) ++ i ∷ [] =
+    reverse-append (i ∷ []) (numbers (p ∷ [])) ∙ ap (λ v. v ++ i ∷ []) (reverse_one p) in
+    ap (λ v. v ++ i ∷ []) (piece_more old new p e) ∙ append_assoc (numbers old) (numbers (p ∷ [])) (i ∷ [])
+    ∙ ap (λ v. numbers old ++ v) (sym turned)
+
+-- and a third part
+pub third_part : (old mid new : List Piece) (i j k : ℕ) → mid ≡ old ++ piece.Last k ∷ [] → new ≡ mid ++ piece.Next j ∷ []
+    → numbers new ++ i ∷ [] ≡ numbers old ++ reverse (i ∷ j ∷ k ∷ [])
+third_part old mid new i j k e f =
+    part_first mid new (piece.Next j) i f ∙ ap (λ v. v ++ j ∷ i ∷ []) (piece_more old mid (piece.Last k) e)
+    ∙ append_assoc (numbers old) (k ∷ []) (j ∷ i ∷ [])
+
+-- the next one, where it has none
+pub next_below : (old mid new ns found : List ℕ) → ns ≡ [] → mid ≡ old → mid ≡ new ++ found
+    → new ++ found ≡ old ++ reverse ns
+next_below old mid new ns found none same h = sym h ∙ same ∙ sym (append-nil old) ∙ ap (λ v. old ++ reverse v)
+    (sym none)
+
+-- and where its parts were moved
+pub next_moved : (old mid moved new waited laid ns found : List ℕ) → mid ≡ old → waited ≡ [] → laid ≡ waited ++ ns
+    → moved ≡ mid ++ reverse laid → moved ≡ new ++ found → new ++ found ≡ old ++ reverse ns
+next_moved old mid moved new waited laid ns found same none put more h = sym h ∙ more ∙ ap (λ v. v ++ reverse laid) same
+    ∙ ap (λ v. old ++ reverse v) (put ∙ ap (λ v. v ++ ns) none)

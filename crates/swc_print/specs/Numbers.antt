@@ -1,13 +1,14 @@
 -- The numbers of nodes, among pieces of text and among the parts of a node.
-use Rattle.std.specs.Prelude.{◌≡◌, ℕ, Bool, true, false, List, [], ◌∷◌, ◌++◌, Result, OnOk, length, take}
+use Rattle.std.specs.Prelude.{◌≡◌, ℕ, Bool, true, false, List, [], ◌∷◌, ◌++◌, Result, OnOk, length, take, reverse}
 use Rattle.swc_ast.specs.declared.expr.Tpl.{Tpl}
 use Rattle.swc_nodes.specs.NodeParts.{Part, slots, one_expr, flat}
 use Rattle.swc_nodes.specs.{declared.node.ExprId.ExprId, Weights.ats, declared.node.Node.Node, declared.node.Node.Node as n}
-use Rattle.swc_print.specs.{declared.pieces.Pieces.Pieces, declared.pieces.Piece.Piece, declared.pieces.Piece.Piece as piece}
+use Rattle.swc_print.specs.{declared.pieces.Pieces.Pieces, declared.pieces.Piece.Piece, declared.pieces.Piece.Piece as piece, declared.common.Begun.Begun, declared.common.Begun.Begun as begun}
 
 abbrev pub numbers : List Piece → List ℕ
 numbers [] = []
 numbers (piece.Node i ∷ ps) = i ∷ numbers ps
+numbers (piece.Next i ∷ ps) = i ∷ numbers ps
 numbers (piece.Last i ∷ ps) = i ∷ numbers ps
 numbers (piece.Bracketed o i ∷ ps) = i ∷ numbers ps
 numbers (piece.Text t ∷ ps) = numbers ps
@@ -45,3 +46,10 @@ is_operation x = is_infix x
 -- The numbers of the parts, in their order, were laid after the pieces that wait.
 abbrev pub Lays : {T E : Type 0} → List Part → Pieces → Result T E → Pieces → Type 0
 Lays ps old r new = OnOk r (numbers new.waiting.items ≡ numbers old.waiting.items ++ ats ps)
+
+-- A node was begun, whose parts have the numbers: the others are on the stack, below its first part; or it has none; or
+-- nothing was done.
+abbrev pub Begins : List ℕ → List Piece → Begun → List Piece → Type 0
+Begins ns old (begun.Part i) new = numbers new ++ i ∷ [] ≡ numbers old ++ reverse ns
+Begins ns old begun.Whole new = (ns ≡ []) × (numbers new ≡ numbers old)
+Begins ns old begun.Nothing new = numbers new ≡ numbers old

@@ -177,7 +177,7 @@ fn put_regex<'a>(pieces: &mut Pieces<'a>, regex: &'a Regex) -> Result<(), AllocE
     put_named(pieces, "/", regex.flags.as_str())
 }
 
-fn target_number(target: &TargetNode) -> usize
+pub(crate) fn target_number(target: &TargetNode) -> usize
     ensures { result ≡ (target_part target.now).at }
 {
     match target {

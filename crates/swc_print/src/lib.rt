@@ -1,6 +1,7 @@
 //! Trees of nodes as text.
 #![tactic(auto)]
 
+mod common;
 mod items;
 mod kinds;
 mod links;

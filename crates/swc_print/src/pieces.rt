@@ -40,6 +40,8 @@ pub enum Piece<'a> {
     Count(usize),
     /// The text of the node that has the number.
     Node(usize),
+    /// A comma, and the text of the node that has the number.
+    Next(usize),
     /// A comma, the text of the node that has the number, and `)`.
     Last(usize),
     /// A comma, `[`, the text of the node that has the number, `]`, and the end of what it is in.

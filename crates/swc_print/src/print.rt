@@ -2,8 +2,10 @@
 ghost use Rattle.std.specs.Prelude.{◌≡◌, ◌++◌, ◌<◌, [], OnOk, IfOk, IfErr, length, reverse};
 ghost use Rattle.std.specs.Option.{option_to_list};
 ghost use Rattle.swc_nodes.specs.GrowingNodes.{count};
-ghost use Rattle.swc_print.specs.{Numbers.numbers, Memory.want_of_memory};
+ghost use Rattle.swc_nodes.specs.Weights.{ats};
+ghost use Rattle.swc_print.specs.{Numbers.numbers, Numbers.shown, Memory.want_of_memory};
 
+use crate::common::{Begun, put_common};
 use crate::kinds::put_node;
 use crate::pieces::{Owner, Piece, Pieces};
 use std::alloc::AllocError;
@@ -11,7 +13,7 @@ use swc_ast::spanned::Spanned;
 use swc_bodies::token_body::TokenBody;
 use swc_context::error::{Error, PResult, SyntaxError};
 use swc_context::span::{BytePos, Span};
-use swc_nodes::node::{ExprId, PatId};
+use swc_nodes::node::{ExprId, Node, PatId};
 use swc_nodes::nodes::Nodes;
 
 /// A value of the hook, which is printed as the number of tokens that it kept.
@@ -118,12 +120,34 @@ fn print_node<F: Spanned + Drop + Kept, C: Spanned + Drop + Kept, K: Spanned + D
         out,
         waiting: Vec::new(alloc),
     };
-    stack.push(Piece::Node(number))?;
-    while let Some(next) = next_node(&mut stack, &mut pieces.out)? {
-        put_node(&mut pieces, nodes.get(next))?;
-        move_onto(&mut stack, &mut pieces.waiting)?;
+    let mut next = Some(number);
+    while let Some(at) = next {
+        next = put_next(&mut stack, &mut pieces, nodes.get(at))?;
     }
     Ok(pieces.out)
+}
+
+/// Writes the text of a node up to the next node, which is answered: its first part, or else one that is on the stack,
+/// where what is left to print lies.
+fn put_next<'a, F: Kept, C: Kept, K: Kept>(
+    stack: &mut Vec<Piece<'a>>,
+    pieces: &mut Pieces<'a>,
+    node: &'a Node<F, C, K>,
+) -> Result<Option<usize>, AllocError>
+    requires { numbers pieces.old.waiting.items ≡ [] }
+    ensures next { IfOk result (λ next. numbers stack.new.items ++ option_to_list next
+        ≡ numbers stack.old.items ++ reverse (ats (shown node.now))) }
+    ensures none { OnOk result (numbers pieces.new.waiting.items ≡ []) }
+{
+    match put_common(stack, &mut pieces.out, node)? {
+        Begun::Part(first) => Ok(Some(first)),
+        Begun::Whole => next_node(stack, &mut pieces.out),
+        Begun::Nothing => {
+            put_node(pieces, node)?;
+            move_onto(stack, &mut pieces.waiting)?;
+            next_node(stack, &mut pieces.out)
+        }
+    }
 }
 
 /// Writes the name of a property, which ends a member.
@@ -142,6 +166,10 @@ fn next_node(stack: &mut Vec<Piece>, out: &mut String) -> Result<Option<usize>, 
             Piece::Text(text) => out.push_str(text),
             Piece::Count(count) => write!(out, "<{count}>"),
             Piece::Node(number) => return Ok(Some(number)),
+            Piece::Next(number) => {
+                out.push_str(", ")?;
+                return Ok(Some(number));
+            }
             Piece::Last(number) => {
                 out.push_str(", ")?;
                 stack.push(Piece::Text(")"))?;

@@ -124,7 +124,7 @@ pub fn skip<I: Tokens>(input: &mut Buffer<I>)
     ensures took { (t : Token) × Bumped I.model input.old t input.new }
     ensures falls { to_come I.model input.new < to_come I.model input.old }
 {
-    let _ = input.bump();
+    input.pass();
 }
 
 /// Consumes the slash that is current, with the hint to a lexer that a regular expression begins there. What comes then

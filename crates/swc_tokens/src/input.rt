@@ -7,7 +7,7 @@ ghost use Rattle.swc_tokens.specs.Faults as faults;
 
 use crate::find_tokens;
 use crate::found::Found;
-use crate::making::Source;
+use crate::making::{Source, put};
 use std::alloc::{AllocError, Global};
 use swc_context::context::{Context, EsVersion, Syntax, TokenContexts};
 use swc_context::error::{Error, PResult};
@@ -202,5 +202,26 @@ impl Tokens for AsciiInput {
 
     fn failed(&self) -> bool {
         self.failed
+    }
+
+    #[tactic(auto, using(crate::specs::Inputs::asked_given, crate::specs::Inputs::asked_over, crate::specs::Inputs::asked_failed))]
+    fn fill(&mut self, place: &mut Option<TokenAndSpan>) {
+        if self.failed {
+            put(place, None);
+            return;
+        }
+        match self.found.last() {
+            None => put(place, None),
+            Some(found) => {
+                let found = *found;
+                match Source::new(self.alloc, self.text.as_str()).put(found, place) {
+                    Ok(()) => drop_last(&mut self.found),
+                    Err(AllocError) => {
+                        self.failed = true;
+                        put(place, None);
+                    }
+                }
+            }
+        }
     }
 }

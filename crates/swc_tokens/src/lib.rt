@@ -119,12 +119,16 @@ pub fn read_tokens_at(alloc: Global, text: &[u8], start: BytePos) -> PResult<Vec
     }
 }
 
-/// Where the first byte above 127 is.
+/// Where the first byte above 127 is. Most texts have none, which a look at several bytes at once tells.
+#[tactic(auto, using(crate::proofs::Ascii::none_beyond))]
 fn first_beyond_ascii(text: &[u8]) -> Option<usize>
     ensures value { result ≡ position (λ byte. nat_lt 127 byte) text.now }
     ensures inside { IfSome result (λ at. at < length text.now) }
     ensures ascii { IsNone result → IsAscii text.now }
 {
+    if text.is_ascii() {
+        return None;
+    }
     text.iter().position(|byte| *byte > 127)
 }
 

@@ -1,5 +1,5 @@
 // Tokens made of the text in which they were found.
-ghost use Rattle.std.specs.Prelude.{◌≡◌, ◌-◌, ◌≤◌, ◌<◌, ◌^◌, length, slice_range, IfOk};
+ghost use Rattle.std.specs.Prelude.{◌≡◌, ◌-◌, ◌≤◌, ◌<◌, ◌^◌, length, slice_range, Some, IfOk, OnOk, OnErr};
 ghost use Rattle.std.specs.Str.{IsAscii};
 ghost use Rattle.swc_tokens.specs.Found.{made, token_of};
 ghost use Rattle.swc_tokens.specs.Spelling as spelling;
@@ -166,4 +166,48 @@ impl<'a> Source<'a> {
             span: found.span,
         })
     }
+    /// Puts the token that was found in a place. The only error is out of memory, and then nothing changes.
+    #[inline(always)]
+    #[tactic(auto, unfolding(crate::specs::Found::token_of))]
+    pub(crate) fn put(
+        &self,
+        found: Found,
+        place: &mut Option<TokenAndSpan>,
+    ) -> Result<(), AllocError>
+        ensures made { OnOk result (place.new ≡ Some (made self.now.text.now found)) }
+        ensures unchanged { OnErr result (place.new ≡ place.old) }
+    {
+        match found.shape {
+            Shape::Sign(sign) => put_found(place, found, sign.token()),
+            Shape::Word => {
+                let token = self.word(found.span.lo.0 as usize, found.span.hi.0 as usize)?;
+                put_found(place, found, token);
+            }
+            _ => {
+                let made = self.make(found)?;
+                put(place, Some(made));
+            }
+        }
+        Ok(())
+    }
+}
+
+/// Puts a token in a place. (Dropping what was there has a case for each kind of token.)
+#[inline(always)]
+pub(crate) fn put(place: &mut Option<TokenAndSpan>, token: Option<TokenAndSpan>)
+    ensures { place.new ≡ token }
+{
+    *place = token;
+}
+
+/// Puts the token in a place, where it was found.
+#[inline(always)]
+fn put_found(place: &mut Option<TokenAndSpan>, found: Found, token: Token)
+    ensures { place.new ≡ Some (record { token = token; had_line_break = found.had_line_break; span = found.span }) }
+{
+    *place = Some(TokenAndSpan {
+        token,
+        had_line_break: found.had_line_break,
+        span: found.span,
+    });
 }

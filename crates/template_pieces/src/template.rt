@@ -1,6 +1,6 @@
 // A template: a text with expressions in it.
-use reporting::Refusal;
-use reporting::expr::{Part, parse_part, position, read_part};
+use reporting::expr::{Part, parse_part_within, position, read_part};
+use reporting::{LEVELS, Refusal};
 use std::alloc::{AllocError, Global};
 use swc_ecma_parser::context::context::Context;
 use swc_ecma_parser::context::error::{Error, SyntaxError, Wanted};
@@ -46,6 +46,16 @@ struct HoleEnd {
 /// A hole that has a fault is left out, and the text goes on after the next `}}`, or is over if there is none: then the
 /// fault tells where the hole opens. The only error is out of memory.
 pub fn parse(alloc: Global, text: &str, context: Context) -> Result<Template, AllocError> {
+    parse_within(alloc, text, context, LEVELS)
+}
+
+/// The same, where a hole that is nested deeper than so many levels has that fault.
+pub fn parse_within(
+    alloc: Global,
+    text: &str,
+    context: Context,
+    levels: usize,
+) -> Result<Template, AllocError> {
     let mut template = Template {
         pieces: Vec::new(alloc),
         faults: Vec::new(alloc),
@@ -56,7 +66,7 @@ pub fn parse(alloc: Global, text: &str, context: Context) -> Result<Template, Al
     for open in 0..bytes.len() {
         if done <= open && bytes[open..].starts_with(b"{{") {
             push_text(&mut template, done, open)?;
-            done = push_hole(alloc, text, open, context, &mut template)?;
+            done = push_hole(alloc, text, open, context, levels, &mut template)?;
         }
     }
     push_text(&mut template, done, bytes.len())?;
@@ -77,12 +87,13 @@ fn push_hole(
     text: &str,
     open: usize,
     context: Context,
+    levels: usize,
     template: &mut Template,
 ) -> Result<usize, AllocError> {
     let from = open.saturating_add(2);
     let part = read_part(alloc, text, from, End::BeforeBrace, context)?;
     let end = hole_end(text, part.end);
-    match read_hole(alloc, part, end, context) {
+    match read_hole(alloc, part, end, context, levels) {
         Ok(tree) => template.pieces.push(Piece::Hole(tree))?,
         Err(refusal) if end.goes_on.is_none() => {
             template.faults.push(refusal.with_opener(span(open, from)))?
@@ -116,8 +127,14 @@ fn hole_end(text: &str, last: usize) -> HoleEnd {
 }
 
 /// The tree of a hole's expression, printed.
-fn read_hole(alloc: Global, part: Part, end: HoleEnd, context: Context) -> Result<String, Refusal> {
-    let (nodes, expr) = match parse_part(alloc, part, context) {
+fn read_hole(
+    alloc: Global,
+    part: Part,
+    end: HoleEnd,
+    context: Context,
+    levels: usize,
+) -> Result<String, Refusal> {
+    let (nodes, expr) = match parse_part_within(alloc, part, context, levels) {
         Ok(read) => read,
         Err(refusal) => return Err(in_hole(refusal, end)),
     };

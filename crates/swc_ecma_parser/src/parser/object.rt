@@ -8,7 +8,7 @@ ghost use Rattle.swc_input.specs.Recordings.{Judges};
 ghost use Rattle.swc_patterns.specs.Objects.{is_rest, props_stage, rests_checked};
 ghost use Rattle.swc_patterns.specs.RestFaults.{rest_at, rests_faults, rests_refused};
 ghost use Rattle.swc_steps.specs.Parsing.{ContinuesAlone};
-ghost use Rattle.swc_ecma_parser.specs.Calls.{buffer_of, nodes_of, commas_of, has_failed, MakesObject, MakesPattern, Patterns};
+ghost use Rattle.swc_ecma_parser.specs.Calls.{buffer_of, nodes_of, commas_of, has_failed, standing, MakesObject, MakesPattern, Patterns};
 ghost use Rattle.swc_ecma_parser.specs.Promise.{Promised, PromisedPatProp, key_in_boxes, key_by_number, prop_in_boxes};
 
 use crate::parser::{Parser, PatOf};
@@ -91,7 +91,7 @@ impl<I: Tokens, B: Bodies<I>> Parser<I, B> {
         ensures remembers { OnOk result
             (Remembers span.lo.0 trailing_comma (commas_of self.old) (commas_of self.new)) }
         ensures nodes { nodes_of self.new ≡ nodes_of self.old }
-        ensures runs { has_failed self.new ≡ has_failed self.old }
+        ensures runs { standing self.new ≡ standing self.old }
     {
         match self.commas.remember(span.lo, trailing_comma) {
             Ok(()) => match object_lit(self.productions.alloc, span, props) {
@@ -196,7 +196,7 @@ impl<I: Tokens, B: Bodies<I>> Parser<I, B> {
             (buffer_of self.old) result (buffer_of self.new) }
         ensures remembers { OnOk result (Remembers span.lo.0 None (commas_of self.old) (commas_of self.new)) }
         ensures nodes { nodes_of self.new ≡ nodes_of self.old }
-        ensures runs { has_failed self.new ≡ has_failed self.old }
+        ensures runs { standing self.new ≡ standing self.old }
     {
         match check_rests(&mut self.productions.input, &props, trailing_comma) {
             Ok(()) => match self.commas.remember(span.lo, None) {

@@ -5,7 +5,7 @@ ghost use Rattle.swc_cover.specs.{Faults.params_verdict, Items.want_items, Notin
 ghost use Rattle.swc_nodes.specs.{Lists.pats_parts, GrowingNodes.count, GrowingNodes.first_at, GrowingNodes.Apart, GrowingNodes.CutTo, GrowingNodes.From};
 ghost use Rattle.swc_nodes.specs.NodeParts.{expr_part, one_pat, pat_part};
 ghost use Rattle.swc_steps.specs.Params.{pat_at};
-ghost use Rattle.swc_ecma_parser.specs.Calls.{buffer_of, nodes_of, commas_of, has_failed, tree_by, MovesOut};
+ghost use Rattle.swc_ecma_parser.specs.Calls.{buffer_of, nodes_of, commas_of, has_failed, standing, tree_by, MovesOut};
 ghost use Rattle.swc_ecma_parser.specs.Refinement.{boxed_items, marked_expr, marked_items, params_of, pattern_of, names_of, verdict_of, Recasts, RefinesExpr, RefinesItems, RefinesNumber};
 
 use crate::parser::{Parser, PatOf};
@@ -109,7 +109,7 @@ impl<I: Tokens, B: Bodies<I>> Parser<I, B> {
         ensures commas { commas_of self.new ≡ commas_of self.old }
         ensures nodes { CutTo start (nodes_of self.old) (nodes_of self.new) }
         ensures buffer { buffer_of self.new ≡ buffer_of self.old }
-        ensures runs { has_failed self.new ≡ has_failed self.old }
+        ensures runs { standing self.new ≡ standing self.old }
     {
         match answer {
             Ok(numbers) => {
@@ -135,7 +135,7 @@ impl<I: Tokens, B: Bodies<I>> Parser<I, B> {
         ensures judges { JudgesBy I.model (verdict_of I.model pat_type expr self.old)
             (buffer_of self.old) result (buffer_of self.new) }
         ensures commas { commas_of self.new ≡ commas_of self.old }
-        ensures runs { has_failed self.new ≡ has_failed self.old }
+        ensures runs { standing self.new ≡ standing self.old }
     {
         let start = self.productions.nodes.len();
         match put_expr(&mut self.productions.nodes, self.productions.alloc, expr) {
@@ -159,7 +159,7 @@ impl<I: Tokens, B: Bodies<I>> Parser<I, B> {
         ensures judges { JudgesParams I.model (params_verdict trailing_comma (marked_items self.old items.items))
             (names_of I.model items.items self.old) (buffer_of self.old) result (buffer_of self.new) }
         ensures commas { commas_of self.new ≡ commas_of self.old }
-        ensures runs { has_failed self.new ≡ has_failed self.old }
+        ensures runs { standing self.new ≡ standing self.old }
     {
         let start = self.productions.nodes.len();
         match put_args(&mut self.productions.nodes, self.productions.alloc, items) {

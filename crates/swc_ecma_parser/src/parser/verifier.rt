@@ -3,7 +3,7 @@ ghost use Rattle.std.specs.Prelude.{◌≡◌};
 ghost use Rattle.swc_nodes.specs.GrowingNodes.{tree_at, From, Grows};
 ghost use Rattle.swc_nodes.specs.NodeParts.{expr_part};
 ghost use Rattle.swc_ecma_parser.specs.{CoverNames.cover_names, Faults.cover_faults};
-ghost use Rattle.swc_ecma_parser.specs.Calls.{buffer_of, nodes_of, commas_of, has_failed, tree_by, with_buffer};
+ghost use Rattle.swc_ecma_parser.specs.Calls.{buffer_of, nodes_of, commas_of, has_failed, standing, tree_by, with_buffer};
 ghost use Rattle.swc_ecma_parser.specs.Verification.{LooksThrough, TriesFaults, VerifiesExpr};
 
 use crate::parser::Parser;
@@ -44,7 +44,7 @@ impl<I: Tokens, B: Bodies<I>> Parser<I, B> {
             self.old result self.new }
         ensures grows { Grows (nodes_of self.old) (nodes_of self.new) }
         ensures commas { commas_of self.new ≡ commas_of self.old }
-        ensures runs { has_failed self.new ≡ has_failed self.old }
+        ensures runs { standing self.new ≡ standing self.old }
     {
         match put_expr(&mut self.productions.nodes, self.productions.alloc, expr) {
             Ok(id) => {

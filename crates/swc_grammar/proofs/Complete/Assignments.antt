@@ -122,7 +122,7 @@ module _ {F C K : Type 0} (hook : Hook F C K) where
       ∙ if-off (not (goes_on_yield_at u)) _ _ (not-off (goes_on_yield_at u) h) ∙ e
 
   -- the productions that are picked by what comes first: those of `yield`, and of arrow functions of one name
-  abbrev is_yielded : {c : Scope} {r : Side F C K Assign} → Production Assign c r → Bool
+  abbrev pub is_yielded : {c : Scope} {r : Side F C K Assign} → Production Assign c r → Bool
   is_yielded yield-alone = true
   is_yielded yield-expr = true
   is_yielded yield-star = true
@@ -130,7 +130,7 @@ module _ {F C K : Type 0} (hook : Hook F C K) where
   is_yielded arrow-async-name = true
   is_yielded p = false
 
-  picked-assign : {c : Scope} {r : Side F C K Assign} {xs ys : List TokenAndSpan} {t : Tree F C K}
+  pub picked-assign : {c : Scope} {r : Side F C K Assign} {xs ys : List TokenAndSpan} {t : Tree F C K}
       (p : Production Assign c r) → is_yielded p ≡ true
       → Follows hook Assign r xs ys t → step (sym Assign) c xs ≡ chosen (pick p)
   picked-assign {c = c} yield-alone y (took {a = a} {xs = us} (held h (held k (calm w d)))) =

@@ -71,7 +71,7 @@ await-ends (t ∷ ts) w =
     let (x, y) = neither (is_star t.token) (not (ends_await t)) w in (x, is-true (ends_await t) y)
 
 -- operators
-operator-ends : (c : Scope) (a : TokenAndSpan) (us : List TokenAndSpan) (op : BinaryOp)
+pub operator-ends : (c : Scope) (a : TokenAndSpan) (us : List TokenAndSpan) (op : BinaryOp)
     → binary_of c.context a.token ≡ Some op → ends_unary (a ∷ us) ≡ true
 operator-ends c a us op h = by-token a.token a.had_line_break a.span h
   where
@@ -86,7 +86,7 @@ operator-ends c a us op h = by-token a.token a.had_line_break a.span h
     by-token token.Arrow b s h = absurd cc
     by-token t b s h = refl
 
-power-op : (c : Scope) (a : TokenAndSpan) → is_power a.token ≡ true → binary_of c.context a.token ≡ Some binary.Exp
+pub power-op : (c : Scope) (a : TokenAndSpan) → is_power a.token ≡ true → binary_of c.context a.token ≡ Some binary.Exp
 power-op c a h = rw (power-is a.token h) refl
 
 -- no left-hand side goes on with `++` or `--`
@@ -101,13 +101,13 @@ update-link a us h = by-token a.token a.had_line_break a.span h
     by-token t b s h = absurd cc
 
 -- the operator `in`, where it is one
-in-word : (c : Scope) (t : Token) → c.context.include_in_expr ≡ true → is_in t ≡ true
+pub in-word : (c : Scope) (t : Token) → c.context.include_in_expr ≡ true → is_in t ≡ true
     → binary_of c.context t ≡ Some binary.In
 in-word c (token.Word (word.Keyword keyword.In)) i h = rw i refl
 in-word c t i h = absurd cc
 
 module _ {F C K : Type 0} (hook : Hook F C K) where
-  climb-takes : (op : BinaryOp) (m : ℕ) (c : Scope) (t : TokenAndSpan) (l r : Tree F C K) (ms ys : List TokenAndSpan)
+  pub climb-takes : (op : BinaryOp) (m : ℕ) (c : Scope) (t : TokenAndSpan) (l r : Tree F C K) (ms ys : List TokenAndSpan)
       → binary_of c.context t.token ≡ Some op → m < precedence_of op → exp_ok op l ≡ true → nullish_ok op l r ≡ true
       → logical_ok op l ≡ true → run hook (sym (Level (suc (min_right op)))) (inner c) ms ≡ Some (r, ys)
       → run hook (climb l m) c (t ∷ ms) ≡ run hook (climb (bin_e (to (span_of l) (span_of r)) op l r) m) c ys
@@ -180,12 +180,12 @@ module _ {F C K : Type 0} (hook : Hook F C K) where
       if-off (is_update a.token) _ _ (await-apart a.token h) ∙ if-on (is_await a.token) _ _ h
       ∙ ap chosen (if-off (at_token is_star (first us)) _ _ s ∙ e)
 
-  abbrev is_signed : {c : Scope} {r : Side F C K Unary} → Production Unary c r → Bool
+  abbrev pub is_signed : {c : Scope} {r : Side F C K Unary} → Production Unary c r → Bool
   is_signed unary-left = false
   is_signed update-postfix = false
   is_signed p = true
 
-  picked-unary : {c : Scope} {r : Side F C K Unary} {xs ys : List TokenAndSpan} {t : Tree F C K}
+  pub picked-unary : {c : Scope} {r : Side F C K Unary} {xs ys : List TokenAndSpan} {t : Tree F C K}
       (p : Production Unary c r) → is_signed p ≡ true
       → Follows hook Unary r xs ys t → step (sym Unary) c xs ≡ chosen (pick p)
   picked-unary update-prefix y (took {a = a} d) =
@@ -214,7 +214,7 @@ module _ {F C K : Type 0} (hook : Hook F C K) where
       λ a. ready-given _ _ (prefix_here a.token a.span) _ (λ x h. (refl, λ e. (λ n. stop, λ n. tt)))
   ready-unary ys stop p y = absurd cc
 
-  left-free : (op : BinaryOp) (l : Tree F C K) → precedence_of op ≤ 10 → exp_ok op l ≡ true
+  pub left-free : (op : BinaryOp) (l : Tree F C K) → precedence_of op ≤ 10 → exp_ok op l ≡ true
   left-free binary.Exp l h = absurd (omega arith)
   left-free op l h = refl
 

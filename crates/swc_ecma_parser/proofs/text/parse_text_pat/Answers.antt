@@ -1,12 +1,14 @@
+use Rattle.swc_grammar.specs.Symbols.{Pat}
+use Rattle.swc_steps.specs.Params.{pat_at}
 use Rattle.std.proofs.Common.{ap, refl}
 use Rattle.swc_lexer.specs.Inputs.{text_state, new_state, new_known}
 use Rattle.swc_lexer.specs.{declared.reader.End.TheVariants.Whole, declared.stack.Start.TheVariants.Operand}
-use Rattle.swc_ecma_parser.proofs.WholeList.{headline-in, headline-lost}
+use Rattle.swc_ecma_parser.proofs.WholeList.{front-new-text, headline-in, headline-lost}
 use Rattle.swc_ecma_parser.proofs.text.parse_text_pat.Goals as goal
 
 pub returns-in-Ok-clause-headline : goal.returns-in-Ok-clause-headline
 returns-in-Ok-clause-headline g c = λ heeded modern. headline-in (text_state c.in-Ok.source)
-    (new_state Whole 0 Operand c.args.text.now c.args.ctx c.args.syntax c.args.target) c.in-Ok.ensures
+    (new_state Whole 0 Operand c.args.text.now c.args.ctx c.args.syntax c.args.target) c.in-Ok.ensures.state
     (record {
       known = new_known Whole 0 Operand c.args.text.now c.args.ctx c.args.syntax c.args.target modern;
       clean =
@@ -17,3 +19,9 @@ returns-in-Ok-clause-headline g c = λ heeded modern. headline-in (text_state c.
 pub returns-in-Err-clause-headline : goal.returns-in-Err-clause-headline
 returns-in-Err-clause-headline g c = λ heeded modern. headline-lost c.out_of_memory.result
     (ap (λ e. e.kind) c.out_of_memory.ensures)
+
+pub returns-in-Ok-clause-front : goal.returns-in-Ok-clause-front
+returns-in-Ok-clause-front g c = front-new-text g.B.BodyForms.forms Pat c.in-Ok.source pat_at
+    c.read_whole_pat.result.read c.read_whole_pat.result.nodes c.read_whole_pat.result.recorded.items _
+    (new_state Whole 0 Operand c.args.text.now c.args.ctx c.args.syntax c.args.target) c.in-Ok.ensures.state refl
+    c.in-Ok.ensures.coming c.read_whole_pat.ensures.front

@@ -22,6 +22,11 @@ returns-in-Node c =
     node_taken c.loop-piece.stack.items c.pop.new.self.items c.in-Some.piece c.in-Node.number _ c.in-Some.ensures.items
     (ap (λ (v : Piece). numbers (v ∷ [])) c.in-Node.is) c.loop-piece.invariant
 
+pub returns-in-Next : goal.returns-in-Next
+returns-in-Next c =
+    node_taken c.loop-piece.stack.items c.pop.new.self.items c.in-Some.piece c.in-Next.number _ c.in-Some.ensures.items
+    (ap (λ (v : Piece). numbers (v ∷ [])) c.in-Next.is) c.loop-piece.invariant
+
 pub returns-in-Last : goal.returns-in-Last
 returns-in-Last c =
     last_taken c.loop-piece.stack.items c.pop.new.self.items c.push.new.self.items c.in-Some.piece _ c.in-Last.number _

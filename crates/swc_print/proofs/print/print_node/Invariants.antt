@@ -1,13 +1,14 @@
-use Rattle.std.proofs.Common.{◌≡◌, []}
+use Rattle.std.proofs.Common.{◌≡◌, ◌++◌, []}
+use Rattle.std.specs.Option.{option_to_list}
 use Rattle.swc_print.specs.Numbers.{numbers}
 use Rattle.swc_nodes.specs.Weights.{left_over, AreNumbers}
 use Rattle.swc_print.proofs.print.print_node.Given as goal
 
-abbrev pub invariant-loop-pieces : goal.invariant-loop-pieces
-invariant-loop-pieces g l = record {
-  valid : AreNumbers l.nodes (numbers l.stack.items);
+abbrev pub invariant-loop-next : goal.invariant-loop-next
+invariant-loop-next g l = record {
+  valid : AreNumbers l.nodes (numbers l.stack.items ++ option_to_list l.next);
   none : numbers l.pieces.waiting.items ≡ [];
 }
 
-abbrev pub decreases-loop-pieces : goal.decreases-loop-pieces
-decreases-loop-pieces g l = left_over l.nodes (numbers l.stack.items)
+abbrev pub decreases-loop-next : goal.decreases-loop-next
+decreases-loop-next g l = left_over l.nodes (numbers l.stack.items ++ option_to_list l.next)

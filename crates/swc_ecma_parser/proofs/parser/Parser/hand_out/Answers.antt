@@ -1,5 +1,5 @@
-use Rattle.std.proofs.Common.{◌||◌, sym, ap, ◌∙◌}
-use Rattle.swc_ecma_parser.specs.Calls.{has_failed, wants_memory}
+use Rattle.std.proofs.Common.{subst, ◌∙◌}
+use Rattle.swc_ecma_parser.specs.Calls.{Ends}
 use Rattle.swc_ecma_parser.proofs.parser.Parser.hand_out.Goals as goal
 
 pub returns : goal.returns
@@ -11,6 +11,5 @@ returns g c =
       commas = rw (done.answer, done.commas) moved.commas;
       nodes = rw done.nodes moved.nodes;
       buffer = done.buffer ∙ moved.buffer;
-      fails = done.fails ∙ ap (λ v. v || wants_memory c.move_out-answer.result) moved.runs
-          ∙ ap (λ v. has_failed c.args.self.now || wants_memory v) (sym done.answer);
+      fails = rw done.answer (subst (λ s. Ends s c.move_out-answer.result c.finish.new.self) moved.runs done.fails);
     }

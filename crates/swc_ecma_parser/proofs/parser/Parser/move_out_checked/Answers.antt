@@ -11,12 +11,12 @@ pub hand_out-requires : goal.hand_out-requires
 hand_out-requires g c =
     checked-holds g.I.Tokens.model _ _ _ (λ x. Apart c.args.start (nodes_of c.args.self.now) (g.T.Take.parts x))
     c.args.answer
-    c.check_answer-answer.result c.check_answer-answer.ensures c.requires
+    c.check_answer-answer.result c.check_answer-answer.ensures.checks c.requires
 
 pub returns : goal.returns
 returns g c = record {
   at = c.check_answer-answer.new.input;
   checked = c.check_answer-answer.result;
-  checks = c.check_answer-answer.ensures;
+  checks = c.check_answer-answer.ensures.checks;
   out = c.hand_out.ensures;
 }

@@ -1,8 +1,9 @@
 use Rattle.std.proofs.Common.{refl, sym}
 use Rattle.swc_steps.proofs.Refused.{err_is}
+use Rattle.swc_steps.specs.Params.{placed}
 use Rattle.swc_ecma_parser.specs.Calls.{nodes_of, commas_of}
-use Rattle.swc_ecma_parser.proofs.FormalParams.{derives-bare, meets-params, params-again, params-alone, params-checked, params-moved, promised-params}
-use Rattle.swc_ecma_parser.proofs.Moving.{cut-back}
+use Rattle.swc_ecma_parser.proofs.FormalParams.{derives-bare, meets-params, params-again, params-alone, params-checked, params-moved, params-placed, placed-moved, promised-params}
+use Rattle.swc_ecma_parser.proofs.{Finished.checked-holds, Moving.cut-back}
 use Rattle.swc_ecma_parser.proofs.parser.Parser.parse_formal_params.Goals as goal
 
 pub returns-in_err-start : goal.returns-in_err-start
@@ -29,3 +30,6 @@ returns g c =
     answer c.move_out_checked.result reads alone (params-moved ns _ answer c.move_out_checked.result moved.out.moved)
     moved.out.commas)
     (cut-back (nodes_of c.move_out_checked.new.self) read.grows (rw (sym c.in_ok-start.ensures.start) moved.out.nodes))
+    (placed-moved ns _ answer c.move_out_checked.result moved.out.moved
+    (checked-holds g.I.Tokens.model _ _ _ (λ x. placed ns x.items) c.parse_formal_params-answer.result answer
+    moved.checks (params-placed ns _ c.parse_formal_params-answer.result read.from)))

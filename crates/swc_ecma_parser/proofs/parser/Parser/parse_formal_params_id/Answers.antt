@@ -1,8 +1,9 @@
 use Rattle.std.proofs.Common.{refl, sym}
 use Rattle.swc_nodes.specs.{GrowingNodes.Apart, NodeParts.flat, NodeParts.param_parts}
 use Rattle.swc_steps.proofs.Refused.{err_is}
+use Rattle.swc_steps.specs.Params.{placed}
 use Rattle.swc_ecma_parser.specs.Calls.{nodes_of, commas_of}
-use Rattle.swc_ecma_parser.proofs.FormalParams.{derives-marked, meets-params, params-again, params-alone, params-apart, params-checked, params-kept, promised-params}
+use Rattle.swc_ecma_parser.proofs.FormalParams.{derives-marked, meets-params, params-again, params-alone, params-apart, params-checked, params-kept, params-placed, placed-kept, promised-params}
 use Rattle.swc_ecma_parser.proofs.{Finished.checked-holds, Moving.kept-parts}
 use Rattle.swc_ecma_parser.proofs.parser.Parser.parse_formal_params_id.Goals as goal
 
@@ -36,3 +37,6 @@ returns g c =
     (kept-parts (λ ps. flat param_parts ps.items) ns _ answer c.keep_checked.result read.grows
     (rw (sym c.in_ok-start.ensures.start) from) kept.kept
     (rw (sym c.in_ok-start.ensures.start) kept.nodes))
+    (placed-kept ms ns _ c.in_ok-start.start answer c.keep_checked.result kept.kept kept.nodes
+    (checked-holds g.I.Tokens.model _ _ _ (λ x. placed ms x.items) c.parse_formal_params-answer.result answer
+    kept.checks (params-placed ms _ c.parse_formal_params-answer.result read.from)))

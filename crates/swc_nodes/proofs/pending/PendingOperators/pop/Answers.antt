@@ -1,8 +1,6 @@
-use Rattle.swc_nodes.proofs.Waiting.{rises_popped}
+use Rattle.swc_nodes.proofs.Waiting.{rises_taken}
 use Rattle.swc_nodes.proofs.pending.PendingOperators.pop.Goals as goal
 
-pub invariant_of-self : goal.invariant_of-self
-invariant_of-self c = record {
-  rising = rises_popped c.pop.result c.args.self.now.operators.items c.pop.new.self.items c.pop.ensures.items
-      c.args.self.now.rising;
-}
+pub invariant_of-self-clause-rising : goal.invariant_of-self-clause-rising
+invariant_of-self-clause-rising c = rises_taken c.args.self.now.top c.pop-self.result c.args.self.now.below.items
+    c.pop-self.new.self.items c.pop-self.ensures.items c.args.self.now.rising

@@ -1,6 +1,6 @@
 use Rattle.std.proofs.Common.{Err, refl, ap, ◌∙◌}
 use Rattle.swc_steps.proofs.Refused.{err_is}
-use Rattle.swc_ecma_parser.proofs.Calling.{failing, not_both}
+use Rattle.swc_ecma_parser.proofs.Calling.{bounded, failing, not_both, shallow}
 use Rattle.swc_ecma_parser.proofs.parser.object.ParserParseObjectPatOf.make_object.Goals as goal
 
 pub returns-in_err-begin : goal.returns-in_err-begin
@@ -11,6 +11,8 @@ returns-in_err-begin g c =
       makes = λ runs. absurd (not_both h.0 runs);
       nodes = refl;
       fails = λ runs. absurd (not_both h.0 runs);
+      bound = refl;
+      shallow = λ runs. absurd (not_both h.0 runs);
       remembers = tt;
     })
 
@@ -24,5 +26,7 @@ returns g c =
       makes = λ w. rw (done.answer, done.buffer) made.makes;
       nodes = done.nodes ∙ made.nodes;
       fails = λ w. failing c.make_pattern-answer.result c.finish.result runs made.runs done.answer done.fails;
+      bound = bounded c.make_pattern-answer.result made.runs done.fails;
+      shallow = λ w. shallow c.make_pattern-answer.result c.finish.result done.answer done.fails;
       remembers = rw (done.answer, done.commas) made.remembers;
     }

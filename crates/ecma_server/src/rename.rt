@@ -1,0 +1,339 @@
+// Another name in the place of one, wherever it is meant.
+use crate::documents::Document;
+use crate::json;
+use crate::lines::LineIndex;
+use crate::names::{declared, is_same, name_at, program_of};
+use crate::places::Position;
+use crate::settings::Settings;
+use ecma_commands::faults::{Job, faults_in};
+use ecma_commands::findings::Place;
+use ecma_commands::goals::{NoProgram, read_program};
+use program_names::names::{Name, Use, names};
+use serde_json::{Value, json};
+use statement_trees::tree::{ImportKind, Program, StatementKind};
+use std::alloc::{AllocError, Global};
+use swc_ecma_parser::ast::ident::ModuleExportName;
+use swc_ecma_parser::context::span::Span;
+use swc_ecma_parser::nodes::node::{ExprId, Node, PatPropNode, PropNode};
+
+/// What comes of a wish to rename.
+#[derive(Drop)]
+pub(crate) enum Renamed {
+    /// The edits.
+    Edits(Vec<Value>),
+    /// Why it can't be.
+    Refused(String),
+}
+
+/// How a name is spelled where it stands for a property, an import or an export too.
+#[derive(Clone, Copy, PartialEq, Eq)]
+enum Spelling {
+    /// By itself.
+    Name,
+    /// `{ a }`, which becomes `{ a: b }`.
+    Property,
+    /// `import { a }`, which becomes `import { a as b }`.
+    Import,
+    /// `export { a }`, which becomes `export { b as a }`.
+    Export,
+}
+
+/// Where a name isn't spelled by itself alone.
+#[derive(Drop)]
+struct Spellings {
+    places: Vec<(u32, Spelling)>,
+}
+
+/// The range and the text of the name at a position; null where there is none that can be renamed.
+pub(crate) fn prepare(
+    alloc: Global,
+    document: &Document,
+    position: Position,
+    settings: Settings,
+) -> Result<Value, NoProgram> {
+    let program = program_of(alloc, document, settings)?;
+    let names = names(alloc, &program)?;
+    let lines = document.lines(alloc, settings.units)?;
+    match name_at(&names, document.place(position, settings.units)).and_then(|number| names.get(
+        number,
+    )) {
+        Some(name) if declared(name).is_some() => {
+            let range = json::range_json(alloc, lines.range(name.span))?;
+            let text = name.text;
+            Ok(json!(in alloc; {"range": range, "placeholder": text})?)
+        }
+        _ => Ok(Value::Null),
+    }
+}
+
+/// Renames what is named at a position. It is refused where the new name is none, would be captured or capture, or would
+/// make an early error: that is seen by reading the new text.
+pub(crate) fn rename(
+    alloc: Global,
+    document: &Document,
+    position: Position,
+    new: &str,
+    settings: Settings,
+) -> Result<Renamed, NoProgram> {
+    let program = program_of(alloc, document, settings)?;
+    let names = names(alloc, &program)?;
+    let lines = document.lines(alloc, settings.units)?;
+    let Some(number) = name_at(&names, document.place(position, settings.units)) else {
+        return refused(alloc, "there is no name here");
+    };
+    let Some(name) = names.get(number) else {
+        return refused(alloc, "there is no name here");
+    };
+    if declared(name).is_none() {
+        return refused(alloc, "the name is bound nowhere in this file");
+    }
+    if is_exported(&program, name) {
+        return refused(alloc, "the name is exported by its declaration");
+    }
+    let spellings = Spellings::new(alloc, &program)?;
+    let changed = Changed::new(alloc, document.text.as_str(), &names, name, new, &spellings)?;
+    if let Some(why) = changed.fault(alloc, document, &program, &names, &lines, settings)? {
+        return Ok(Renamed::Refused(why));
+    }
+    let mut edits = Vec::new(alloc);
+    for (span, with) in &changed.edits {
+        json::add(
+            &mut edits,
+            json::edit(alloc, lines.range(*span), with.as_str())?,
+        )?;
+    }
+    Ok(Renamed::Edits(edits))
+}
+
+/// Whether the declaration of a name is exported, so that others import it by this name.
+fn is_exported(program: &Program, name: &Name<'_>) -> bool {
+    let Some(place) = declared(name) else {
+        return false;
+    };
+    for statement in &program.statements {
+        if let StatementKind::ExportDeclaration(inner) = &statement.kind
+            && let Some(inner) = program.statement(*inner)
+            && declares(program, &inner.kind, place)
+        {
+            return true;
+        }
+    }
+    false
+}
+
+/// Whether a statement declares the name that is there.
+fn declares(program: &Program, kind: &StatementKind, place: Span) -> bool {
+    match kind {
+        StatementKind::Variables(variables) => {
+            variables.declarators.iter().any(|declarator| {
+                match program.nodes.span_of(declarator.id) {
+                    Some(span) => span.lo.0 <= place.lo.0 && place.hi.0 <= span.hi.0,
+                    None => false,
+                }
+            })
+        }
+        StatementKind::Function(body) => match program.function(*body) {
+            Some(function) => matches!(&function.name, Some(name) if name.span == place),
+            None => false,
+        },
+        StatementKind::Class(body) => match program.class(*body) {
+            Some(class) => matches!(&class.name, Some(name) if name.span == place),
+            None => false,
+        },
+        _ => false,
+    }
+}
+
+fn refused(alloc: Global, why: &str) -> Result<Renamed, NoProgram> {
+    Ok(Renamed::Refused(String::from_str(alloc, why)?))
+}
+
+/// The text in which names were replaced.
+#[derive(Drop)]
+struct Changed {
+    text: String,
+    edits: Vec<(Span, String)>,
+}
+
+impl Changed {
+    fn new(
+        alloc: Global,
+        text: &str,
+        names: &[Name<'_>],
+        name: &Name<'_>,
+        new: &str,
+        spellings: &Spellings,
+    ) -> Result<Changed, AllocError> {
+        let mut changed = Changed {
+            text: String::new(alloc),
+            edits: Vec::new(alloc),
+        };
+        let mut past = 0;
+        for other in names {
+            let (lo, hi) = (other.span.lo.0 as usize, other.span.hi.0 as usize);
+            if !is_same(name, other) || lo < past {
+                continue;
+            }
+            let with = spelled(alloc, name.text, new, spellings.of(other.span.lo.0))?;
+            changed.text.push_str(text.get(past..lo).unwrap_or(""))?;
+            changed.text.push_str(with.as_str())?;
+            changed.edits.push((other.span, with))?;
+            past = hi;
+        }
+        changed.text.push_str(text.get(past..).unwrap_or(""))?;
+        Ok(changed)
+    }
+
+    /// Why the change can't be made, if it can't: the new text has to have the same names, each bound as before, and no
+    /// more faults.
+    fn fault(
+        &self,
+        alloc: Global,
+        document: &Document,
+        program: &Program,
+        names: &[Name<'_>],
+        lines: &LineIndex<'_>,
+        settings: Settings,
+    ) -> Result<Option<String>, NoProgram> {
+        let text = self.text.as_str();
+        let Ok(after) = read_program(alloc, text, Some(program.goal), settings.levels) else {
+            return Ok(Some(String::from_str(alloc, "this can't be a name here")?));
+        };
+        let renamed = program_names::names::names(alloc, &after)?;
+        if let Some(place) = other_binding(alloc, names, &renamed)? {
+            let at = lines.position(place.lo.0 as usize);
+            let mut why = String::from_str(alloc, "another name is in the way at ")?;
+            let (line, column) = (at.line.saturating_add(1), at.character.saturating_add(1));
+            write!(why, "{line}:{column}")?;
+            return Ok(Some(why));
+        }
+        let job = Job {
+            goal: Some(program.goal),
+            levels: settings.levels,
+        };
+        let before = count_of_faults(alloc, document.text.as_str(), job)?;
+        if count_of_faults(alloc, text, job)? > before {
+            return Ok(Some(String::from_str(alloc, "this makes an early error")?));
+        }
+        Ok(None)
+    }
+}
+
+/// How many faults a text has.
+fn count_of_faults(alloc: Global, text: &str, job: Job) -> Result<usize, NoProgram> {
+    let place = Place::new(alloc, "", text.as_bytes())?;
+    Ok(faults_in(alloc, &place, text, job)?.found.len())
+}
+
+/// The first name that is bound elsewhere after a change, if there is one: names and their declarations are counted in
+/// the order of the text.
+fn other_binding(
+    alloc: Global,
+    before: &[Name<'_>],
+    after: &[Name<'_>],
+) -> Result<Option<Span>, AllocError> {
+    if before.len() != after.len() {
+        return Ok(before.first().map(|name| name.span));
+    }
+    for (was, is) in before.iter().zip(after) {
+        let (old, new) = (declared(was), declared(is));
+        if number_of(before, old) != number_of(after, new) || was.how != is.how {
+            return Ok(Some(was.span));
+        }
+    }
+    Ok(None)
+}
+
+/// The number of the name that is declared there.
+fn number_of(names: &[Name<'_>], place: Option<Span>) -> Option<usize> {
+    let at = place?.lo.0;
+    Some(names.partition_point(|name| name.span.lo.0 < at))
+}
+
+/// How a name is written where another one was.
+fn spelled(alloc: Global, old: &str, new: &str, spelling: Spelling) -> Result<String, AllocError> {
+    match spelling {
+        Spelling::Name => String::from_str(alloc, new),
+        Spelling::Property => format!(in alloc; "{old}: {new}"),
+        Spelling::Import => format!(in alloc; "{old} as {new}"),
+        Spelling::Export => format!(in alloc; "{new} as {old}"),
+    }
+}
+
+impl Spellings {
+    /// The places of a program. The only error is out of memory.
+    fn new(alloc: Global, program: &Program) -> Result<Spellings, AllocError> {
+        let mut spellings = Spellings {
+            places: Vec::new(alloc),
+        };
+        for number in 0..program.nodes.len() {
+            spellings.add_node(program, ExprId(number))?;
+        }
+        for statement in &program.statements {
+            spellings.add_statement(&statement.kind)?;
+        }
+        spellings
+            .places
+            .sort_by_key(|(at, _): &(u32, Spelling)| *at)?;
+        Ok(spellings)
+    }
+
+    fn of(&self, at: u32) -> Spelling {
+        let number = self.places.partition_point(|(place, _)| *place < at);
+        match self.places.get(number) {
+            Some((place, spelling)) if *place == at => *spelling,
+            _ => Spelling::Name,
+        }
+    }
+
+    fn add(&mut self, place: Span, spelling: Spelling) -> Result<(), AllocError> {
+        self.places.push((place.lo.0, spelling))?;
+        Ok(())
+    }
+
+    fn add_node(&mut self, program: &Program, expr: ExprId) -> Result<(), AllocError> {
+        match program.nodes.node(expr) {
+            Some(Node::Object { props, .. }) => {
+                for prop in props {
+                    if let PropNode::Shorthand(name) = prop {
+                        self.add(name.span, Spelling::Property)?;
+                    }
+                }
+                Ok(())
+            }
+            Some(Node::PatObject { props, .. }) => {
+                for prop in props {
+                    if let PatPropNode::Assign { key, .. } = prop {
+                        self.add(key.id.span, Spelling::Property)?;
+                    }
+                }
+                Ok(())
+            }
+            _ => Ok(()),
+        }
+    }
+
+    fn add_statement(&mut self, kind: &StatementKind) -> Result<(), AllocError> {
+        match kind {
+            StatementKind::Import(import) => {
+                for specifier in &import.specifiers {
+                    if matches!(specifier.kind, ImportKind::Named(None)) {
+                        self.add(specifier.local.span, Spelling::Import)?;
+                    }
+                }
+                Ok(())
+            }
+            StatementKind::ExportNamed(exports) if exports.source.is_none() => {
+                for specifier in &exports.specifiers {
+                    if specifier.exported.is_none()
+                        && let ModuleExportName::Ident(name) = &specifier.local
+                    {
+                        self.add(name.span, Spelling::Export)?;
+                    }
+                }
+                Ok(())
+            }
+            _ => Ok(()),
+        }
+    }
+}

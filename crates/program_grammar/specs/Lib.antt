@@ -1,0 +1,10 @@
+pub mod Clean
+pub mod Frames
+pub mod Grammar
+pub mod Loops
+pub mod Program
+pub mod Reads
+pub mod Steps
+pub mod Symbols
+pub mod Tokens
+pub mod Tree
