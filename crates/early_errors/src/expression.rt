@@ -5,13 +5,13 @@ use crate::text::{ends_with_word, has_word};
 use crate::walk::Walk;
 use regex_patterns::pattern::check_pattern;
 use std::alloc::AllocError;
-use swc_ecma_parser::ast::expr::{Callee, MemberProp, MetaPropExpr, MetaPropKind, OptChainBase};
-use swc_ecma_parser::ast::ident::Ident;
-use swc_ecma_parser::ast::lit::Regex;
-use swc_ecma_parser::context::operator::UnaryOp;
-use swc_ecma_parser::context::span::{BytePos, Span};
-use swc_ecma_parser::nodes::apart::Parts;
-use swc_ecma_parser::nodes::node::{ExprId, Node, PatPart, PatPropNode};
+use swc_ast::expr::{Callee, MemberProp, MetaPropExpr, MetaPropKind, OptChainBase};
+use swc_ast::ident::Ident;
+use swc_ast::lit::Regex;
+use swc_context::operator::UnaryOp;
+use swc_context::span::{BytePos, Span};
+use swc_nodes::apart::Parts;
+use swc_nodes::node::{ExprId, Node, PatPart, PatPropNode};
 
 type AnyNode = Node<Span, Span, Span>;
 

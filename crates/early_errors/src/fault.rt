@@ -1,6 +1,6 @@
 // What is wrong with a program, and where.
 use regex_patterns::fault::PatternFault;
-use swc_ecma_parser::context::span::Span;
+use swc_context::span::Span;
 
 /// What an early error is about.
 #[derive(Clone, Copy, Debug, PartialEq, Eq)]

@@ -2,7 +2,7 @@
 use crate::fault::EarlyErrorKind;
 use crate::walk::Walk;
 use std::alloc::AllocError;
-use swc_ecma_parser::ast::ident::Ident;
+use swc_ast::ident::Ident;
 
 /// Whether the word is reserved in strict code alone.
 pub(crate) fn is_strict_word(word: &str) -> bool {

@@ -40,7 +40,7 @@ pub fn faults_in(
     }
 }
 
-/// The faults of a text that `Program::read` refuses.
+/// The faults of a text that `statement_trees::read_program` refuses.
 fn faults_of_none(
     alloc: Global,
     place: &Place<'_>,

@@ -3,12 +3,13 @@ use crate::command::Options;
 use crate::faults::Job;
 use crate::goals::{NoProgram, read_program};
 use crate::source::{MARK, without_mark};
-use expr_layout::layout::layout_in as layout_expr;
+use expr_layout::layout::layout;
 use program_layout::layout::layout_of;
-use reporting::expr::read_expr_within;
+use reporting::expr::{read_expr_within, read_part};
 use statement_trees::tree::Goal;
 use std::alloc::{AllocError, Global};
 use swc_ecma_parser::context::context::Context;
+use swc_lexer::reader::End;
 
 /// The text of a file in its layout. It ends with a line break, unless it is empty; line breaks are CR and LF where the
 /// first one of the text is; a byte order mark stays.
@@ -45,7 +46,8 @@ fn laid_out(alloc: Global, text: &str, options: Options, job: Job) -> Result<Str
             _ => Context::script(),
         };
         let (nodes, expr) = read_expr_within(alloc, text, context, job.levels)?;
-        return Ok(layout_expr(alloc, text, &nodes, expr, context, style)?);
+        let part = read_part(alloc, text, 0, End::Whole, context)?;
+        return Ok(layout(alloc, text, &part.tokens, &nodes, expr, style)?);
     }
     let program = read_program(alloc, text, job.goal, job.levels)?;
     Ok(layout_of(alloc, text, program, style)?)

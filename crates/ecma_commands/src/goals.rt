@@ -55,7 +55,7 @@ pub fn read_program(
 
 /// The program of a text that has a goal.
 fn read_as(alloc: Global, text: &str, goal: Goal, levels: usize) -> Result<Program, NoProgram> {
-    match Program::read(alloc, text, goal, levels) {
+    match statement_trees::read_program(alloc, text, goal, levels) {
         Ok(program) => Ok(program),
         Err(refusal) => Err(NoProgram { refusal, goal }),
     }

@@ -2,8 +2,8 @@
 use crate::findings::Place;
 use crate::output::Output;
 use program_names::names::{Name, Use, names};
+use program_tokens::texts::tokens_of;
 use reporting::Refusal;
-use statement_trees::texts::read_tokens;
 use statement_trees::tree::{Goal, Program};
 use std::alloc::{AllocError, Global};
 use swc_ecma_parser::context::context::Context;
@@ -49,7 +49,7 @@ pub fn put_tokens(
     goal: Option<Goal>,
     output: &mut Output,
 ) -> Result<(), Refusal> {
-    let tokens = read_tokens(rt.alloc(), text, goal.unwrap_or(Goal::Script))?;
+    let tokens = tokens_of(rt.alloc(), text, goal == Some(Goal::Module))?;
     for token in &tokens {
         if let Token::Error(fault) = &token.token {
             return Err(Refusal::Fault(fault.try_clone()?));

@@ -3,8 +3,8 @@ use crate::documents::Document;
 use crate::json;
 use crate::lines::LineIndex;
 use crate::settings::Settings;
+use program_tokens::texts::{program_comments, tokens_of};
 use serde_json::{Value, json};
-use statement_trees::texts::{program_comments, read_tokens};
 use statement_trees::tree::{Member, MemberKey, MemberKind, MethodKind, Program, StatementKind};
 use std::alloc::{AllocError, Global};
 use swc_ecma_parser::ast::prop::PropName;
@@ -238,7 +238,7 @@ pub(crate) fn folds(
         }
     }
     let text = document.text.as_str();
-    let tokens = read_tokens(alloc, text, program.goal)?;
+    let tokens = tokens_of(alloc, text, program.goal.is_module())?;
     for comment in &program_comments(alloc, text, &tokens)? {
         add_fold(&mut found, &lines, comment.span, true)?;
     }

@@ -5,8 +5,8 @@ use crate::lines::LineIndex;
 use crate::names::declared;
 use crate::settings::Settings;
 use program_names::names::{Name, Use, names};
+use program_tokens::texts::tokens_of;
 use serde_json::Value;
-use statement_trees::texts::read_tokens;
 use statement_trees::tree::{Program, VariableKind};
 use std::alloc::{AllocError, Global};
 use swc_ecma_parser::context::span::Span;
@@ -46,7 +46,7 @@ pub(crate) fn semantic_tokens(
 ) -> Result<Value, AllocError> {
     let kinds = Kinds::new(alloc, program)?;
     let names = names(alloc, program)?;
-    let tokens = read_tokens(alloc, document.text.as_str(), program.goal)?;
+    let tokens = tokens_of(alloc, document.text.as_str(), program.goal.is_module())?;
     let lines = document.lines(alloc, settings.units)?;
     let mut data = Data {
         numbers: Vec::new(alloc),

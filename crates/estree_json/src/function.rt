@@ -1,9 +1,9 @@
 // Functions, classes and their blocks.
 use crate::pieces::Pieces;
-use statement_trees::tree::{Class, Function, Member, MemberKey, MemberKind, MethodKind};
-use swc_ecma_parser::ast::ident::Ident;
-use swc_ecma_parser::context::span::Span;
-use swc_ecma_parser::nodes::node::ExprId;
+use swc_ast::ident::Ident;
+use swc_context::span::Span;
+use swc_nodes::node::ExprId;
+use tree_types::tree::{Class, Function, Member, MemberKey, MemberKind, MethodKind};
 
 impl<'a> Pieces<'a> {
     /// The function at the place.

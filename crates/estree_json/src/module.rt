@@ -1,12 +1,12 @@
 // Imports and exports.
 use crate::piece::Piece;
 use crate::pieces::Pieces;
-use statement_trees::tree::{
+use swc_ast::ident::ModuleExportName;
+use swc_context::span::Span;
+use tree_types::tree::{
     AllExports, DefaultExport, ExportSpecifier, ImportAttribute, ImportDeclaration, ImportKind,
     ImportSpecifier, NamedExports, Statement, StatementId, StatementKind,
 };
-use swc_ecma_parser::ast::ident::ModuleExportName;
-use swc_ecma_parser::context::span::Span;
 
 impl<'a> Pieces<'a> {
     /// An import or an export.

@@ -1,8 +1,8 @@
 // The pieces of the JSON of a tree.
-use statement_trees::tree::StatementId;
-use swc_ecma_parser::ast::expr::TplElement;
-use swc_ecma_parser::ast::lit::{Regex, Str};
-use swc_ecma_parser::context::span::Span;
+use swc_ast::expr::TplElement;
+use swc_ast::lit::{Regex, Str};
+use swc_context::span::Span;
+use tree_types::tree::StatementId;
 
 /// A piece of the JSON of a tree.
 #[derive(Clone, Copy)]

@@ -1,8 +1,8 @@
 // The pieces of a node.
 use crate::piece::Piece;
-use statement_trees::tree::{Goal, Program, StatementId};
-use swc_ecma_parser::context::span::{BytePos, Span};
-use swc_ecma_parser::nodes::node::{ExprId, PatId};
+use swc_context::span::{BytePos, Span};
+use swc_nodes::node::{ExprId, PatId};
+use tree_types::tree::{Goal, Program, StatementId};
 
 /// The pieces of the JSON of a node, in their order.
 ///

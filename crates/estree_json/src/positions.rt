@@ -1,6 +1,6 @@
 // Positions in UTF-16 units.
 use std::alloc::{AllocError, Global};
-use swc_ecma_parser::context::span::BytePos;
+use swc_context::span::BytePos;
 use swc_lexer::lines::Lines;
 
 /// The positions of a text, counted in UTF-16 units, as JavaScript counts them.

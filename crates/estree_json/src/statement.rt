@@ -1,13 +1,13 @@
 // Statements and declarations.
 use crate::piece::Piece;
 use crate::pieces::Pieces;
-use statement_trees::tree::{
+use swc_ast::ident::Ident;
+use swc_context::span::Span;
+use swc_nodes::node::{ExprId, Node};
+use tree_types::tree::{
     CatchClause, ForInit, ForTarget, Statement, StatementId, StatementKind, SwitchCase,
     VariableDeclaration, VariableKind,
 };
-use swc_ecma_parser::ast::ident::Ident;
-use swc_ecma_parser::context::span::Span;
-use swc_ecma_parser::nodes::node::{ExprId, Node};
 
 impl<'a> Pieces<'a> {
     /// The statement that has the number.

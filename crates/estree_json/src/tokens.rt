@@ -1,8 +1,8 @@
 // Tokens, as ESLint's parser lists them.
 use crate::writer::TreeWriter;
-use swc_ecma_parser::context::span::Span;
-use swc_ecma_parser::context::word::{Keyword, Word};
-use swc_ecma_parser::input::token::{Token, TokenAndSpan};
+use swc_context::span::Span;
+use swc_context::word::{Keyword, Word};
+use swc_input::token::{Token, TokenAndSpan};
 
 /// A token of that list: its type, and how many tokens of the parser it is.
 #[derive(Clone, Copy)]

@@ -3,12 +3,12 @@ use crate::output::Output;
 use crate::piece::Piece;
 use crate::pieces::Pieces;
 use crate::positions::Positions;
-use statement_trees::texts::{program_comments, read_tokens};
-use statement_trees::tree::Program;
+use program_tokens::texts::{program_comments, tokens_of};
 use std::alloc::{AllocError, Global};
-use swc_ecma_parser::context::span::{BytePos, Span};
-use swc_ecma_parser::input::token::TokenAndSpan;
+use swc_context::span::{BytePos, Span};
+use swc_input::token::TokenAndSpan;
 use swc_lexer::comments::{Comment, CommentKind};
+use tree_types::tree::Program;
 
 /// A block has at least so many bytes, unless it is the last one.
 const BLOCK: usize = 1 << 16;
@@ -67,7 +67,7 @@ impl<'a> TreeWriter<'a> {
         extras: Extras,
     ) -> Result<TreeWriter<'a>, AllocError> {
         let tokens = if extras.comments || extras.tokens {
-            read_tokens(alloc, source, program.goal)?
+            tokens_of(alloc, source, program.goal.is_module())?
         } else {
             Vec::new(alloc)
         };

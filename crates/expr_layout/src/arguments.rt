@@ -6,11 +6,11 @@ use crate::looks::{
 use layout_document::marks::{BARE, Marks, PLAIN, Place, Shape};
 use layout_document::roles::Role;
 use layout_document::units::Kind;
-use swc_ecma_parser::ast::expr::{BlockStmtOrExpr, Callee, ExprOrSpread};
-use swc_ecma_parser::ast::spanned::Spanned;
-use swc_ecma_parser::context::span::{BytePos, Span};
-use swc_ecma_parser::nodes::node::{ExprId, Node};
-use swc_ecma_parser::nodes::nodes::Nodes;
+use swc_ast::expr::{BlockStmtOrExpr, Callee, ExprOrSpread};
+use swc_ast::spanned::Spanned;
+use swc_context::span::{BytePos, Span};
+use swc_nodes::node::{ExprId, Node};
+use swc_nodes::nodes::Nodes;
 
 /// Notes the arguments of a call.
 pub(crate) fn mark_arguments<B: Spanned + Drop>(

@@ -8,11 +8,11 @@ use crate::looks::{
 use layout_document::marks::{Gap, Group, LINE, Marks, When};
 use layout_document::roles::{Lines, Role};
 use std::alloc::{AllocError, Global};
-use swc_ecma_parser::ast::expr::{BlockStmtOrExpr, Callee};
-use swc_ecma_parser::ast::spanned::Spanned;
-use swc_ecma_parser::context::span::Span;
-use swc_ecma_parser::nodes::node::{ExprId, Node, PatId, PatPropNode, TargetNode};
-use swc_ecma_parser::nodes::nodes::Nodes;
+use swc_ast::expr::{BlockStmtOrExpr, Callee};
+use swc_ast::spanned::Spanned;
+use swc_context::span::Span;
+use swc_nodes::node::{ExprId, Node, PatId, PatPropNode, TargetNode};
+use swc_nodes::nodes::Nodes;
 
 /// What is after `=`, or after `:` in an object.
 #[derive(Clone, Copy)]

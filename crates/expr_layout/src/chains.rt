@@ -4,10 +4,10 @@ use crate::simple::are_simple;
 use layout_document::marks::{DOT, Gap, Group, Marks, Place, When};
 use layout_document::roles::Role;
 use std::alloc::{AllocError, Global};
-use swc_ecma_parser::ast::expr::MemberProp;
-use swc_ecma_parser::ast::spanned::Spanned;
-use swc_ecma_parser::nodes::node::{ExprId, Node};
-use swc_ecma_parser::nodes::nodes::Nodes;
+use swc_ast::expr::MemberProp;
+use swc_ast::spanned::Spanned;
+use swc_nodes::node::{ExprId, Node};
+use swc_nodes::nodes::Nodes;
 
 /// A link of a chain.
 #[derive(Clone, Copy)]

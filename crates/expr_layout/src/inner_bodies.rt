@@ -1,12 +1,12 @@
 // The functions, classes and blocks in an expression, which are units of its layout as a whole.
-use reporting::expr::Nodes;
+use crate::layout::Nodes;
 use std::alloc::{AllocError, Global};
-use swc_ecma_parser::ast::expr::BlockStmtOrExpr;
-use swc_ecma_parser::ast::spanned::Spanned;
-use swc_ecma_parser::bodies::token_body::TokenBody;
-use swc_ecma_parser::context::span::Span;
-use swc_ecma_parser::nodes::node::{ExprId, Node, PropNode};
-use swc_ecma_parser::nodes::reached::reached;
+use swc_ast::expr::BlockStmtOrExpr;
+use swc_ast::spanned::Spanned;
+use swc_bodies::token_body::TokenBody;
+use swc_context::span::Span;
+use swc_nodes::node::{ExprId, Node, PropNode};
+use swc_nodes::reached::reached;
 
 /// The places of all functions, classes and blocks of an expression, in the order of the text.
 pub fn bodies_of(alloc: Global, nodes: &Nodes, expr: ExprId) -> Result<Vec<Span>, AllocError> {

@@ -7,13 +7,16 @@ use layout_document::marks::{Marks, Whole};
 use layout_document::print::print;
 use layout_document::style::Style;
 use layout_document::units::{shape_commas, units_of, without_endings};
-use reporting::expr::{Nodes, read_part};
 use std::alloc::{AllocError, Global};
-use swc_ecma_parser::context::context::Context;
-use swc_ecma_parser::nodes::node::ExprId;
-use swc_lexer::reader::End;
+use swc_bodies::token_bodies::TokenBodies;
+use swc_input::token::TokenAndSpan;
+use swc_nodes::node::ExprId;
+use swc_nodes::nodes::NodesOf;
 
-/// The layout of the expression of a text, which has the number among its nodes and was read in the context.
+/// The nodes of a text. Functions, classes and blocks in it are kept as their tokens.
+pub type Nodes = NodesOf<TokenBodies>;
+
+/// The layout of the expression of a text, which has these tokens, and whose tree has the number among the nodes.
 ///
 /// All tokens and comments are written as they are in the text, in their order, and so are functions, classes and
 /// blocks as a whole. Between them only blanks and line breaks change, and the comma after the last item in brackets: so
@@ -59,25 +62,13 @@ use swc_lexer::reader::End;
 pub fn layout(
     alloc: Global,
     text: &str,
+    tokens: &[TokenAndSpan],
     nodes: &Nodes,
     expr: ExprId,
-    context: Context,
-) -> Result<String, AllocError> {
-    layout_in(alloc, text, nodes, expr, context, Style::usual())
-}
-
-/// The same, in a style.
-pub fn layout_in(
-    alloc: Global,
-    text: &str,
-    nodes: &Nodes,
-    expr: ExprId,
-    context: Context,
     style: Style,
 ) -> Result<String, AllocError> {
-    let part = read_part(alloc, text, 0, End::Whole, context)?;
     let bodies = bodies_of(alloc, nodes, expr)?;
-    let mut units = units_of(alloc, &part.tokens, &bodies)?;
+    let mut units = units_of(alloc, tokens, &bodies)?;
     shape_commas(&mut units);
     let units = without_endings(alloc, &units)?;
     let mut marks = Marks::new(alloc, Whole::Expr, style, units, nodes.len())?;

@@ -6,12 +6,12 @@ use layout_document::marks::{BARE, Gap, Marks, PLAIN, Shape};
 use layout_document::roles::Role;
 use layout_document::units::Kind;
 use std::alloc::{AllocError, Global};
-use swc_ecma_parser::ast::expr::ExprOrSpread;
-use swc_ecma_parser::ast::prop::PropName;
-use swc_ecma_parser::ast::spanned::Spanned;
-use swc_ecma_parser::context::span::{BytePos, Span};
-use swc_ecma_parser::nodes::node::{ExprId, Node, PatElem, PatId, PatPart, PatPropNode, PropNode};
-use swc_ecma_parser::nodes::nodes::Nodes;
+use swc_ast::expr::ExprOrSpread;
+use swc_ast::prop::PropName;
+use swc_ast::spanned::Spanned;
+use swc_context::span::{BytePos, Span};
+use swc_nodes::node::{ExprId, Node, PatElem, PatId, PatPart, PatPropNode, PropNode};
+use swc_nodes::nodes::Nodes;
 
 /// Notes an array that holds something.
 pub(crate) fn mark_array<B: Spanned + Drop>(

@@ -1,11 +1,9 @@
 // What nodes look like, as far as layouts depend on it.
-use swc_ecma_parser::ast::expr::{
-    BlockStmtOrExpr, Callee, ExprOrSpread, MemberProp, OptChainBase, Tpl,
-};
-use swc_ecma_parser::ast::spanned::Spanned;
-use swc_ecma_parser::context::operator::BinaryOp;
-use swc_ecma_parser::nodes::node::{ExprId, Node};
-use swc_ecma_parser::nodes::nodes::Nodes;
+use swc_ast::expr::{BlockStmtOrExpr, Callee, ExprOrSpread, MemberProp, OptChainBase, Tpl};
+use swc_ast::spanned::Spanned;
+use swc_context::operator::BinaryOp;
+use swc_nodes::node::{ExprId, Node};
+use swc_nodes::nodes::Nodes;
 
 /// An expression without the parentheses around it.
 pub(crate) fn bare<B: Spanned + Drop>(nodes: &Nodes<B, B, B>, expr: ExprId) -> ExprId {

@@ -13,13 +13,13 @@ use layout_document::marks::{BARE, Gap, Group, LINE, Marks, PLAIN, Place, Shape}
 use layout_document::roles::{Lines, Role};
 use layout_document::units::Kind;
 use std::alloc::{AllocError, Global};
-use swc_ecma_parser::ast::expr::{BlockStmtOrExpr, MemberProp, Tpl};
-use swc_ecma_parser::ast::spanned::Spanned;
-use swc_ecma_parser::context::operator::{BinaryOp, UnaryOp};
-use swc_ecma_parser::context::span::{BytePos, Span};
-use swc_ecma_parser::nodes::node::{ExprId, Node, PatPart};
-use swc_ecma_parser::nodes::nodes::Nodes;
-use swc_ecma_parser::nodes::reached::reached;
+use swc_ast::expr::{BlockStmtOrExpr, MemberProp, Tpl};
+use swc_ast::spanned::Spanned;
+use swc_context::operator::{BinaryOp, UnaryOp};
+use swc_context::span::{BytePos, Span};
+use swc_nodes::node::{ExprId, Node, PatPart};
+use swc_nodes::nodes::Nodes;
+use swc_nodes::reached::reached;
 
 /// Notes what is known of each node that is reached from the expression.
 pub fn mark_nodes<B: Spanned + Drop>(

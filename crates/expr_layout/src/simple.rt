@@ -1,12 +1,12 @@
 // Arguments that are simple enough for a chain of three calls or more to be on one line.
 use crate::looks::{arguments_of, has_block, is_long_template, member_of, object_of};
 use std::alloc::{AllocError, Global};
-use swc_ecma_parser::ast::expr::{ExprOrSpread, MemberProp};
-use swc_ecma_parser::ast::prop::PropName;
-use swc_ecma_parser::ast::spanned::Spanned;
-use swc_ecma_parser::context::operator::UnaryOp;
-use swc_ecma_parser::nodes::node::{ExprId, Node, PropNode};
-use swc_ecma_parser::nodes::nodes::Nodes;
+use swc_ast::expr::{ExprOrSpread, MemberProp};
+use swc_ast::prop::PropName;
+use swc_ast::spanned::Spanned;
+use swc_context::operator::UnaryOp;
+use swc_nodes::node::{ExprId, Node, PropNode};
+use swc_nodes::nodes::Nodes;
 
 /// In how many calls a call that is simple may be.
 const CALLS: usize = 2;

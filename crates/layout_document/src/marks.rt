@@ -3,8 +3,8 @@ use crate::roles::Role;
 use crate::style::{Commas, Style};
 use crate::units::{Kind, Unit};
 use std::alloc::{AllocError, Global};
-use swc_ecma_parser::context::span::{BytePos, Span};
-use swc_ecma_parser::nodes::node::ExprId;
+use swc_context::span::{BytePos, Span};
+use swc_nodes::node::ExprId;
 
 /// What comes before a unit.
 #[derive(Clone, Copy, PartialEq, Eq)]

@@ -1,7 +1,7 @@
 // The units of a layout: tokens, and functions, classes and blocks as a whole.
 use std::alloc::{AllocError, Global};
-use swc_ecma_parser::context::span::Span;
-use swc_ecma_parser::input::token::{Token, TokenAndSpan};
+use swc_context::span::Span;
+use swc_input::token::{Token, TokenAndSpan};
 
 /// What a unit is, as far as that matters by itself.
 #[derive(Clone, Copy, PartialEq, Eq)]

@@ -3,6 +3,7 @@
 
 use reporting::lines::Lines;
 use reporting::{LEVELS, report};
+use statement_trees::read_program;
 use statement_trees::tree::{Goal, Program};
 use std::io;
 use std::process::ExitCode;
@@ -50,7 +51,7 @@ fn lint(rt: &HostRuntime, program: &Program, text: &str) -> io::Result<u8> {
 
 fn main(rt: HostRuntime) -> io::Result<ExitCode> {
     let text = io::read_to_string(rt.alloc(), rt.reader())?;
-    let status = match Program::read(rt.alloc(), text.as_str(), Goal::Script, LEVELS) {
+    let status = match read_program(rt.alloc(), text.as_str(), Goal::Script, LEVELS) {
         Ok(program) => lint(&rt, &program, text.as_str())?,
         Err(refusal) => report(&rt, text.as_bytes(), &refusal),
     };

@@ -1,10 +1,10 @@
 // Calls of a parser over a hook that does otherwise at one of its calls.
-use crate::parsing::{TestParser, parser_over};
 use lower_rows::hooks::TestBodies;
 use lower_rows::row::{Row, show_unread};
 use lower_rows::settings::input_of;
 use lower_rows::shown::{begin_part, show, show_faults, show_refusal};
 use lower_rows::tokens::tokens_of;
+use row_parser::parser::TestParser;
 use std::alloc::{AllocError, Global};
 use swc_context::span::Span;
 use swc_input::tokens::Tokens;
@@ -20,10 +20,10 @@ pub(crate) fn show_hooked(alloc: Global, out: &mut String, row: Row<'_>) -> Resu
     ) {
         (Some(hook), Some(source)) => {
             let before = source.ctx();
-            let mut parser = parser_over(alloc, source, hook);
+            let mut parser = TestParser::new(alloc, source, hook);
             make_each(out, &mut parser, calls)?;
             show_rest(out, &mut parser, row)?;
-            if parser.input().ctx() != before {
+            if parser.context() != before {
                 out.push_str(" | in another context")?;
             }
             Ok(())
@@ -88,7 +88,7 @@ fn first_left(alloc: Global, parser: &mut TestParser, row: Row<'_>) -> Option<Sp
     if input.cur().is_some() {
         return Some(input.cur_span());
     }
-    let given = input.input().tokens().len();
+    let given = input.input().notes.len();
     let tokens = tokens_of(alloc, row.text)?;
     Some(tokens.get(given)?.span)
 }

@@ -1,16 +1,14 @@
 // Calls over lists of tokens that no reader gives, and with hooks that do otherwise than they might.
-use crate::calls::call;
-use crate::parsing::{TestParser, parser_over};
 use lower_rows::hooks::{Manner, TestBodies};
 use lower_rows::row::{Row, UNREAD, show_unread};
 use lower_rows::settings::{setting_of, test_input};
 use lower_rows::source::TestInput;
 use lower_rows::tokens::tokens_of;
+use row_parser::parser::TestParser;
 use std::alloc::{AllocError, Global};
 use swc_context::error::{Error, SyntaxError};
 use swc_context::span::Span;
 use swc_input::buffer::Buffer;
-use swc_input::capturing::Capturing;
 use swc_input::token::{Token, TokenAndSpan};
 use swc_input::tokens::Tokens;
 
@@ -184,7 +182,7 @@ fn fault_of_run(
     };
     let copy = first_of(alloc, tokens, tokens.len())?;
     let source = test_input(alloc, setting, copy, Vec::new(alloc));
-    let mut parser = parser_over(alloc, source, hook_named(alloc, how));
+    let mut parser = TestParser::new(alloc, source, hook_named(alloc, how));
     run(alloc, &mut parser, row.calls, tokens, how)
 }
 
@@ -205,13 +203,13 @@ fn run(
     tokens: &[TokenAndSpan],
     how: &str,
 ) -> Result<&'static str, AllocError> {
-    let before = parser.input().ctx();
+    let before = parser.context();
     let mut answer = String::new(alloc);
-    call(parser, &mut answer, name)?;
+    parser.call(&mut answer, name)?;
     if answer.as_str().starts_with(UNREAD) {
         return Ok(NO_RUN);
     }
-    if parser.input().ctx() != before {
+    if parser.context() != before {
         return Ok("another context");
     }
     if how.starts_with("fault") || how.starts_with("FailAt") {
@@ -223,7 +221,7 @@ fn run(
 /// What is wrong with the tokens that are left: they have to be all that come after the token that was consumed last.
 fn fault_of_rest(
     alloc: Global,
-    input: &mut Buffer<Capturing<TestInput>>,
+    input: &mut Buffer<TestInput>,
     tokens: &[TokenAndSpan],
 ) -> Result<&'static str, AllocError> {
     let last = input.prev_span();
@@ -241,7 +239,7 @@ fn fault_of_rest(
 /// Takes the tokens that are left out of the buffer, but no more than said.
 fn take_left(
     alloc: Global,
-    input: &mut Buffer<Capturing<TestInput>>,
+    input: &mut Buffer<TestInput>,
     most: usize,
 ) -> Result<Vec<TokenAndSpan>, AllocError> {
     let mut left = Vec::new(alloc);

@@ -1,17 +1,11 @@
 // Parsers, and rows of their calls.
-use crate::calls::{call, show_left};
 use lower_rows::hooks::TestBodies;
 use lower_rows::numbered::by_number;
 use lower_rows::row::{Row, show_unread};
 use lower_rows::settings::input_of;
-use lower_rows::shown::{begin_part, show_faults};
-use lower_rows::source::TestInput;
+use lower_rows::shown::{Shown, begin_part, show_faults, show_refusal};
+use row_parser::parser::TestParser;
 use std::alloc::{AllocError, Global};
-use swc_ecma_parser::parser::Parser;
-use swc_input::capturing::Capturing;
-
-/// The parser of all rows: so nothing is generic over sources and hooks.
-pub(crate) type TestParser = Parser<Capturing<TestInput>, TestBodies>;
 
 /// How a row is run: as it is written, or with calls by number, and in a pedantic syntax or not.
 #[derive(Clone, Copy)]
@@ -27,15 +21,10 @@ impl How {
     };
 }
 
-/// A parser of the source, which keeps its tokens.
-pub(crate) fn parser_over(alloc: Global, source: TestInput, hook: TestBodies) -> TestParser {
-    Parser::new_from(alloc, Capturing::new(alloc, source), hook)
-}
-
 /// A parser of the row's text, in its setting.
 pub(crate) fn parser_of(alloc: Global, row: Row<'_>, is_pedantic: bool) -> Option<TestParser> {
     let source = input_of(alloc, row, is_pedantic)?;
-    Some(parser_over(alloc, source, TestBodies::of_setting(alloc, row.setting)))
+    Some(TestParser::new(alloc, source, TestBodies::of_setting(alloc, row.setting)))
 }
 
 /// Writes what the row's calls answer; after a bar the faults that are recorded, if there are any; and after another
@@ -63,9 +52,8 @@ fn run(
     match row.calls.split_once("; next_parser; ") {
         Some((first, others)) => {
             make_each(out, &mut parser, first, how)?;
-            let (buffer, nodes, hook) = parser.into_parts();
-            write!(out, "; {}; ", nodes.len())?;
-            let mut next = Parser::over(alloc, buffer, hook);
+            let (count, mut next) = parser.next_parser(alloc);
+            write!(out, "; {count}; ")?;
             make_each(out, &mut next, others, how)?;
             show_rest(out, &mut next)
         }
@@ -85,11 +73,7 @@ pub(crate) fn make_each(
 ) -> Result<(), AllocError> {
     for (at, name) in calls.split("; ").enumerate() {
         begin_part(out, at, "; ")?;
-        call(
-            parser,
-            out,
-            if how.by_number { by_number(name) } else { name },
-        )?;
+        parser.call(out, if how.by_number { by_number(name) } else { name })?;
     }
     Ok(())
 }
@@ -102,4 +86,20 @@ fn show_rest(out: &mut String, parser: &mut TestParser) -> Result<(), AllocError
         show_faults(out, &faults)?;
     }
     show_left(out, parser)
+}
+
+/// Writes the place of the first token that is left, which is no `#`, if one is.
+fn show_left(out: &mut String, parser: &mut TestParser) -> Result<(), AllocError> {
+    let at_end = parser.at_end();
+    if matches!(at_end, Ok(true)) {
+        return Ok(());
+    }
+    out.push_str(" | left ")?;
+    match at_end {
+        Ok(_) => match parser.parse_private_name() {
+            Ok(name) => name.show(out),
+            Err(fault) => fault.span().show(out),
+        },
+        Err(fault) => show_refusal(out, fault),
+    }
 }

@@ -1,7 +1,5 @@
 // The calls of one row, for runs in which a request for memory is refused. What they answer is written into memory that
 // was asked for before.
-use crate::calls::call;
-use crate::parsing::{TestParser, parser_over};
 use crate::texts::show_text;
 use lower_rows::hooks::TestBodies;
 use lower_rows::lexed::show_lexed;
@@ -11,6 +9,7 @@ use lower_rows::shown::{NO_MEMORY, show, show_refusal};
 use lower_rows::source::TestInput;
 use lower_rows::tokens::tokens_of;
 use lower_rows::trees::{TestExpr, show_id};
+use row_parser::parser::TestParser;
 use std::alloc::{AllocError, Global};
 use std::str;
 use swc_context::context::{Context, EsVersion};
@@ -18,7 +17,7 @@ use swc_context::error::Error;
 use swc_ecma_parser::both_ways::ReadBy;
 use swc_ecma_parser::parser::Parser;
 use swc_ecma_parser::replaying::{ReadKeeping, ReadTwice, read_again};
-use swc_input::listed::TokensInput;
+use swc_input::capturing::Capturing;
 use swc_input::token::{Token, TokenAndSpan};
 use swc_input::tokens::Tokens;
 
@@ -70,19 +69,20 @@ fn write_lines(alloc: Global, out: &mut String, row: Row<'_>, hook: &str) -> Opt
         let read = read_again(alloc, source, EsVersion::default(), hook, again, usize::MAX);
         return answer_twice(out, read, context, row.calls).ok();
     }
-    let mut parser = parser_over(alloc, source, hook);
-    match row.calls {
-        "next" => show_each_kept(out, &mut parser, row.text.len().saturating_add(1)).ok(),
-        calls => answer_each(out, &mut parser, calls).ok(),
+    if row.calls == "next" {
+        let mut source = Capturing::new(alloc, source);
+        return show_each_kept(out, &mut source, row.text.len().saturating_add(1)).ok();
     }
+    let mut parser = TestParser::new(alloc, source, hook);
+    answer_each(out, &mut parser, row.calls).ok()
 }
 
 /// Makes the calls on the parser, and writes a line for each.
 fn answer_each(out: &mut String, parser: &mut TestParser, calls: &str) -> Result<(), AllocError> {
     for call in calls.split("; ") {
-        let before = parser.input().ctx();
+        let before = parser.context();
         answer(out, parser, call)?;
-        end_line(out, parser.input().ctx() == before)?;
+        end_line(out, parser.context() == before)?;
     }
     Ok(())
 }
@@ -102,16 +102,16 @@ fn answer(out: &mut String, parser: &mut TestParser, name: &str) -> Result<(), A
         "take_errors" => show_faults(out, &parser.take_errors()),
         "copy_errors" => show_copies_of(out, parser.take_errors()),
         "copy_refusal" => copy_refusal(out, parser),
-        "set_ctx" => match parser.input().set_ctx(Context::module()) {
+        "set_ctx" => match parser.source().set_ctx(Context::module()) {
             Ok(()) => out.push_str("done"),
             Err(_) => out.push_str(NO_MEMORY),
         },
-        "reparse_expr_as_pat" => call(parser, out, "reparse BindingPat"),
-        "reparse_expr_as_pat_id" => call(parser, out, "reparse_id BindingPat"),
-        "parse_paren_items_as_params" => call(parser, out, "params_of_items"),
-        "make_object" => call(parser, out, "make_literal"),
-        "make_pattern" => call(parser, out, "make_pattern 1"),
-        _ => call(parser, out, name),
+        "reparse_expr_as_pat" => parser.call(out, "reparse BindingPat"),
+        "reparse_expr_as_pat_id" => parser.call(out, "reparse_id BindingPat"),
+        "parse_paren_items_as_params" => parser.call(out, "params_of_items"),
+        "make_object" => parser.call(out, "make_literal"),
+        "make_pattern" => parser.call(out, "make_pattern 1"),
+        _ => parser.call(out, name),
     }
 }
 
@@ -143,7 +143,7 @@ fn answer_first(
     end_line(out, parser.input().ctx() == before)?;
     show(out, at_end)?;
     end_line(out, parser.input().ctx() == before)?;
-    answer_each(out, &mut parser, calls)
+    answer_each_of(out, &mut parser, calls)
 }
 
 fn answer_again(
@@ -157,18 +157,26 @@ fn answer_again(
     end_line(out, parser.input().ctx() == before)?;
     show(out, parser.at_end())?;
     end_line(out, parser.input().ctx() == before)?;
+    answer_each_of(out, &mut parser, calls)
+}
+
+/// Makes the calls that are made on both parsers, and writes a line for each.
+fn answer_each_of<I: Tokens>(
+    out: &mut String,
+    parser: &mut Parser<I, TestBodies>,
+    calls: &str,
+) -> Result<(), AllocError> {
     for call in calls.split("; ") {
         let before = parser.input().ctx();
-        answer_of_list(out, &mut parser, call)?;
+        answer_of(out, parser, call)?;
         end_line(out, parser.input().ctx() == before)?;
     }
     Ok(())
 }
 
-/// The calls that are made on the parser of the tokens that were kept.
-fn answer_of_list(
+fn answer_of<I: Tokens>(
     out: &mut String,
-    parser: &mut Parser<TokensInput, TestBodies>,
+    parser: &mut Parser<I, TestBodies>,
     name: &str,
 ) -> Result<(), AllocError> {
     match name {
@@ -192,10 +200,9 @@ fn show_faults(out: &mut String, faults: &[Error]) -> Result<(), AllocError> {
 /// after the last one, whether the source failed.
 fn show_each_kept(
     out: &mut String,
-    parser: &mut TestParser,
+    source: &mut Capturing<TestInput>,
     most: usize,
 ) -> Result<(), AllocError> {
-    let source = parser.input();
     for _ in 0..most {
         if source.next().is_none() {
             break;

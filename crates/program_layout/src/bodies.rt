@@ -3,10 +3,10 @@ use crate::layout::ProgramMarks;
 use expr_layout::assigning::Assigned;
 use expr_layout::lists::{mark_key, mark_params};
 use layout_document::marks::Gap;
-use statement_trees::tree::{Class, Function, Member, MemberKey, MemberKind};
 use std::alloc::AllocError;
-use swc_ecma_parser::ast::spanned::Spanned;
-use swc_ecma_parser::context::span::{BytePos, Span};
+use swc_ast::spanned::Spanned;
+use swc_context::span::{BytePos, Span};
+use tree_types::tree::{Class, Function, Member, MemberKey, MemberKind};
 
 impl ProgramMarks<'_> {
     /// Notes a function, a class or the block of a function, at its place.

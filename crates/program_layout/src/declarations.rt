@@ -2,9 +2,9 @@
 use crate::layout::ProgramMarks;
 use expr_layout::assigning::Assigned;
 use layout_document::marks::{BARE, Gap, Group, LINE, PLAIN, Shape, When};
-use statement_trees::tree::{ForInit, ForTarget, StatementKind, VariableDeclaration};
 use std::alloc::AllocError;
-use swc_ecma_parser::nodes::node::ExprId;
+use swc_nodes::node::ExprId;
+use tree_types::tree::{ForInit, ForTarget, StatementKind, VariableDeclaration};
 
 impl ProgramMarks<'_> {
     /// Notes a declaration that is a statement: its declarators are a group, which is broken if one has a value.

@@ -1,11 +1,11 @@
 // Semicolons that end statements, which are no units, and braces that are bodies.
 use layout_document::marks::Marks;
 use layout_document::units::{Kind, shape_commas, without_endings};
-use statement_trees::tree::{
+use std::alloc::{AllocError, Global};
+use swc_context::span::{BytePos, Span};
+use tree_types::tree::{
     Class, DefaultExport, MemberKind, Program, Statement, StatementKind, SwitchCase,
 };
-use std::alloc::{AllocError, Global};
-use swc_ecma_parser::context::span::{BytePos, Span};
 
 /// Whether a semicolon ends such a statement.
 pub(crate) fn is_ended(kind: &StatementKind) -> bool {

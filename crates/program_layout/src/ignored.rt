@@ -1,7 +1,7 @@
 // Statements, members and properties that stay as they are written, after a comment `prettier-ignore`.
 use crate::layout::ProgramMarks;
-use swc_ecma_parser::context::span::Span;
-use swc_ecma_parser::nodes::node::{ExprId, Node, PropNode};
+use swc_context::span::Span;
+use swc_nodes::node::{ExprId, Node, PropNode};
 
 /// The word of the comment.
 const WORD: &str = "prettier-ignore";

@@ -9,12 +9,11 @@ use layout_document::print::print;
 use layout_document::roles::{Lines, Role};
 use layout_document::style::Style;
 use layout_document::units::{Unit, units_of};
-use reporting::{LEVELS, Refusal};
-use statement_trees::texts::read_tokens;
-use statement_trees::tree::{Goal, Program, StatementId};
+use program_tokens::texts::tokens_of;
 use std::alloc::{AllocError, Global};
-use swc_ecma_parser::context::span::{BytePos, Span};
-use swc_ecma_parser::nodes::node::{ExprId, Node};
+use swc_context::span::{BytePos, Span};
+use swc_nodes::node::{ExprId, Node};
+use tree_types::tree::{Goal, Program, StatementId};
 
 /// What is noted at the units of a program.
 #[derive(Drop)]
@@ -24,7 +23,8 @@ pub(crate) struct ProgramMarks<'a> {
     pub(crate) marks: Marks,
 }
 
-/// The layout of a program, which is read by `Program::read` with `LEVELS`. It doesn't end with a line break.
+/// The layout of the program of a text, in a style. It doesn't end with a line break. The program goes back as soon as it
+/// is done with.
 ///
 /// All tokens and comments are written as they are in the text, in their order. Only these change:
 ///
@@ -51,15 +51,8 @@ pub(crate) struct ProgramMarks<'a> {
 /// **Comments** stay on their lines: one after a statement on its line, and one before a statement on lines of its own.
 /// Comments alone in braces are on the line of these if the text has no line break there.
 ///
-/// Takes time almost in proportion to the text, and doesn't recur over statements, functions and classes. The refusals
-/// are those of `Program::read`, and out of memory.
-pub fn layout(alloc: Global, text: &str, goal: Goal) -> Result<String, Refusal> {
-    let program = Program::read(alloc, text, goal, LEVELS)?;
-    Ok(layout_of(alloc, text, program, Style::usual())?)
-}
-
-/// The layout of the program of a text, in a style. The program goes back as soon as it is done with. The only error is
-/// out of memory.
+/// Takes time almost in proportion to the text, and doesn't recur over statements, functions and classes. The only error
+/// is out of memory.
 pub fn layout_of(
     alloc: Global,
     text: &str,
@@ -72,7 +65,7 @@ pub fn layout_of(
 
 /// The units of a program's text. Its tokens go back at once.
 fn program_units(alloc: Global, text: &str, goal: Goal) -> Result<Vec<Unit>, AllocError> {
-    let tokens = read_tokens(alloc, text, goal)?;
+    let tokens = tokens_of(alloc, text, goal.is_module())?;
     units_of(alloc, &tokens, &[])
 }
 

@@ -1,13 +1,13 @@
 // What is noted at imports and exports (ECMA-262, 16.2).
 use crate::layout::ProgramMarks;
 use layout_document::marks::{Gap, PLAIN, Shape};
-use statement_trees::tree::{
+use swc_ast::ident::ModuleExportName;
+use swc_ast::lit::Str;
+use swc_context::span::{BytePos, Span};
+use tree_types::tree::{
     AllExports, DefaultExport, ImportAttribute, ImportDeclaration, ImportKind, ImportSpecifier,
     NamedExports, StatementKind,
 };
-use swc_ecma_parser::ast::ident::ModuleExportName;
-use swc_ecma_parser::ast::lit::Str;
-use swc_ecma_parser::context::span::{BytePos, Span};
 
 impl ProgramMarks<'_> {
     /// Notes an item of a module: a blank is after its first word.

@@ -3,10 +3,10 @@ use crate::ends::{is_ended, switch_brace};
 use crate::layout::ProgramMarks;
 use layout_document::marks::{Gap, LINE};
 use layout_document::roles::Role;
-use statement_trees::tree::{CatchClause, Statement, StatementId, StatementKind, SwitchCase};
 use std::alloc::AllocError;
-use swc_ecma_parser::context::span::{BytePos, Span};
-use swc_ecma_parser::nodes::node::ExprId;
+use swc_context::span::{BytePos, Span};
+use swc_nodes::node::ExprId;
+use tree_types::tree::{CatchClause, Statement, StatementId, StatementKind, SwitchCase};
 
 impl ProgramMarks<'_> {
     /// Notes what is in a statement, but for the statements in it.

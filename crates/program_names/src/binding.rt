@@ -4,7 +4,7 @@ use crate::names::{Name, Use};
 use crate::scope::{Binding, Home, Scope, ScopeId, ScopeKind};
 use std::alloc::{AllocError, Global};
 use std::collections::HashMap;
-use swc_ecma_parser::context::span::Span;
+use swc_context::span::Span;
 
 /// What happens at a position, in this order where more than one thing does.
 #[derive(Clone, Copy, PartialEq, Eq, PartialOrd, Ord)]

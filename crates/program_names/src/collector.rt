@@ -1,11 +1,11 @@
 // What is found in a program: its scopes, what they bind, and its names.
 use crate::names::{Name, Use};
 use crate::scope::{Binding, Home, Role, Scope, ScopeId, ScopeKind};
-use statement_trees::tree::Program;
 use std::alloc::{AllocError, Global};
 use std::collections::BTreeSet;
-use swc_ecma_parser::ast::ident::Ident;
-use swc_ecma_parser::context::span::Span;
+use swc_ast::ident::Ident;
+use swc_context::span::Span;
+use tree_types::tree::Program;
 
 /// What was found so far. The parts of the program come in any order, but a node after all that says what is done
 /// with it.

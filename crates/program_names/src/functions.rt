@@ -1,11 +1,11 @@
 // Functions and classes (ECMA-262, 15).
 use crate::collector::Collector;
 use crate::scope::{Home, Role, ScopeId, ScopeKind};
-use statement_trees::tree::{Class, Function, Member, MemberKind};
 use std::alloc::AllocError;
-use swc_ecma_parser::ast::ident::Ident;
-use swc_ecma_parser::context::span::Span;
-use swc_ecma_parser::nodes::node::Node;
+use swc_ast::ident::Ident;
+use swc_context::span::Span;
+use swc_nodes::node::Node;
+use tree_types::tree::{Class, Function, Member, MemberKind};
 
 /// The part of a function or a class after its name.
 fn after_name(name: &Option<Ident>, span: Span) -> Span {

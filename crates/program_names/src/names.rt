@@ -1,9 +1,9 @@
 // The names of programs.
 use crate::binding::bind;
 use crate::collector::Collector;
-use statement_trees::tree::Program;
 use std::alloc::{AllocError, Global};
-use swc_ecma_parser::context::span::Span;
+use swc_context::span::Span;
+use tree_types::tree::Program;
 
 /// What is done with a name.
 #[derive(Clone, Copy, Debug, PartialEq, Eq)]

@@ -3,14 +3,12 @@ use crate::collector::Collector;
 use crate::names::Use;
 use crate::scope::{Home, Role, ScopeKind};
 use std::alloc::AllocError;
-use swc_ecma_parser::ast::expr::BlockStmtOrExpr;
-use swc_ecma_parser::ast::prop::PropName;
-use swc_ecma_parser::ast::spanned::Spanned;
-use swc_ecma_parser::context::operator::AssignOp;
-use swc_ecma_parser::context::span::Span;
-use swc_ecma_parser::nodes::node::{
-    ExprId, Node, PatElem, PatId, PatPropNode, PropNode, TargetNode,
-};
+use swc_ast::expr::BlockStmtOrExpr;
+use swc_ast::prop::PropName;
+use swc_ast::spanned::Spanned;
+use swc_context::operator::AssignOp;
+use swc_context::span::Span;
+use swc_nodes::node::{ExprId, Node, PatElem, PatId, PatPropNode, PropNode, TargetNode};
 
 type AnyNode = Node<Span, Span, Span>;
 

@@ -2,13 +2,13 @@
 use crate::collector::Collector;
 use crate::names::Use;
 use crate::scope::{Home, Role};
-use statement_trees::tree::{
+use std::alloc::AllocError;
+use swc_ast::ident::ModuleExportName;
+use swc_context::span::Span;
+use tree_types::tree::{
     CatchClause, DefaultExport, ForInit, ForTarget, ImportSpecifier, NamedExports, Statement,
     StatementId, StatementKind, SwitchCase, VariableDeclaration, VariableKind,
 };
-use std::alloc::AllocError;
-use swc_ecma_parser::ast::ident::ModuleExportName;
-use swc_ecma_parser::context::span::Span;
 
 impl<'a> Collector<'a> {
     /// Adds the scopes of statements and declarations, and the names that are parts of these. Tells their patterns

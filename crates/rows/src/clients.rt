@@ -1,17 +1,20 @@
 // What the clients make of texts.
-use expr_layout::layout::layout;
+use expr_layout::layout::{Nodes, layout};
+use layout_document::style::Style;
 use lower_rows::row::{Row, show_unread};
 use lower_rows::shown::begin_part;
 use parser_rows::texts::show_refused;
-use program_layout::layout::layout as layout_program;
+use program_layout::layout::layout_of;
 use program_names::names::{Use, names};
 use reporting::expr::{parse_part, read_expr, read_part};
 use reporting::input::context_named;
 use reporting::{LEVELS, Refusal};
-use statement_outline::tree_of;
+use statement_outline::outline_of;
+use statement_trees::read_program;
 use statement_trees::tree::{Goal, Program};
 use std::alloc::{AllocError, Global};
 use swc_ecma_parser::context::context::Context;
+use swc_ecma_parser::nodes::node::ExprId;
 use swc_ecma_parser::printing::print::PrintNodes;
 use swc_lexer::reader::End;
 use template_pieces::template::{Piece, Template, parse};
@@ -94,6 +97,30 @@ fn expr_tree(alloc: Global, text: &str, start: usize, context: Context) -> Resul
     Ok(nodes.print_expr(expr)?)
 }
 
+/// The tree of a program, as text.
+pub(crate) fn tree_of(alloc: Global, text: &str, goal: Goal) -> Result<String, Refusal> {
+    let program = read_program(alloc, text, goal, LEVELS)?;
+    Ok(outline_of(alloc, &program)?)
+}
+
+/// The layout of a program.
+fn program_laid_out(alloc: Global, text: &str, goal: Goal) -> Result<String, Refusal> {
+    let program = read_program(alloc, text, goal, LEVELS)?;
+    Ok(layout_of(alloc, text, program, Style::usual())?)
+}
+
+/// The layout of the expression of a text, which was read in the context.
+pub(crate) fn laid_out(
+    alloc: Global,
+    text: &str,
+    nodes: &Nodes,
+    expr: ExprId,
+    context: Context,
+) -> Result<String, AllocError> {
+    let part = read_part(alloc, text, 0, End::Whole, context)?;
+    layout(alloc, text, &part.tokens, nodes, expr, Style::usual())
+}
+
 /// Writes the layout of the program, and a word more where that isn't laid out as itself.
 fn show_program_layout(
     alloc: Global,
@@ -101,10 +128,10 @@ fn show_program_layout(
     text: &str,
     goal: Goal,
 ) -> Result<(), AllocError> {
-    match layout_program(alloc, text, goal) {
+    match program_laid_out(alloc, text, goal) {
         Ok(first) => {
             show_lines(out, first.as_str())?;
-            let second = layout_program(alloc, first.as_str(), goal).ok();
+            let second = program_laid_out(alloc, first.as_str(), goal).ok();
             if second == Some(first) {
                 return Ok(());
             }
@@ -123,7 +150,7 @@ fn show_layout(
 ) -> Result<(), AllocError> {
     match read_expr(alloc, text, context) {
         Ok((nodes, expr)) => {
-            let first = layout(alloc, text, &nodes, expr, context)?;
+            let first = laid_out(alloc, text, &nodes, expr, context)?;
             show_lines(out, first.as_str())?;
             let tree = nodes.print_expr(expr).ok();
             if is_laid_out(alloc, first.as_str(), tree, context)? {
@@ -145,7 +172,7 @@ fn show_whether_laid_out(
 ) -> Result<(), AllocError> {
     match read_expr(alloc, text, context) {
         Ok((nodes, expr)) => {
-            let first = layout(alloc, text, &nodes, expr, context)?;
+            let first = laid_out(alloc, text, &nodes, expr, context)?;
             let tree = nodes.print_expr(expr).ok();
             let is_same = is_laid_out(alloc, first.as_str(), tree, context)?;
             out.push_str(if is_same {
@@ -167,7 +194,7 @@ fn is_laid_out(
 ) -> Result<bool, AllocError> {
     match read_expr(alloc, text, context) {
         Ok((nodes, expr)) => {
-            let again = layout(alloc, text, &nodes, expr, context)?;
+            let again = laid_out(alloc, text, &nodes, expr, context)?;
             Ok(again.as_str() == text && nodes.print_expr(expr).ok() == tree)
         }
         Err(_) => Ok(false),
@@ -181,7 +208,7 @@ fn show_names_of(
     text: &str,
     goal: Goal,
 ) -> Result<(), AllocError> {
-    match Program::read(alloc, text, goal, LEVELS) {
+    match read_program(alloc, text, goal, LEVELS) {
         Ok(program) => show_names(alloc, out, &program),
         Err(refusal) => show_refused(out, &refusal),
     }

@@ -1,13 +1,13 @@
 // What the clients make of long texts, each a few pieces many times over.
-use expr_layout::layout::layout;
+use crate::clients::{laid_out, tree_of};
 use lower_rows::row::{Row, unescaped};
 use parser_rows::long;
 use parser_rows::texts::show_refused;
 use program_names::names::names;
 use reporting::expr::read_expr;
 use reporting::{LEVELS, Refusal};
-use statement_outline::tree_of;
-use statement_trees::tree::{Goal, Program};
+use statement_trees::read_program;
+use statement_trees::tree::Goal;
 use std::alloc::{AllocError, Global};
 use swc_ecma_parser::context::context::Context;
 use template_pieces::template::{Template, parse};
@@ -26,7 +26,7 @@ pub(crate) fn show_long(alloc: Global, out: &mut String, row: Row<'_>) -> Result
 
 /// Writes how many names a program has.
 fn show_names(alloc: Global, out: &mut String, text: &str) -> Result<(), AllocError> {
-    match Program::read(alloc, text, Goal::Script, LEVELS) {
+    match read_program(alloc, text, Goal::Script, LEVELS) {
         Ok(program) => write!(out, "{} names", names(alloc, &program)?.len()),
         Err(refusal) => show_refused(out, &refusal),
     }
@@ -37,7 +37,7 @@ fn show_layout(alloc: Global, out: &mut String, text: &str) -> Result<(), AllocE
     let context = Context::script();
     match read_expr(alloc, text, context) {
         Ok((nodes, expr)) => {
-            let laid_out = layout(alloc, text, &nodes, expr, context)?;
+            let laid_out = laid_out(alloc, text, &nodes, expr, context)?;
             write!(out, "{} lines", laid_out.split('\n').count())
         }
         Err(refusal) => show_refused(out, &refusal),

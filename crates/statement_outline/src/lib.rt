@@ -9,4 +9,4 @@ mod lines;
 mod outline;
 mod statement;
 
-pub use crate::lines::{outline_of, tree_of};
+pub use crate::lines::outline_of;

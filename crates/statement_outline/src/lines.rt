@@ -1,15 +1,13 @@
 // Programs as text: their statements, and then their functions, classes and blocks.
 use crate::outline::Outline;
 use crate::statement::Lines;
-use reporting::{LEVELS, Refusal};
-use statement_trees::tree::{
-    CatchClause, Class, Function, Goal, Member, MemberKind, MethodKind, Program, Statement,
-    StatementId, StatementKind, SwitchCase,
-};
 use std::alloc::{AllocError, Global};
-use swc_ecma_parser::context::span::{BytePos, Span};
-use swc_ecma_parser::nodes::node::ExprId;
-use swc_lexer::read::out_of_memory;
+use swc_context::span::{BytePos, Span};
+use swc_nodes::node::ExprId;
+use tree_types::tree::{
+    CatchClause, Class, Function, Member, MemberKind, MethodKind, Program, Statement, StatementId,
+    StatementKind, SwitchCase,
+};
 
 /// What is still to be written of statements.
 #[derive(Clone, Copy)]
@@ -28,17 +26,7 @@ pub(crate) enum Line<'a> {
     Case(&'a SwitchCase),
 }
 
-/// The tree of a program, as text (ECMA-262, 14 to 16): `Program::read`, with `LEVELS`, and a line for each statement,
-/// clause and member. The refusals are those of `Program::read`, and out of memory.
-pub fn tree_of(alloc: Global, text: &str, goal: Goal) -> Result<String, Refusal> {
-    let program = Program::read(alloc, text, goal, LEVELS)?;
-    match outline_of(alloc, &program) {
-        Ok(outline) => Ok(outline),
-        Err(AllocError) => Err(Refusal::Fault(out_of_memory())),
-    }
-}
-
-/// The text of a program that was read. The only error is out of memory.
+/// The tree of a program as text (ECMA-262, 14 to 16): a line for each statement, clause and member. The only error is out of memory.
 pub fn outline_of(alloc: Global, program: &Program) -> Result<String, AllocError> {
     let mut outline = Outline {
         alloc,

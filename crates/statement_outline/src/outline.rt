@@ -1,12 +1,12 @@
 // Lines of text, one for each part of a tree.
-use statement_trees::tree::{MemberKey, Program};
 use std::alloc::{AllocError, Global};
-use swc_ecma_parser::ast::ident::{Ident, ModuleExportName};
-use swc_ecma_parser::ast::prop::PropName;
-use swc_ecma_parser::context::error::PResult;
-use swc_ecma_parser::context::span::{BytePos, Span};
-use swc_ecma_parser::nodes::node::{ExprId, PatId};
-use swc_ecma_parser::printing::print::PrintNodes;
+use swc_ast::ident::{Ident, ModuleExportName};
+use swc_ast::prop::PropName;
+use swc_context::error::PResult;
+use swc_context::span::{BytePos, Span};
+use swc_nodes::node::{ExprId, PatId};
+use swc_print::print::PrintNodes;
+use tree_types::tree::{MemberKey, Program};
 
 /// Lines deeper than this are indented no further, and begin with their depth.
 const DEEPEST: usize = 40;

@@ -1,15 +1,15 @@
 // Statements as lines of text.
 use crate::lines::Line;
 use crate::outline::Outline;
-use statement_trees::tree::{
+use swc_ast::ident::Ident;
+use swc_ast::lit::Str;
+use swc_context::span::BytePos;
+use swc_nodes::node::ExprId;
+use tree_types::tree::{
     CatchClause, DefaultExport, ForInit, ForTarget, ImportAttribute, ImportKind, ImportSpecifier,
     NamedExports, Statement, StatementId, StatementKind, SwitchCase, VariableDeclaration,
     VariableKind,
 };
-use swc_ecma_parser::ast::ident::Ident;
-use swc_ecma_parser::ast::lit::Str;
-use swc_ecma_parser::context::span::BytePos;
-use swc_ecma_parser::nodes::node::ExprId;
 
 /// The lines that are still to be written, each with its depth, the next one last.
 pub(crate) type Lines<'a> = Vec<(Line<'a>, usize)>;

@@ -4,7 +4,6 @@ ghost use Rattle.statement_trees.specs.Contexts.{context_of, work};
 
 use crate::frame::Owner;
 use crate::reader::Reader;
-use crate::tree::{Block, Class, Function};
 use swc_ecma_parser::ast::ident::Ident;
 use swc_ecma_parser::context::context::Context;
 use swc_ecma_parser::context::error::{PResult, Wanted};
@@ -13,6 +12,7 @@ use swc_ecma_parser::context::span::{BytePos, Span};
 use swc_ecma_parser::context::word::Keyword;
 use swc_ecma_parser::input::token::Token;
 use swc_ecma_parser::nodes::node::{ExprId, PatId};
+use tree_types::tree::{Block, Class, Function};
 
 /// The sign of a generator.
 pub(crate) const STAR: Token = Token::BinOp(BinOpToken::Mul);

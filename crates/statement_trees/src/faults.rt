@@ -1,9 +1,9 @@
 // All faults of a text, where its brackets pair.
-use crate::program::{Passes, place_of, span_of, tokens_of};
-use crate::tree::{Goal, Program};
+use crate::program::{Passes, place_of, read_program, span_of, tokens_of};
 use reporting::Refusal;
 use std::alloc::{AllocError, Global};
 use swc_ecma_parser::context::error::{Error, SyntaxError};
+use tree_types::tree::{Goal, Program};
 
 /// What a text is, as `read_with_faults` tells.
 #[derive(Drop)]
@@ -23,7 +23,7 @@ struct Wrong {
     faults: Vec<Refusal>,
 }
 
-/// Reads a program, as `Program::read` does, and goes on after a fault.
+/// Reads a program, as `read_program` does, and goes on after a fault.
 ///
 /// Faults that the parser records beside a tree refuse nothing. Where each bracket of the text closes the last one that
 /// is open, each body, and the program around the bodies, tells its first fault that leaves it without a tree. Otherwise
@@ -73,7 +73,7 @@ fn first_fault(
     levels: usize,
     refusal: Refusal,
 ) -> Result<Vec<Refusal>, AllocError> {
-    let first = match Program::read(alloc, text, goal, levels) {
+    let first = match read_program(alloc, text, goal, levels) {
         Ok(_) => refusal,
         Err(first) => first,
     };

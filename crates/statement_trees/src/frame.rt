@@ -1,8 +1,8 @@
 // What is begun and not ended.
-use crate::tree::{CatchClause, ForInit, ForTarget, StatementId, SwitchCase};
 use swc_ecma_parser::ast::ident::Ident;
 use swc_ecma_parser::context::span::BytePos;
 use swc_ecma_parser::nodes::node::{ExprId, PatId};
+use tree_types::tree::{CatchClause, ForInit, ForTarget, StatementId, SwitchCase};
 
 /// What is to be done next.
 #[derive(Drop)]

@@ -1,11 +1,11 @@
 //! Whole ECMAScript programs, read over the expression parser, as values.
 //!
-//! `Program::read` reads a script, a module or a CommonJS module (ECMA-262, 14, 15 and 16): all statements,
-//! declarations, functions, classes, imports and exports. The types of the tree are those of `tree`: statements in one
+//! `read_program` reads a script, a module or a CommonJS module (ECMA-262, 14, 15 and 16): all statements,
+//! declarations, functions, classes, imports and exports. The types of the tree are those of the crate tree_types: statements in one
 //! vector, and expressions and patterns among the nodes of one `Nodes`. The crate statement_outline writes them as
 //! text.
 //!
-//!     let program = Program::read(alloc, "let a = () => { return b }", Goal::Script, 800)?;
+//!     let program = read_program(alloc, "let a = () => { return b }", Goal::Script, 800)?;
 //!     for id in &program.body {
 //!         if let Some(statement) = program.statement(*id) {
 //!             println!(rt; "{}", statement.span)?;
@@ -31,7 +31,8 @@ mod part;
 mod program;
 mod reader;
 mod statement;
-pub mod texts;
-pub mod tree;
 mod variables;
 mod words;
+
+pub use program::read_program;
+pub use tree_types::tree;

@@ -4,12 +4,12 @@ ghost use Rattle.statement_trees.specs.Contexts.{context_of, work, Takes};
 
 use crate::body::STAR;
 use crate::reader::Reader;
-use crate::tree::{Function, Member, MemberKey, MemberKind, MethodKind};
 use swc_ecma_parser::ast::prop::PropName;
 use swc_ecma_parser::context::error::{PResult, Wanted};
 use swc_ecma_parser::context::span::{BytePos, Span};
 use swc_ecma_parser::input::token::Token;
 use swc_ecma_parser::nodes::node::ExprId;
+use tree_types::tree::{Function, Member, MemberKey, MemberKind, MethodKind};
 
 /// What is before the key of a member.
 #[derive(Clone, Copy)]

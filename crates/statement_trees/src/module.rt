@@ -4,16 +4,16 @@ ghost use Rattle.statement_trees.specs.Contexts.{context_of, work};
 
 use crate::body::STAR;
 use crate::reader::Reader;
-use crate::tree::{
-    AllExports, DefaultExport, ExportSpecifier, ImportAttribute, ImportDeclaration, ImportKind,
-    ImportSpecifier, NamedExports, StatementKind,
-};
 use swc_ecma_parser::ast::ident::{Ident, ModuleExportName};
 use swc_ecma_parser::ast::lit::{Lit, Str};
 use swc_ecma_parser::context::error::{PResult, Wanted};
 use swc_ecma_parser::context::span::BytePos;
 use swc_ecma_parser::context::word::{Keyword, Word};
 use swc_ecma_parser::input::token::Token;
+use tree_types::tree::{
+    AllExports, DefaultExport, ExportSpecifier, ImportAttribute, ImportDeclaration, ImportKind,
+    ImportSpecifier, NamedExports, StatementKind,
+};
 
 impl Reader {
     /// An item of a module, up to its first part.

@@ -4,12 +4,12 @@ ghost use Rattle.statement_trees.specs.Contexts.{context_of, work};
 
 use crate::frame::{ForHead, Frame, Part};
 use crate::reader::Reader;
-use crate::tree::{CatchClause, StatementId, StatementKind};
 use swc_ecma_parser::context::error::{PResult, Wanted};
 use swc_ecma_parser::context::span::BytePos;
 use swc_ecma_parser::context::word::Keyword;
 use swc_ecma_parser::input::token::Token;
 use swc_ecma_parser::nodes::node::{ExprId, PatId};
+use tree_types::tree::{CatchClause, StatementId, StatementKind};
 
 /// A `for` with its part.
 fn for_kind(head: ForHead, body: StatementId) -> StatementKind {

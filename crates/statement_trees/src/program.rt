@@ -5,11 +5,10 @@ ghost use Rattle.statement_trees.specs.Passes.{InOrder, Collected, Passed, AllRe
 
 use crate::frame::Owner;
 use crate::reader::Reader;
-use crate::texts::read_tokens;
-use crate::tree::{Goal, Program, StatementId};
 use program_tokens::brackets::Bracketed;
 use program_tokens::hook::ProgramBodies;
 use program_tokens::source::ProgramInput;
+use program_tokens::texts;
 use reporting::Refusal;
 use reporting::openers::{Ending, end_for};
 use std::alloc::{AllocError, Global};
@@ -21,6 +20,7 @@ use swc_ecma_parser::input::buffer::Buffer;
 use swc_ecma_parser::input::token::TokenAndSpan;
 use swc_ecma_parser::parser::Parser;
 use swc_lexer::read::out_of_memory;
+use tree_types::tree::{Goal, Program, StatementId};
 
 /// The context of a program.
 fn context_of(goal: Goal) -> Context {
@@ -49,7 +49,7 @@ pub(crate) fn tokens_of(
     text: &str,
     goal: Goal,
 ) -> Result<(Bracketed, Ending), AllocError> {
-    let tokens = read_tokens(alloc, text, goal)?;
+    let tokens = texts::tokens_of(alloc, text, goal.is_module())?;
     let ending = Ending::new(alloc, &tokens, BytePos(0), false)?;
     Ok((Bracketed::new(alloc, tokens)?, ending))
 }
@@ -69,28 +69,31 @@ pub(crate) struct Passes {
     pub(crate) recorded: Option<Vec<Error>>,
 }
 
-impl Program {
-    /// Reads a program (ECMA-262, 16): the text is UTF-8, and is read by the lexical grammar (12), which `swc_lexer`
-    /// follows. Positions are in bytes.
-    ///
-    /// The first fault is the refusal, also where it was recorded beside a tree, and so is a fault that is one in
-    /// strict code alone, where the code is strict. Expressions and patterns that are nested deeper than `levels` are
-    /// refused; statements, functions and classes may be nested as deeply as they are. A fault at the end of the text
-    /// names the bracket that is open there. Memory that runs out is refused as `OutOfMemory`.
-    pub fn read(alloc: Global, text: &str, goal: Goal, levels: usize) -> Result<Program, Refusal>
-        ensures order { IfOk result (λ program. InOrder program.bodies.items) }
-        ensures goal { IfOk result (λ program. program.goal ≡ goal) }
-        ensures span { IfOk result (λ program. Spans text.now program.span) }
-    {
-        let Ok((list, ending)) = tokens_of(alloc, text, goal) else {
-            return Err(Refusal::Fault(out_of_memory()));
-        };
-        let mut passes = Passes::new(alloc, list, goal, levels);
-        match passes.read() {
-            Ok(body) => Ok(passes.into_program(span_of(text), goal, body)),
-            Err(Refusal::Fault(fault)) => Err(ending.refusal(fault, false)),
-            Err(refusal) => Err(refusal),
-        }
+/// Reads a program (ECMA-262, 16): the text is UTF-8, and is read by the lexical grammar (12), which `swc_lexer`
+/// follows. Positions are in bytes.
+///
+/// The first fault is the refusal, also where it was recorded beside a tree, and so is a fault that is one in
+/// strict code alone, where the code is strict. Expressions and patterns that are nested deeper than `levels` are
+/// refused; statements, functions and classes may be nested as deeply as they are. A fault at the end of the text
+/// names the bracket that is open there. Memory that runs out is refused as `OutOfMemory`.
+pub fn read_program(
+    alloc: Global,
+    text: &str,
+    goal: Goal,
+    levels: usize,
+) -> Result<Program, Refusal>
+    ensures order { IfOk result (λ program. InOrder program.bodies.items) }
+    ensures goal { IfOk result (λ program. program.goal ≡ goal) }
+    ensures span { IfOk result (λ program. Spans text.now program.span) }
+{
+    let Ok((list, ending)) = tokens_of(alloc, text, goal) else {
+        return Err(Refusal::Fault(out_of_memory()));
+    };
+    let mut passes = Passes::new(alloc, list, goal, levels);
+    match passes.read() {
+        Ok(body) => Ok(passes.into_program(span_of(text), goal, body)),
+        Err(Refusal::Fault(fault)) => Err(ending.refusal(fault, false)),
+        Err(refusal) => Err(refusal),
     }
 }
 

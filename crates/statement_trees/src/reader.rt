@@ -5,7 +5,6 @@ ghost use Rattle.std.specs.Prelude.{◌≡◌, ◌+◌, ◌<◌, ◌≤◌, true
 ghost use Rattle.statement_trees.specs.Contexts.{context_of, work, Takes};
 
 use crate::frame::{Frame, Part};
-use crate::tree::{Block, Class, Function, Statement, StatementId, StatementKind};
 use program_tokens::hook::ProgramBodies;
 use program_tokens::source::ProgramInput;
 use std::alloc::Global;
@@ -16,6 +15,7 @@ use swc_ecma_parser::context::word::{Keyword, Word};
 use swc_ecma_parser::input::token::Token;
 use swc_ecma_parser::nodes::node::{ExprId, Node};
 use swc_ecma_parser::parser::Parser;
+use tree_types::tree::{Block, Class, Function, Statement, StatementId, StatementKind};
 
 /// What reads a program: the pass that goes on, and what was read so far.
 ///

@@ -5,7 +5,6 @@ ghost use Rattle.statement_trees.specs.Contexts.{context_of, work, Takes, SameMo
 
 use crate::frame::{Clause, Frame, List, Owner, Part, Switch};
 use crate::reader::Reader;
-use crate::tree::{StatementId, StatementKind, SwitchCase, VariableKind};
 use swc_ecma_parser::ast::ident::Ident;
 use swc_ecma_parser::context::context::Context;
 use swc_ecma_parser::context::error::{Error, PResult, SyntaxError, Wanted};
@@ -13,6 +12,7 @@ use swc_ecma_parser::context::span::{BytePos, Span};
 use swc_ecma_parser::context::word::Keyword;
 use swc_ecma_parser::input::token::Token;
 use swc_ecma_parser::nodes::node::ExprId;
+use tree_types::tree::{StatementId, StatementKind, SwitchCase, VariableKind};
 
 impl Reader {
     /// Reads statements, up to `}`, `case`, `default` or the end of the tokens. After `"use strict"` in the prologue

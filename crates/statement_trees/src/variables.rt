@@ -4,13 +4,13 @@ ghost use Rattle.statement_trees.specs.Contexts.{context_of, work, Takes};
 
 use crate::frame::ForHead;
 use crate::reader::Reader;
-use crate::tree::{Declarator, ForInit, ForTarget, VariableDeclaration, VariableKind};
 use swc_ecma_parser::context::context::Context;
 use swc_ecma_parser::context::error::{PResult, Wanted};
 use swc_ecma_parser::context::operator::AssignOp;
 use swc_ecma_parser::context::word::Keyword;
 use swc_ecma_parser::input::token::Token;
 use swc_ecma_parser::nodes::node::{ExprId, ForHeadId};
+use tree_types::tree::{Declarator, ForInit, ForTarget, VariableDeclaration, VariableKind};
 
 /// What the head of a `for` begins with.
 enum HeadStart {

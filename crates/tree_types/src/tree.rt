@@ -1,10 +1,10 @@
 //! The tree of a program, as values (ECMA-262, 14 to 16).
-use swc_ecma_parser::ast::ident::{Ident, ModuleExportName, PrivateName};
-use swc_ecma_parser::ast::lit::Str;
-use swc_ecma_parser::ast::prop::PropName;
-use swc_ecma_parser::context::span::Span;
-use swc_ecma_parser::nodes::node::{ExprId, PatId};
-use swc_ecma_parser::nodes::nodes::Nodes;
+use swc_ast::ident::{Ident, ModuleExportName, PrivateName};
+use swc_ast::lit::Str;
+use swc_ast::prop::PropName;
+use swc_context::span::Span;
+use swc_nodes::node::{ExprId, PatId};
+use swc_nodes::nodes::Nodes;
 
 /// What a text is read as.
 #[derive(Clone, Copy, Debug, PartialEq, Eq)]
@@ -28,6 +28,11 @@ impl Goal {
             _ => None,
         }
     }
+
+    /// Whether it is a module, whose words are read otherwise: `await` is a keyword, and no comment is HTML-like.
+    pub fn is_module(self) -> bool {
+        matches!(self, Goal::Module)
+    }
 }
 
 /// A program that was read.
@@ -45,9 +50,9 @@ pub struct Program {
     /// All statements. Each is after its parts.
     pub statements: Vec<Statement>,
     /// All functions, classes and blocks of functions, in the order in which they begin.
-    pub(crate) functions: Vec<Function>,
-    pub(crate) classes: Vec<Class>,
-    pub(crate) blocks: Vec<Block>,
+    pub functions: Vec<Function>,
+    pub classes: Vec<Class>,
+    pub blocks: Vec<Block>,
     /// The places of all of these, in the order in which they begin.
     pub bodies: Vec<Span>,
 }
