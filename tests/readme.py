@@ -3,8 +3,8 @@
 
     tests/readme.py
 
-- Each command after `$` prints what is shown below it. The README's example is the file of the crate `examples`, which
-  prints what the README says, and that of API.md the file of `lint_example` (`rt ci` runs them).
+- Each command after `$` prints what is shown below it. The examples of README are the first programs of tests/bindings (tests/bindings.sh runs them),
+  and those of API.md the crates `examples`, which prints what is said there, and `lint_example` (`rt ci` runs them).
 - Links, paths and names of files are those of the repository; commands of `rt` are those that its help names.
 - A name in backquotes is a word of the sources, and one with parentheses a function there. DIFFERENCES.md also has names of the Rust crate.
 - The lines of code in CONTRIBUTING.md are lines of the sources. GRAMMAR.md names each production of Grammar.antt and no other.
@@ -51,11 +51,12 @@ def shown_commands(text):
 
 
 def example_faults(readme):
-    for path in ('crates/examples/src/main.rt', 'crates/examples/stdout'):
-        if indented(read(path)) not in readme:
-            yield 'README.md has not the text of ' + path
-    if indented(read('crates/lint_example/src/main.rt')) not in read('docs/API.md'):
-        yield 'docs/API.md has not the text of lint_example'
+    for ending in ('c', 'js', 'py'):
+        if indented(read('tests/bindings/first.' + ending)) not in readme:
+            yield 'README.md has not the text of tests/bindings/first.' + ending
+    for path in ('crates/examples/src/main.rt', 'crates/examples/stdout', 'crates/lint_example/src/main.rt'):
+        if indented(read(path)) not in read('docs/API.md'):
+            yield 'docs/API.md has not the text of ' + path
 
 
 def command_faults(path, text, help_text):

@@ -59,6 +59,9 @@ fn faults_of_none(
         Read::Refused(refusals) => {
             let mut found = Vec::new(alloc);
             for refusal in &refusals {
+                if refusal.is_failure() {
+                    return Err(Refusal::from(AllocError));
+                }
                 let hint = hint_at(text, refusal.span(), goal);
                 push(&mut found, fault_of(alloc, place, refusal, levels, hint)?)?;
             }

@@ -78,6 +78,11 @@ impl<'a> Place<'a> {
         (found.line, column)
     }
 
+    /// How many UTF-16 units are before a place.
+    pub fn units(&self, at: BytePos) -> usize {
+        self.lines.utf16_offset(at.0 as usize)
+    }
+
     /// The line of a place, with marks below the place. A byte order mark isn't shown.
     fn frame(&self, span: Span) -> Frame<'a> {
         match self.text.strip_prefix("\u{feff}".as_bytes()) {

@@ -16,7 +16,7 @@ pub mod goals;
 mod help;
 mod hints;
 pub mod lint;
-mod listing;
+pub mod listing;
 mod output;
 mod parts;
 mod pretty;

@@ -74,7 +74,7 @@ fn put_token(
 }
 
 /// What a token is.
-fn kind_of(token: &Token) -> &'static str {
+pub fn kind_of(token: &Token) -> &'static str {
     match token {
         Token::Word(_) => "word",
         Token::Template { .. } => "template",
@@ -86,7 +86,8 @@ fn kind_of(token: &Token) -> &'static str {
     }
 }
 
-fn text_at(text: &str, at: Span) -> &str {
+/// What is at a place of a text.
+pub fn text_at(text: &str, at: Span) -> &str {
     text.get(at.lo.0 as usize..at.hi.0 as usize).unwrap_or("")
 }
 

@@ -14,6 +14,8 @@ pub(crate) enum Code {
     InternalError,
     NotInitialized,
     RequestFailed,
+    RequestCancelled,
+    ContentModified,
 }
 
 impl Code {
@@ -26,6 +28,8 @@ impl Code {
             Code::InternalError => -32603,
             Code::NotInitialized => -32002,
             Code::RequestFailed => -32803,
+            Code::RequestCancelled => -32800,
+            Code::ContentModified => -32801,
         }
     }
 }

@@ -6,6 +6,7 @@
 #![tactic(auto)]
 
 mod answers;
+mod batch;
 mod changes;
 mod diagnostics;
 mod documents;

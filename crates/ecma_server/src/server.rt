@@ -1,5 +1,6 @@
 //! The server: messages, what they ask for, and what it answers.
 use crate::answers::{Code, Failure, Outbox};
+use crate::batch::{Fate, Letter, fates};
 use crate::changes::change;
 use crate::diagnostics::diagnostics;
 use crate::documents::{Document, Documents};
@@ -23,6 +24,12 @@ use show::levels::levels;
 use statement_trees::tree::Program;
 use std::alloc::{AllocError, Global};
 use std::io;
+
+/// Where a message has the version of a document.
+const VERSION_PATH: &str = "/params/textDocument/version";
+
+/// What is said of a request for an older version.
+const MODIFIED: &str = "the document was changed";
 
 /// Where the server is in its life.
 #[derive(Clone, Copy, PartialEq, Eq)]
@@ -92,15 +99,20 @@ impl Server {
 
     /// Answers the messages that were read.
     fn take_all(&mut self, input: &mut Input) -> io::Result<()> {
+        let mut letters = Vec::new(self.alloc);
         for _ in 0..u64::MAX {
+            match input.take()? {
+                Taken::Message(bytes) => letters.push(Letter::of(self.alloc, &bytes))?,
+                Taken::Bad(why) => letters.push(Letter::Bad(Code::ParseError, why))?,
+                Taken::Part => break,
+            }
+        }
+        let fates = fates(self.alloc, &letters)?;
+        for (letter, fate) in letters.iter().zip(fates.iter().rev()) {
             if self.is_over {
                 break;
             }
-            match input.take()? {
-                Taken::Message(bytes) => self.take(&bytes)?,
-                Taken::Bad(why) => self.refuse(&Value::Null, Code::ParseError, why)?,
-                Taken::Part => break,
-            }
+            self.take(letter, *fate)?;
         }
         Ok(())
     }
@@ -111,23 +123,24 @@ impl Server {
     }
 
     /// Answers a message.
-    fn take(&mut self, bytes: &[u8]) -> Result<(), AllocError> {
-        let message = match Value::from_slice(self.alloc, bytes) {
-            Ok(message) => message,
-            Err(error) if error.is_memory() => {
-                return self.refuse(&Value::Null, Code::InternalError, "out of memory");
-            }
-            Err(_) => return self.refuse(&Value::Null, Code::ParseError, "this isn't JSON"),
+    fn take(&mut self, letter: &Letter, fate: Fate) -> Result<(), AllocError> {
+        let message = match letter {
+            Letter::Message(message) => message,
+            Letter::Bad(code, why) => return self.refuse(&Value::Null, *code, why),
         };
-        let Some(method) = text_at(&message, "/method") else {
+        let Some(method) = text_at(message, "/method") else {
             if message.get("result").is_some() || message.get("error").is_some() {
                 return Ok(());
             }
             return self.refuse(&Value::Null, Code::InvalidRequest, "there is no method");
         };
-        match message.get("id") {
-            Some(id) => self.request(id, method, &message),
-            None => self.notification(method, &message),
+        match (message.get("id"), fate) {
+            (Some(id), Fate::Cancelled) => {
+                self.refuse(id, Code::RequestCancelled, "the request was cancelled")
+            }
+            (Some(id), Fate::Outdated) => self.refuse(id, Code::ContentModified, MODIFIED),
+            (Some(id), Fate::Answered) => self.request(id, method, message),
+            (None, _) => self.notification(method, message),
         }
     }
 
@@ -229,11 +242,13 @@ impl Server {
         answered.map_err(|none| self.failure(message, none))
     }
 
-    /// The document that a message is of.
+    /// The document that a message is of, in the version that the message says, if it says one.
     fn document(&self, message: &Value) -> Result<&Document, Wrong> {
-        match text_at(message, "/params/textDocument/uri") {
-            Some(uri) => self.documents.get(uri).ok_or(Wrong::NotOpen),
-            None => Err(Wrong::Params),
+        let uri = text_at(message, "/params/textDocument/uri").ok_or(Wrong::Params)?;
+        let document = self.documents.get(uri).ok_or(Wrong::NotOpen)?;
+        match message.pointer(VERSION_PATH).and_then(Value::as_i64) {
+            Some(version) if version < document.version => Err(Wrong::Outdated),
+            _ => Ok(document),
         }
     }
 
@@ -323,6 +338,7 @@ impl Server {
             Wrong::Params => Failure::new(alloc, Code::InvalidParams, "the parameters are bad"),
             Wrong::NotOpen => Failure::new(alloc, Code::InvalidParams, "the document isn't open"),
             Wrong::Memory => Failure::new(alloc, Code::InternalError, "out of memory"),
+            Wrong::Outdated => Failure::new(alloc, Code::ContentModified, MODIFIED),
             Wrong::Said(why) => Failure {
                 code: Code::RequestFailed,
                 message: why,
@@ -451,6 +467,8 @@ fn tell(
 enum Wrong {
     Params,
     NotOpen,
+    /// It is of an older version of the document.
+    Outdated,
     Memory,
     NoProgram(NoProgram),
     Said(String),
@@ -471,7 +489,7 @@ impl From<NoProgram> for Wrong {
 /// The version of a document in a message.
 fn version_in(message: &Value) -> i64 {
     message
-        .pointer("/params/textDocument/version")
+        .pointer(VERSION_PATH)
         .and_then(Value::as_i64)
         .unwrap_or(0)
 }
