@@ -84,7 +84,7 @@ export interface Token {
 /** The tree of a program, as acorn makes it. Throws a `Fault`. */
 export function parse(text: string, options?: ParseOptions): Node;
 
-/** What ESLint wants of a parser. */
+/** What ESLint asks a parser for. */
 export function parseForESLint(text: string, options?: object): { ast: Node };
 
 /** What is wrong with a program, early errors too. */

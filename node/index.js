@@ -138,7 +138,7 @@ function narrow(ast) {
   }
 }
 
-/** What ESLint wants of a parser: the tree with places, tokens and comments. */
+/** What ESLint asks a parser for: the tree with places, tokens and comments. */
 function parseForESLint(text, options = {}) {
   const source = String(text);
   const { sourceType = 'script', ecmaFeatures = {}, levels } = options || {};

@@ -2,8 +2,9 @@
 --
 --     ECMA=path/to/ecma FILES='a.js b.js' nvim --headless -u NONE -c 'luafile tests/lsp_nvim.lua'
 --
--- Of each file: its faults are shown, a `(` is put in front and taken away, it is laid out, and the first name that it binds is renamed, and back. Prints how
--- long each took; fails where an answer doesn't come, or the text isn't what it was in the end.
+-- Of each file: its faults are shown, a `(` is put in front and taken away, it is laid out, and the first name that it binds is looked at (hover, definition, references,
+-- highlights), and renamed, and back; folds, selections and semantic tokens are asked for, too. Prints how long each took; fails where an answer doesn't come, or the text
+-- isn't what it was in the end.
 local ecma = os.getenv('ECMA')
 local files = vim.split(os.getenv('FILES'), ' ')
 local published = {}
@@ -82,6 +83,14 @@ local function try(file)
   local symbols, listing = request(client, buffer, 'textDocument/documentSymbol', { textDocument = document })
   io.write(string.format(', %d symbols %.0f', #symbols, listing))
   local place = symbols[1].selectionRange.start
+  local at = { textDocument = document, position = place, context = { includeDeclaration = true }, positions = { place } }
+  for _, method in ipairs({ 'hover', 'definition', 'references', 'documentHighlight', 'foldingRange', 'selectionRange', 'semanticTokens/full' }) do
+    local answer, how_long = request(client, buffer, 'textDocument/' .. method, at)
+    if answer == nil or answer == vim.NIL then
+      fail(': no answer to ' .. method .. ': ' .. tostring(how_long))
+    end
+    io.write(string.format(', %s %.0f', method, how_long))
+  end
   local renamed, rename = request(client, buffer, 'textDocument/rename', { textDocument = document, position = place, newName = 'renamed_by_this_test' })
   if not renamed then
     fail(': no other name: ' .. rename)
