@@ -3,10 +3,15 @@
 
     tests/gate_table.py LOG
 
-A line has a crate, how many functions of it were proved, its processor seconds (proof, library, tests, compilers), and those of its must-fail edits.
+A line has a crate, how many functions of it were proved, its processor seconds (proof, library, tests, compilers), and those of its must-fail edits. Below the table is
+what the check of an empty crate takes on the same machine, right after: seconds of two runs are to be compared by it.
 """
 import re
+import resource
+import subprocess
 import sys
+import tempfile
+from pathlib import Path
 
 
 def rows_of(log):
@@ -26,6 +31,19 @@ def minutes(text):
     return sum(60 * int(minute) + float(second) for minute, second in re.findall(r'(\d+)m([\d.]+)s', text))
 
 
+def yardstick():
+    """The processor seconds of the check of an empty crate over std."""
+    with tempfile.TemporaryDirectory() as room:
+        source = Path(room, 'crates/empty/src')
+        source.mkdir(parents=True)
+        Path(room, 'crates.txt').write_text('empty:\n')
+        (source / 'lib.rt').write_text('//! Nothing.\n#![tactic(auto)]\n')
+        before = resource.getrusage(resource.RUSAGE_CHILDREN)
+        subprocess.run(['rt', 'check'], cwd=source.parent, capture_output=True)
+        after = resource.getrusage(resource.RUSAGE_CHILDREN)
+    return after.ru_utime + after.ru_stime - before.ru_utime - before.ru_stime
+
+
 def main():
     with open(sys.argv[1], encoding='utf-8', errors='replace') as file:
         log = file.read()
@@ -36,6 +54,7 @@ def main():
         print((line % ('crate', 'functions', 'seconds', 'edits')).rstrip())
     for name, (count, whole, edits) in rows.items():
         print((line % (name, count or '', whole, edits or '')).rstrip())
+    print('\nThe check of an empty crate over std: %.1f processor seconds.' % yardstick())
     if not rows:
         print('no crate was proved: what earlier runs on this machine have proved is kept')
     took = re.search(r'^the gate took (\d+) seconds.*: (.*)$', log, re.M)

@@ -99,6 +99,7 @@ fn or_usual(number: u32, usual: u32) -> u32 {
 pub(crate) fn answer<F>(text: &[u8], options: EcmaOptions, answered: F) -> EcmaOutcome
 where
     F: FnOnce(&str, Asked) -> Result<EcmaOutcome, AllocError>,
+    requires { F.IsAlwaysCallable answered }
 {
     let Some(asked) = options.asked() else {
         return EcmaOutcome::of(BAD_OPTION);

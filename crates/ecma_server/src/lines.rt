@@ -96,9 +96,14 @@ impl<'a> LineIndex<'a> {
 
     /// The positions of a span.
     pub(crate) fn range(&self, span: Span) -> Range {
+        self.between(span.lo.0 as usize, span.hi.0 as usize)
+    }
+
+    /// The positions of two bytes.
+    pub(crate) fn between(&self, start: usize, end: usize) -> Range {
         Range {
-            start: self.position(span.lo.0 as usize),
-            end: self.position(span.hi.0 as usize),
+            start: self.position(start),
+            end: self.position(end),
         }
     }
 

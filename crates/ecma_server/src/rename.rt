@@ -15,6 +15,7 @@ use std::alloc::{AllocError, Global};
 use swc_ecma_parser::ast::ident::ModuleExportName;
 use swc_ecma_parser::context::span::Span;
 use swc_ecma_parser::nodes::node::{ExprId, Node, PatPropNode, PropNode};
+use text_edits::edit::{Edit, edited};
 
 /// What comes of a wish to rename.
 #[derive(Drop)]
@@ -96,11 +97,9 @@ pub(crate) fn rename(
         return Ok(Renamed::Refused(why));
     }
     let mut edits = Vec::new(alloc);
-    for (span, with) in &changed.edits {
-        json::add(
-            &mut edits,
-            json::edit(alloc, lines.range(*span), with.as_str())?,
-        )?;
+    for edit in &changed.edits {
+        let range = lines.between(edit.start, edit.end);
+        json::add(&mut edits, json::edit(alloc, range, edit.text.as_str())?)?;
     }
     Ok(Renamed::Edits(edits))
 }
@@ -152,10 +151,11 @@ fn refused(alloc: Global, why: &str) -> Result<Renamed, NoProgram> {
 #[derive(Drop)]
 struct Changed {
     text: String,
-    edits: Vec<(Span, String)>,
+    edits: Vec<Edit>,
 }
 
 impl Changed {
+    /// The only error is out of memory, as names lie apart.
     fn new(
         alloc: Global,
         text: &str,
@@ -164,24 +164,20 @@ impl Changed {
         new: &str,
         spellings: &Spellings,
     ) -> Result<Changed, AllocError> {
-        let mut changed = Changed {
-            text: String::new(alloc),
-            edits: Vec::new(alloc),
-        };
+        let mut edits = Vec::new(alloc);
         let mut past = 0;
         for other in names {
-            let (lo, hi) = (other.span.lo.0 as usize, other.span.hi.0 as usize);
-            if !is_same(name, other) || lo < past {
-                continue;
+            let (start, end) = (other.span.lo.0 as usize, other.span.hi.0 as usize);
+            if is_same(name, other) && past <= start {
+                let text = spelled(alloc, name.text, new, spellings.of(other.span.lo.0))?;
+                edits.push(Edit { start, end, text })?;
+                past = end;
             }
-            let with = spelled(alloc, name.text, new, spellings.of(other.span.lo.0))?;
-            changed.text.push_str(text.get(past..lo).unwrap_or(""))?;
-            changed.text.push_str(with.as_str())?;
-            changed.edits.push((other.span, with))?;
-            past = hi;
         }
-        changed.text.push_str(text.get(past..).unwrap_or(""))?;
-        Ok(changed)
+        match edited(alloc, text, &edits) {
+            Ok(text) => Ok(Changed { text, edits }),
+            Err(_) => Err(AllocError),
+        }
     }
 
     /// Why the change can't be made, if it can't: the new text has to have the same names, each bound as before, and no
