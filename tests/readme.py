@@ -8,7 +8,7 @@
 - Links, paths and names of files are those of the repository; commands of `rt` are those that its help names.
 - A name in backquotes is a word of the sources, and one with parentheses a function there. DIFFERENCES.md also has names of the Rust crate.
 - The lines of code in CONTRIBUTING.md are lines of the sources. GRAMMAR.md names each production of Grammar.antt and no other.
-- The ring has as many functions as the documents say. The README has at most 900 words, and docs/ 24,000.
+- The ring has as many functions as the documents say. The README has at most 900 words, and docs/ 26,000.
 
 Prints what isn't so. Status 0 if all of that holds. Run it after `rt ci` or `rt run`, so that ./show_expr has its proved program.
 """
@@ -25,7 +25,7 @@ ENDINGS = 'antt|rt|rows|trees|py|sh|js|c|cpp|txt|md|edit|patch'
 # A crate of the reader's own, and parts of paths that stand for others.
 OTHERS = re.compile(r'my_tool|FILE|FUNCTION|NAME|LOG')
 # Names of the kit and of texts that are shown, and parts of names.
-FOREIGN = set('__proto__ _id dgimsuvy is_x my_tool rattle-kit unheard_ version logic Tail'.split())
+FOREIGN = set('__proto__ _id apt-get node-acorn libecma dgimsuvy is_x my_tool rattle-kit unheard_ version logic Tail'.split())
 NAME = r'[A-Za-z_]\w*(?:-[A-Za-z]\w*)*'
 
 
@@ -119,7 +119,8 @@ def main():
     paths = list(files())
     code = [f for f in paths if re.match(r'crates/.*\.(rt|antt)$', f)]
     sources = '\n'.join(read(f) for f in code)
-    words = set(re.findall(NAME, sources)) | set(re.findall(r'\w+', sources)) | {part.split('.')[0] for f in paths for part in f.split('/')}
+    others = '\n'.join(read(f) for f in paths if re.match(r'(node|python|include|tests/bindings)/|install$', f))
+    words = set(re.findall(NAME, sources + others)) | set(re.findall(r'\w+', sources + others)) | {part.split('.')[0] for f in paths for part in f.split('/')}
     functions = set(re.findall(r'\bfn (\w+)', sources))
     crates = {name: crate for crate, name in re.findall(r'^pub use (\w+) as (\w+);', read('crates/swc_ecma_parser/src/lib.rt'), re.M)}
     help_text = subprocess.run(['rt', '--help'], stdout=subprocess.PIPE, stderr=subprocess.STDOUT, text=True).stdout
@@ -135,7 +136,7 @@ def main():
                 faults.append('%s: the ring has not %s functions' % (path, count))
     faults += code_faults('docs/CONTRIBUTING.md', texts['docs/CONTRIBUTING.md'], sources)
     faults += grammar_faults(read('crates/swc_grammar/specs/Grammar.antt'), texts['docs/GRAMMAR.md'])
-    for path, limit, size in (('README.md', 900, len(texts['README.md'].split())), ('docs', 24000, sum(len(texts[p].split()) for p in DOCS))):
+    for path, limit, size in (('README.md', 900, len(texts['README.md'].split())), ('docs', 26000, sum(len(texts[p].split()) for p in DOCS))):
         if size > limit:
             faults.append('%s has %d words, more than %d' % (path, size, limit))
     print('\n'.join(faults) or 'the documents show what is there')
