@@ -1,13 +1,14 @@
 #!/usr/bin/env python3
 """Tries the wrong answers of tests/wrong_answers: functions with the clauses of public calls of the parser, and other answers.
 
-    tests/wrong_answers.py [--libs FOLDER] [NAME ..]     none: all
+    tests/wrong_answers.py [--built | --libs FOLDER] [NAME ..]     none: all
 
 They are one crate above swc_ecma_parser, so nothing of the parser is proved again. Its files end in `.in`, as it is none of the crates of the gate.
 A function's doc comment ends with what is expected: `Refused by:` and
 the clauses, or `Not refused:` and why. An answer that has all that can be shown has a `?` in the place of the rest; then a comment in it names the clause.
 
-Without --libs, `rt lib` first proves what has changed of swc_ecma_parser and of the crates below it. FOLDER has such libraries, as NAME.rlib.
+Without an option `rt lib` first proves what has changed of swc_ecma_parser and of the crates below it. With --built its libraries are taken as `rt ci` left them, as the
+gate does. FOLDER has such libraries, as NAME.rlib.
 
 Prints a line for each function. Status 0 if all is as it is expected.
 """
@@ -54,11 +55,13 @@ def refused_by(name, lines):
 
 def main():
     parser = argparse.ArgumentParser(usage=__doc__)
+    parser.add_argument('--built', action='store_true')
     parser.add_argument('--libs', type=Path)
     parser.add_argument('names', nargs='*')
     given = parser.parse_args()
     libraries = Libraries(given.libs and given.libs.resolve())
-    libraries.build(ABOVE)
+    if not given.built:
+        libraries.build(ABOVE)
     libraries.below[CRATE.name] = [ABOVE, *libraries.below[ABOVE]]
     wanted = {name: clauses for name, clauses in expected() if not given.names or name in given.names}
     with tempfile.TemporaryDirectory(prefix='wrong-') as room:
