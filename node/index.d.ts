@@ -35,7 +35,10 @@ export interface Fault extends SyntaxError {
   raisedAt: number;
 }
 
-/** Options of acorn's `parse`. Others, as `ecmaVersion`, are passed over: what is read is ECMAScript 2025. */
+/**
+ * Options of acorn's `parse`. `ecmaVersion` is passed over: what is read is ECMAScript 2025. Others that change what is read or
+ * handed out, as `onToken`, throw a `RangeError`.
+ */
 export interface ParseOptions {
   sourceType?: 'script' | 'module' | 'commonjs';
   allowReturnOutsideFunction?: boolean;

@@ -7,6 +7,10 @@ const COMMAS = { all: 0, lists: 1, none: 2 };
 const [LOC, RANGE, COMMENTS, TOKENS] = [1, 2, 4, 8];
 const [FAULT, BAD_OPTION, OUT_OF_MEMORY, TOO_DEEP] = [1, 4, 5, 6];
 
+// Options of acorn's that change what is read or handed out, and that aren't there.
+const LACKING = ['allowAwaitOutsideFunction', 'allowImportExportEverywhere', 'allowReserved', 'allowSuperOutsideMethod', 'directSourceFile',
+  'onInsertedSemicolon', 'onToken', 'onTrailingComma', 'preserveParens', 'program', 'sourceFile'];
+
 /** What an option names, of the words that it may be. */
 function chosen(words, name, option, usual) {
   const word = option === undefined ? usual : option;
@@ -104,6 +108,8 @@ function tell(comments, onComment, locations) {
  */
 function parse(text, options = {}) {
   const { locations, ranges, onComment, levels } = options || {};
+  const lacking = LACKING.find(name => options && options[name]);
+  if (lacking) throw new RangeError(`the option ${lacking} isn't there`);
   const extras = (locations ? LOC : 0) + (ranges ? RANGE : 0) + (onComment ? COMMENTS : 0);
   const tree = revive(answered(ask('estree', text, { goal: goalOf(options || {}), extras, levels })));
   if (onComment) {

@@ -68,6 +68,8 @@ const ROWS = [
   ['a bad pattern', () => thrown(() => ecma.parse('/(/'))[0], 'SyntaxError'],
   ['a module that is a script', () => thrown(() => ecma.parse('import "a"'))[0], 'SyntaxError'],
   ['a bad option', () => thrown(() => ecma.parse('a', { sourceType: 'other' }))[0], 'RangeError'],
+  ['an option that is passed over', () => ecma.parse('', { ecmaVersion: 5 }).type, 'Program'],
+  ['an option that is lacking', () => thrown(() => ecma.parse('', { onToken: [] }))[0], 'RangeError'],
   ['what is nested', () => expression(deep('[', 150, ']')).type, 'ArrayExpression'],
   ['what is nested too deeply', () => thrown(() => ecma.parse(deep('[', 5000, ']')))[0], 'SyntaxError'],
   ['blocks that are nested', () => ecma.parse(deep('{', 3000, '}')).body.length, 1],
