@@ -1,12 +1,15 @@
 -- What one edit adds, and the rest of the text.
-use Rattle.std.proofs.Common.{◌≡◌, ℕ, ◌+◌, ◌-◌, ◌<◌, ◌≤◌, suc, length, List, [], ◌∷◌, ◌++◌, take, drop, refl, sym, ap, ◌∙◌, subst, arith}
+use Rattle.std.proofs.Common.{◌≡◌, ℕ, ◌+◌, ◌-◌, ◌<◌, ◌≤◌, suc, length, List, [], ◌∷◌, ◌++◌, take, drop, refl, sym, ap, ◌∙◌, subst, arith, ◌⊎◌, inl, inr}
 use Rattle.std.proofs.lemmas.List.{append_assoc, drop_all, take_all, length-drop}
 use Rattle.std.proofs.Math.Seq.{drop-cons}
 use Rattle.std.proofs.Math.ListN.{get_or}
 use Rattle.std.specs.List.{slice_range}
 use Rattle.std.specs.String.{string_bytes}
 use Rattle.text_edits.specs.declared.edit.Edit.{Edit}
-use Rattle.text_edits.specs.Edits.{spliced}
+use Rattle.std.specs.List.{Contains}
+use Rattle.text_edits.specs.declared.edit.BadEdit.{BadEdit}
+use Rattle.text_edits.specs.declared.edit.BadEdit.TheVariants.{Outside, Overlaps, WithinCharacter, OutOfMemory}
+use Rattle.text_edits.specs.Edits.{spliced, Wrong, WrongAt}
 
 pub spliced-cons : (text : List ℕ) (at : ℕ) (e : Edit) (es : List Edit)
     → spliced text at (e ∷ es) ≡ take (e.start - at) (drop at text) ++ (string_bytes e.text ++ spliced text e.end es)
@@ -39,3 +42,12 @@ pub slice-rest : (text rest : List ℕ) (at : ℕ) → rest ≡ slice_range text
 slice-rest text rest at is =
     let le : length (drop at text) ≤ length text - at = subst (λ m. m ≤ length text - at) (sym (length-drop at text)) (omega arith) in
     is ∙ take_all (length text - at) (drop at text) le
+
+-- what is wrong with one edit is wrong with the list
+pub wrong-of : (text : List ℕ) (es : List Edit) (at : ℕ) (e : Edit) (fault : BadEdit) → Contains es e
+    → (at ≡ 0) ⊎ ((a : Edit) × (Contains es a × (at ≡ a.end))) → WrongAt text at e fault → Wrong text es fault
+wrong-of text es at e (Outside n) has from w = (e, (has, w))
+wrong-of text es at e (Overlaps n) has (inl none) w = absurd (omega (arith, none, w))
+wrong-of text es at e (Overlaps n) has (inr before) w = (before.0, (e, (before.1.0, (has, subst (λ m. e.start < m) before.1.1 w))))
+wrong-of text es at e (WithinCharacter n) has from w = tt
+wrong-of text es at e OutOfMemory has from w = tt
