@@ -10,12 +10,12 @@ use Rattle.swc_grammar.specs.Rule.{gives, never, take, check, peek, peek_two, re
 use Rattle.swc_grammar.specs.{Scope.Scope, Names.Spelling, Clean.Out, Clean.and_then, Clean.first, Clean.hear_then, ForHead.is_semi, Tokens.tk, Tokens.is_rbrace, Tokens.is_lparen, Tokens.is_rparen, Tokens.is_colon}
 use Rattle.swc_grammar.proofs.Answers.{then-same as then-same-on}
 use Rattle.program_grammar.specs.Tree.{of_one, ended, part, Code, code, Codes, nothing, more, is_none, codes_of, place_of, list_s, none_s, mark_s, put_first, block}
-use Rattle.program_grammar.specs.Tokens.{goes_on, is_string, strict_behind, is_str, ends_list, is_else, is_finally, may_end_at, label, is_export, is_import_declaration}
+use Rattle.program_grammar.specs.Tokens.{goes_on, is_string, strict_after, is_str, ends_list, is_else, is_finally, may_end_at, label, is_export, is_import_declaration}
 use Rattle.program_grammar.specs.Symbols.{Directives, End, Item, Statement, Items, Block, Else, Await, Head, Clauses, Clause, Handlers, CatchParam, Finally, expr}
-use Rattle.program_grammar.specs.Grammar.{for_s, string_form, behind_string, st-labelled}
+use Rattle.program_grammar.specs.Grammar.{for_s, string_form, after_string, st-labelled}
 use Rattle.program_grammar.specs.Steps.{end_read, ended_by_sign}
 use Rattle.program_grammar.specs.Clean.{Choice, pick, choose, chosen, exec, part_read, run, next_is}
-use Rattle.program_grammar.specs.Frames.{Owner, braces, clause, Frame, statement as statement_frame, a_block, item, put_last, list, if_part, else_part, do_part, while_part, with_part, for_part, label_part, try_part, catch_part, finally_part, resume, goes, owned, is_module_list, closed_by, joined, if_s, while_s, with_s, label_s, try_s, catch_s, handled_s, clause_s, switch_s, behind_clauses, do_tail}
+use Rattle.program_grammar.specs.Frames.{Owner, braces, clause, Frame, statement as statement_frame, a_block, item, put_last, list, if_part, else_part, do_part, while_part, with_part, for_part, label_part, try_part, catch_part, finally_part, resume, goes, owned, is_module_list, closed_by, joined, if_s, while_s, with_s, label_s, try_s, catch_s, handled_s, clause_s, switch_s, after_clauses, do_tail}
 use Rattle.program_grammar.proofs.{Knot.Sides, Knot.knot, Fewer.run-fewer, Choices.labelled-so}
 
 pub then-some : {A : Type 0} (o : Out A) → and_then o (λ e us. Some (e, us)) ≡ o
@@ -306,7 +306,7 @@ module _ {F C K : Type 0} (hook : Hook F C K) where
   abbrev pub clauses_from : Span → Tree F C K → Codes F C K → List (Frame F C K) → Scope → List TokenAndSpan
       → Out (Code F C K)
   clauses_from s e before fs c ts =
-      and_then (run hook Clauses c ts) (λ ks us. resume hook fs c (switch_s s e (behind_clauses before ks)) us)
+      and_then (run hook Clauses c ts) (λ ks us. resume hook fs c (switch_s s e (after_clauses before ks)) us)
 
   pub step-switch : (b : Bool) (fs : List (Frame F C K)) (c : Scope) (last : Code F C K) (l : Bool) (s : Span)
       (ts : List TokenAndSpan)
@@ -322,9 +322,9 @@ module _ {F C K : Type 0} (hook : Hook F C K) where
   pub step-end-switch : (s : Span) (e : Tree F C K) (before : Codes F C K) (fs : List (Frame F C K)) (c : Scope)
       (l : Bool) (s' : Span) (ts : List TokenAndSpan)
       → clauses_from s e before fs c (tk token.RBrace l s' ∷ ts)
-      ≡ resume hook fs c (switch_s s e (behind_clauses before (list_s s' nothing))) ts
+      ≡ resume hook fs c (switch_s s e (after_clauses before (list_s s' nothing))) ts
   step-end-switch s e before fs c l s' ts =
-      ap (λ v. and_then v (λ ks us. resume hook fs c (switch_s s e (behind_clauses before ks)) us))
+      ap (λ v. and_then v (λ ks us. resume hook fs c (switch_s s e (after_clauses before ks)) us))
       (knot hook Clauses c (tk token.RBrace l s' ∷ ts))
 
   -- ---- lists
@@ -441,12 +441,12 @@ module _ {F C K : Type 0} (hook : Hook F C K) where
   pub step-directive : (m : Bool) (c : Scope) (a : TokenAndSpan) (ts : List TokenAndSpan) → is_str a.token ≡ true
       → run hook (Directives m) c (a ∷ ts)
       ≡ and_then (exec hook (run hook) None (string_head c) (a ∷ ts))
-      (λ p us. and_then (run hook (behind_string m (is_string p.0)) (strict_behind p.0 c) us)
+      (λ p us. and_then (run hook (after_string m (is_string p.0)) (strict_after p.0 c) us)
       (λ is vs. Some (put_first p.1 is, vs)))
   step-directive m c a ts h =
       knot hook (Directives m) c (a ∷ ts)
       ∙ rw (h, h) (exec-bind (string_head c)
-      (λ p. symbol (behind_string m (is_string p.0)) (strict_behind p.0 c) >>= (λ is. gives (put_first p.1 is)))
+      (λ p. symbol (after_string m (is_string p.0)) (strict_after p.0 c) >>= (λ is. gives (put_first p.1 is)))
       (a ∷ ts))
 
   pub step-no-directive : (m : Bool) (c : Scope) (ts : List TokenAndSpan) → at_token is_str (first ts) ≡ false
@@ -465,37 +465,37 @@ module _ {F C K : Type 0} (hook : Hook F C K) where
       (λ r e. rw (lt-ltb (length r.1) (suc (length ts)) (run-fewer hook Clause c (a ∷ ts) r refl e)) refl))
 
   put-clause : (before : Codes F C K) (k ks : Code F C K)
-      → behind_clauses before (put_first k ks) ≡ behind_clauses (put_last before k) ks
+      → after_clauses before (put_first k ks) ≡ after_clauses (put_last before k) ks
   put-clause before k ks = ap (λ v. list_s (place_of ks) v) (joined-last before k (codes_of ks))
 
   -- what is after the clauses, and after a clause
-  abbrev behind_switch : Span → Tree F C K → Codes F C K → List (Frame F C K) → Scope → Code F C K
+  abbrev after_switch : Span → Tree F C K → Codes F C K → List (Frame F C K) → Scope → Code F C K
       → List TokenAndSpan → Out (Code F C K)
-  behind_switch s e before fs c ks us = resume hook fs c (switch_s s e (behind_clauses before ks)) us
+  after_switch s e before fs c ks us = resume hook fs c (switch_s s e (after_clauses before ks)) us
 
-  abbrev behind_clause : Span → Tree F C K → Codes F C K → List (Frame F C K) → Scope → Code F C K
+  abbrev after_clause : Span → Tree F C K → Codes F C K → List (Frame F C K) → Scope → Code F C K
       → List TokenAndSpan → Out (Code F C K)
-  behind_clause s e before fs c k us =
+  after_clause s e before fs c k us =
       and_then (and_then (run hook Clauses c us) (λ ks vs. Some (put_first k ks, vs)))
-      (λ ks vs. behind_switch s e before fs c ks vs)
+      (λ ks vs. after_switch s e before fs c ks vs)
 
-  clauses-behind : (s : Span) (e : Tree F C K) (before : Codes F C K) (fs : List (Frame F C K)) (c : Scope)
+  clauses-after : (s : Span) (e : Tree F C K) (before : Codes F C K) (fs : List (Frame F C K)) (c : Scope)
       (k : Code F C K) (o : Out (Code F C K))
-      → and_then (and_then o (λ ks vs. Some (put_first k ks, vs))) (λ ks vs. behind_switch s e before fs c ks vs)
-      ≡ and_then (and_then o (λ ks vs. Some (switch_s s e (behind_clauses (put_last before k) ks), vs)))
+      → and_then (and_then o (λ ks vs. Some (put_first k ks, vs))) (λ ks vs. after_switch s e before fs c ks vs)
+      ≡ and_then (and_then o (λ ks vs. Some (switch_s s e (after_clauses (put_last before k) ks), vs)))
       (λ t vs. resume hook fs c t vs)
-  clauses-behind s e before fs c k None = refl
-  clauses-behind s e before fs c k (Some p) = ap (λ v. resume hook fs c (switch_s s e v) p.1) (put-clause before k p.0)
+  clauses-after s e before fs c k None = refl
+  clauses-after s e before fs c k (Some p) = ap (λ v. resume hook fs c (switch_s s e v) p.1) (put-clause before k p.0)
 
-  items-behind : (s : Span) (e : Tree F C K) (before : Codes F C K) (fs : List (Frame F C K)) (c : Scope) (s' : Span)
+  items-after : (s : Span) (e : Tree F C K) (before : Codes F C K) (fs : List (Frame F C K)) (c : Scope) (s' : Span)
       (test : Option (Tree F C K)) (o : Out (Code F C K))
       → and_then (and_then o (λ is vs. Some (clause_s s' test (codes_of is), vs)))
-      (λ k vs. behind_clause s e before fs c k vs)
+      (λ k vs. after_clause s e before fs c k vs)
       ≡ and_then (and_then o (λ is vs. owned hook (clause s e before s' test) c (codes_of is) vs))
       (λ t vs. resume hook fs c t vs)
-  items-behind s e before fs c s' test None = refl
-  items-behind s e before fs c s' test (Some p) =
-      clauses-behind s e before fs c (clause_s s' test (codes_of p.0)) (run hook Clauses c p.1)
+  items-after s e before fs c s' test None = refl
+  items-after s e before fs c s' test (Some p) =
+      clauses-after s e before fs c (clause_s s' test (codes_of p.0)) (run hook Clauses c p.1)
 
   -- a clause: its head is read, and then its statements
   clause-step : {A : Type 0} (head : Sides F C K A) (f : A → Span) (g : A → Option (Tree F C K)) (s : Span)
@@ -507,13 +507,13 @@ module _ {F C K : Type 0} (hook : Hook F C K) where
       ≡ and_then (exec hook (run hook) None head ts)
       (λ x us. resume hook (list (clause s e before (f x) (g x)) nothing ∷ fs) c last us)
   clause-step head f g s e before fs c last a ts h q =
-      ap (λ v. and_then v (λ ks us. behind_switch s e before fs c ks us)) (clauses-run c a ts h)
+      ap (λ v. and_then v (λ ks us. after_switch s e before fs c ks us)) (clauses-run c a ts h)
       ∙ then-assoc (run hook Clause c (a ∷ ts)) _ _
-      ∙ ap (λ v. and_then v (λ k us. behind_clause s e before fs c k us))
+      ∙ ap (λ v. and_then v (λ k us. after_clause s e before fs c k us))
       (q ∙ exec-bind head (λ x. symbol (Items false) c >>= (λ is. gives (clause_s (f x) (g x) (codes_of is)))) ts)
       ∙ then-assoc (exec hook (run hook) None head ts) _ _
       ∙ then-same (exec hook (run hook) None head ts) _ _
-      (λ x us. items-behind s e before fs c (f x) (g x) (run hook (Items false) c us))
+      (λ x us. items-after s e before fs c (f x) (g x) (run hook (Items false) c us))
 
   -- `case` and `default`
   abbrev pub case_head : Scope → Span → Sides F C K (Tree F C K × Span)

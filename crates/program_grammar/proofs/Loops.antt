@@ -15,7 +15,7 @@ use Rattle.program_grammar.specs.Symbols.{Symbol, Side, Answer, Statement, End, 
 use Rattle.program_grammar.specs.Grammar.{Production, st-function, st-class, st-expression, st-empty, st-break, st-continue, st-return, st-throw, st-debugger}
 use Rattle.program_grammar.specs.Clean.{Choice, pick, choose, chosen, statement, exec, run, rank}
 use Rattle.program_grammar.specs.Frames.{Frame, statement as statement_frame, resume, put_last, joined}
-use Rattle.program_grammar.specs.Loops.{listed, variables_s, break_side, continue_side, return_side, throw_side, debugger_side, expression_side, function_side, class_side, declarators_from, declarators_behind, closed_from}
+use Rattle.program_grammar.specs.Loops.{listed, variables_s, break_side, continue_side, return_side, throw_side, debugger_side, expression_side, function_side, class_side, declarators_from, declarators_after, closed_from}
 use Rattle.program_grammar.proofs.{Knot.knot, Fewer.run-fewer, Choices.expression-so, Choices.function-so, Choices.function-alone, Frames.then-some, Frames.then-assoc, Frames.then-same, Frames.joined-nothing, Frames.joined-last}
 
 module _ {F C K : Type 0} (hook : Hook F C K) where
@@ -128,7 +128,7 @@ module _ {F C K : Type 0} (hook : Hook F C K) where
 
   pub step-declarator : (k : VariableKind) (before : Codes F C K) (c : Scope) (ts : List TokenAndSpan)
       → declarators_from hook k before c ts
-      ≡ and_then (run hook (Declarator k) c ts) (λ d us. declarators_behind hook k (put_last before d) c us)
+      ≡ and_then (run hook (Declarator k) c ts) (λ d us. declarators_after hook k (put_last before d) c us)
   step-declarator k before c ts =
       ap (λ v. and_then v (λ ds us. Some (listed (joined before (codes_of ds)), us))) (declarators-run k c ts)
       ∙ then-assoc (run hook (Declarator k) c ts) _ _
@@ -138,7 +138,7 @@ module _ {F C K : Type 0} (hook : Hook F C K) where
       (λ ds vs. ap (λ v. Some (listed v, vs)) (joined-last hook before d (codes_of ds))))
 
   pub step-comma : (k : VariableKind) (before : Codes F C K) (c : Scope) (l : Bool) (s : Span) (ts : List TokenAndSpan)
-      → declarators_behind hook k before c (tk token.Comma l s ∷ ts) ≡ declarators_from hook k before c ts
+      → declarators_after hook k before c (tk token.Comma l s ∷ ts) ≡ declarators_from hook k before c ts
   step-comma k before c l s ts =
       ap (λ v. and_then v (λ ds us. Some (listed (joined before (codes_of ds)), us)))
       (knot hook (DeclaratorsTail k) c (tk token.Comma l s ∷ ts) ∙ then-some (run hook (Declarators k) c ts))
@@ -150,7 +150,7 @@ module _ {F C K : Type 0} (hook : Hook F C K) where
 
   pub step-no-comma : (k : VariableKind) (before : Codes F C K) (c : Scope) (ts : List TokenAndSpan)
       → at_token is_comma (first ts) ≡ false
-      → declarators_behind hook k before c ts ≡ Some (listed before, ts)
+      → declarators_after hook k before c ts ≡ Some (listed before, ts)
   step-no-comma k before c ts h =
       rw (no-comma-run k c ts h) (ap (λ v. Some (listed v, ts)) (joined-nothing hook before))
 

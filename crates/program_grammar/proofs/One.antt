@@ -29,17 +29,17 @@ Ordered n [] = Unit {0}
 Ordered n (t ∷ ts) = (n ≤ t.span.lo.0) × (t.span.lo.0 < t.span.hi.0) × Ordered t.span.hi.0 ts
 
 -- the end of the last of some tokens is after what is before them
-end-behind : (n : ℕ) (t : TokenAndSpan) (o after : List TokenAndSpan) → Ordered n ((t ∷ o) ++ after)
+end-after : (n : ℕ) (t : TokenAndSpan) (o after : List TokenAndSpan) → Ordered n ((t ∷ o) ++ after)
     → n < (last_of t o).span.hi.0
-end-behind n t [] after (a, b, c) = omega arith
-end-behind n t (u ∷ o) after (a, b, c) = let k = end-behind t.span.hi.0 u o after c in omega arith
+end-after n t [] after (a, b, c) = omega arith
+end-after n t (u ∷ o) after (a, b, c) = let k = end-after t.span.hi.0 u o after c in omega arith
 
 -- and its beginning isn't before it
-begin-behind : (n : ℕ) (t : TokenAndSpan) (before o after : List TokenAndSpan) → Ordered n (before ++ (t ∷ o) ++ after)
+begin-after : (n : ℕ) (t : TokenAndSpan) (before o after : List TokenAndSpan) → Ordered n (before ++ (t ∷ o) ++ after)
     → n ≤ t.span.lo.0
-begin-behind n t [] o after (a, b, c) = a
-begin-behind n t (u ∷ before) o after (a, b, c) =
-    let k = begin-behind u.span.hi.0 t before o after c in omega arith
+begin-after n t [] o after (a, b, c) = a
+begin-after n t (u ∷ before) o after (a, b, c) =
+    let k = begin-after u.span.hi.0 t before o after c in omega arith
 
 heads-same : (t u : TokenAndSpan) (ts us : List TokenAndSpan) → (t ∷ ts) ≡ (u ∷ us) → (t ≡ u) × (ts ≡ us)
 heads-same t u ts us e = (cc, cc)
@@ -48,9 +48,9 @@ same-end : (n : ℕ) (t : TokenAndSpan) (o o' after after' : List TokenAndSpan) 
     → o ++ after ≡ o' ++ after' → (last_of t o).span.hi.0 ≡ (last_of t o').span.hi.0 → o ≡ o'
 same-end n t [] [] after after' k e h = refl
 same-end n t [] (u ∷ o') after after' (a, b, c) e h =
-    let l = end-behind t.span.hi.0 u o' after' (subst (λ v. Ordered t.span.hi.0 v) e c) in absurd (omega arith)
+    let l = end-after t.span.hi.0 u o' after' (subst (λ v. Ordered t.span.hi.0 v) e c) in absurd (omega arith)
 same-end n t (u ∷ o) [] after after' (a, b, c) e h =
-    let l = end-behind t.span.hi.0 u o after c in absurd (omega arith)
+    let l = end-after t.span.hi.0 u o after c in absurd (omega arith)
 same-end n t (u ∷ o) (u' ∷ o') after after' (a, b, c) e h =
     let (p, q) = heads-same u u' (o ++ after) (o' ++ after') e in
     let r = same-end t.span.hi.0 u o o' after after' c q (h ∙ ap (λ v. (last_of v o').span.hi.0) (sym_path p)) in
@@ -70,13 +70,13 @@ same-own n (u ∷ before) [] (t ∷ o) (t' ∷ o') after after' (a, b, c) e h s 
     let (p, q) = heads-same u t' (before ++ (t ∷ o) ++ after) (o' ++ after') e in
     let lo = ap (λ v. v.lo.0) h in
     let l = ap (λ v. v.span.lo.0) p in
-    let g = begin-behind u.span.hi.0 t before o after c in absurd (omega arith)
+    let g = begin-after u.span.hi.0 t before o after c in absurd (omega arith)
 same-own n [] (u ∷ before') (t ∷ o) (t' ∷ o') after after' k e h s s' =
     let (p, q) = heads-same t u (o ++ after) (before' ++ (t' ∷ o') ++ after') e in
     let (a, b, c) = subst (λ v. Ordered n v) e k in
     let lo = ap (λ v. v.lo.0) h in
     let l = ap (λ v. v.span.lo.0) p in
-    let g = begin-behind u.span.hi.0 t' before' o' after' c in absurd (omega arith)
+    let g = begin-after u.span.hi.0 t' before' o' after' c in absurd (omega arith)
 same-own n (u ∷ before) (u' ∷ before') (t ∷ o) (t' ∷ o') after after' (a, b, c) e h s s' =
     let (p, q) = heads-same u u' (before ++ (t ∷ o) ++ after) (before' ++ (t' ∷ o') ++ after') e in
     same-own u.span.hi.0 before before' (t ∷ o) (t' ∷ o') after after' c q h s s'

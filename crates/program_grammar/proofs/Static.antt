@@ -11,7 +11,7 @@ use Rattle.swc_grammar.specs.{Symbols.Symbol as ExprSymbol, Symbols.Expr, Symbol
 use Rattle.program_grammar.specs.Tokens.{begins_anew, begins_item, ends_value, goes_on, may_end_at, string_of, export_name_of, label, is_var, is_let, is_const, is_case, is_default, is_let_declaration, is_renamed}
 use Rattle.program_grammar.specs.Tree.{Code, is_target}
 use Rattle.program_grammar.specs.Symbols.{Symbol, Side, Each, Three}
-use Rattle.program_grammar.specs.Grammar.{behind_string, behind_head, head_code, name_scope, Production, string-first, no-string, items-more, item-statement, st-block, declarators, value-some, st-expression, end-semicolon, end-left-out, st-if, st-do, st-while, head-declared, head-empty, head-other, head-var, head-let, head-const, head-declarator, head-value-some, each-in, each-of, three-parts, maybe-some, label-some, returned-some, st-with, st-switch, clauses-more, clause-case, clause-default, st-labelled, st-throw, function-code, function-name, static-block, class-name, extends-some, members-more, one-member, member-keyed, accessor-other, member-private-key, member-field, item-import, import-alone, import-names, import-first, import-first-more, import-star, import-list, import-names-more, import-name, import-renamed, attributes-more, one-attribute, export-declared, default-expression, export-names-more, one-export, as-some, from-some}
+use Rattle.program_grammar.specs.Grammar.{after_string, after_head, head_code, name_scope, Production, string-first, no-string, items-more, item-statement, st-block, declarators, value-some, st-expression, end-semicolon, end-left-out, st-if, st-do, st-while, head-declared, head-empty, head-other, head-var, head-let, head-const, head-declarator, head-value-some, each-in, each-of, three-parts, maybe-some, label-some, returned-some, st-with, st-switch, clauses-more, clause-case, clause-default, st-labelled, st-throw, function-code, function-name, static-block, class-name, extends-some, members-more, one-member, member-keyed, accessor-other, member-private-key, member-field, item-import, import-alone, import-names, import-first, import-first-more, import-star, import-list, import-names-more, import-name, import-renamed, attributes-more, one-attribute, export-declared, default-expression, export-names-more, one-export, as-some, from-some}
 use Rattle.program_grammar.specs.Clean.{rank}
 use Rattle.program_grammar.proofs.Knot.{Sides}
 use Rattle.program_grammar.proofs.Guard.{When, Unless, takes, is_open, ends, begins_so, starts, Ended, ended-hard, ended-soft, Unlinked, guard, Halting, by-token, by-guard, Ranked, Taking, given-halts, given-guard}
@@ -185,18 +185,18 @@ head-ends : (b a : Bool) (t : TokenAndSpan) (us : List TokenAndSpan)
 head-ends true a t us h = head-stop (either-so (is_each t) _ h)
 head-ends false a t us h = head-stop (or-so (is_each t) _ (either-so (is_semi t.token) _ h))
 
-closed-string : (X : Type 0) (m b : Bool) → When (is_open (behind_string m b)) X
+closed-string : (X : Type 0) (m b : Bool) → When (is_open (after_string m b)) X
 closed-string X m true = tt
 closed-string X m false = tt
 
-closed-head : {F C K : Type 0} (X : Type 0) (a : Bool) (d : Code F C K) → When (is_open (behind_head a d)) X
+closed-head : {F C K : Type 0} (X : Type 0) (a : Bool) (d : Code F C K) → When (is_open (after_head a d)) X
 closed-head X a d = by-test (is_target d)
   where
     by-test : (b : Bool) → When (is_open (if b then Each a else Three a)) X
     by-test true = tt
     by-test false = tt
 
-taken-head : {F C K : Type 0} (X : Type 0) (a : Bool) (d : Code F C K) → Unless (takes (behind_head a d)) X
+taken-head : {F C K : Type 0} (X : Type 0) (a : Bool) (d : Code F C K) → Unless (takes (after_head a d)) X
 taken-head X a d = by-test (is_target d)
   where
     by-test : (b : Bool) → Unless (takes (if b then Each a else Three a)) X

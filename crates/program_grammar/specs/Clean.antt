@@ -10,7 +10,7 @@ use Rattle.swc_grammar.specs.{Symbols.Expr, Symbols.Assign, Symbols.Lhs, Symbols
 use Rattle.swc_grammar.specs.{Scope.Scope, Tokens.is_lparen, Tokens.is_rparen, Tokens.is_rbrace, Tokens.is_comma, Tokens.is_equals, Tokens.is_star, Tokens.is_in, Tokens.is_await}
 use Rattle.program_grammar.specs.Tree.{MethodKind}
 use Rattle.program_grammar.specs.Tokens.{is_if, is_else, is_do, is_while, is_for, is_with, is_continue, is_break, is_return, is_throw, is_debugger, is_switch, is_case, is_default, is_try, is_catch, is_finally, is_var, is_const, is_extends, is_export, is_as, is_from, is_str, ends_list, ends_here, is_async_function, is_let_declaration, is_let_here, is_labelled, is_import_declaration, is_renamed, Getter, is_modifier_here}
-use Rattle.program_grammar.specs.Symbols.{Symbol, Answer, Part, Read_as, Side, Directives, Items, Item, Statement, Block, End, FieldEnd, DoEnd, Else, Declarators, DeclaratorsTail, Declarator, Value, Await, Head, HeadDeclaration, HeadDeclarator, HeadValue, Each, Three, Maybe, Label, Returned, Clauses, Clause, Handlers, CatchParam, Finally, Function, IsAsync, Star, FunctionName, FunctionBlock, StaticBlock, Class, ClassName, Heritage, Members, Member, MemberBehind, Modified, Accessor, MemberKey, MemberValue, ImportClause, ImportBehind, ImportNames, ImportNamesTail, ImportName, Attributes, AttributeList, AttributesTail, Attribute, Export, ExportNames, ExportNamesTail, ExportName, As, From, DefaultExport, expr, assign, heritage, pat, params, key, head, function, class, block}
+use Rattle.program_grammar.specs.Symbols.{Symbol, Answer, Part, Read_as, Side, Directives, Items, Item, Statement, Block, End, FieldEnd, DoEnd, Else, Declarators, DeclaratorsTail, Declarator, Value, Await, Head, HeadDeclaration, HeadDeclarator, HeadValue, Each, Three, Maybe, Label, Returned, Clauses, Clause, Handlers, CatchParam, Finally, Function, IsAsync, Star, FunctionName, FunctionBlock, StaticBlock, Class, ClassName, Heritage, Members, Member, MemberAfter, Modified, Accessor, MemberKey, MemberValue, ImportClause, ImportAfter, ImportNames, ImportNamesTail, ImportName, Attributes, AttributeList, AttributesTail, Attribute, Export, ExportNames, ExportNamesTail, ExportName, As, From, DefaultExport, expr, assign, heritage, pat, params, key, head, function, class, block}
 use Rattle.program_grammar.specs.Reads.{done, all_done, function_named, class_named}
 use Rattle.program_grammar.specs.Grammar.{Production, string-first, no-string, items-end, items-more, item-statement, block-statements, st-block, st-var, st-let, st-const, declarators, declarators-more, declarators-end, one-declarator, value-some, value-none, st-empty, st-expression, end-semicolon, end-left-out, field-end-semicolon, field-end-left-out, do-end-semicolon, do-end-left-out, st-if, else-some, else-none, st-do, st-while, st-for, for-await, for-plain, head-declared, head-empty, head-other, head-var, head-let, head-const, head-declarator, head-value-none, head-value-some, each-in, each-of, three-parts, maybe-none, maybe-some, st-continue, st-break, label-none, label-some, st-return, returned-none, returned-some, st-with, st-switch, clauses-end, clauses-more, clause-case, clause-default, st-labelled, st-throw, st-try, handlers-catch, handlers-finally, catch-param, catch-alone, finally-some, finally-none, st-debugger, st-function, st-class, function-code, async-some, async-none, star-some, star-none, function-name, function-unnamed, function-block, static-block, class-code, class-name, class-unnamed, extends-some, extends-none, members-end, members-semicolon, members-more, one-member, modifier-some, modifier-none, member-static-block, member-keyed, accessor-none, accessor-get, accessor-other, member-private-key, member-key, member-method, member-field, item-import, import-alone, import-names, import-first, import-first-more, import-star, import-list, import-names-end, import-names-more, import-tail-end, import-tail-more, import-name, import-renamed, attributes-some, attributes-none, attributes-end, attributes-more, attributes-tail-end, attributes-tail-more, one-attribute, item-export, export-star, export-list, export-default-item, export-declared, default-function, default-class, default-expression, export-names-end, export-names-more, export-tail-end, export-tail-more, one-export, as-some, as-none, from-some, from-none}
 
@@ -51,7 +51,7 @@ rank (Head a) = 5
 rank (Declarators k) = 5
 rank Members = 5
 rank Member = 4
-rank (MemberBehind b) = 3
+rank (MemberAfter b) = 3
 rank StaticBlock = 3
 rank Function = 3
 rank ImportClause = 3
@@ -62,7 +62,7 @@ rank Clauses = 3
 rank (Accessor b) = 2
 rank (MemberValue k a g p) = 2
 rank (HeadValue k b) = 2
-rank ImportBehind = 2
+rank ImportAfter = 2
 rank ExportName = 2
 rank Export = 7
 rank s = 1
@@ -73,9 +73,9 @@ allowed None n = true
 allowed (Some m) n = nat_lt n m
 
 -- the same after a symbol, which took tokens or none
-abbrev pub behind : Option ℕ → List TokenAndSpan → List TokenAndSpan → Option ℕ
-behind None us ts = None
-behind (Some m) us ts = if nat_lt (length us) (length ts) then None else Some m
+abbrev pub rank_after : Option ℕ → List TokenAndSpan → List TokenAndSpan → Option ℕ
+rank_after None us ts = None
+rank_after (Some m) us ts = if nat_lt (length us) (length ts) then None else Some m
 
 abbrev pub Runs : (F C K : Type 0) → Type 0
 Runs F C K = (s : Symbol) → Scope → List TokenAndSpan → Out (Answer F C K s)
@@ -91,7 +91,7 @@ exec hook run g (check b r) ts = if b then exec hook run g r ts else None
 exec hook run g (peek p r) ts = if sees p ts then None else exec hook run g r ts
 exec hook run g (peek_two p r) ts = if sees_two p ts then None else exec hook run g r ts
 exec hook run g (read s c f) ts =
-    if allowed g (rank s) then and_then (run s c ts) (λ e us. exec hook run (behind g us ts) (f e) us) else None
+    if allowed g (rank s) then and_then (run s c ts) (λ e us. exec hook run (rank_after g us ts) (f e) us) else None
 exec hook run g (hear p c f) ts = hear_then (part_read hook p c ts) ts (λ v s us. exec hook run None (f v s) us)
 
 -- ---- the choices
@@ -174,9 +174,9 @@ module _ {F C K : Type 0} where
   field_if k false false true = pick member-field
   field_if k a g p = no_choice
 
-  abbrev pub member_behind : (b : Bool) {c : Scope} → List TokenAndSpan → Choice F C K (MemberBehind b) c
-  member_behind true ts = either (at_token is_brace (first ts)) member-static-block member-keyed
-  member_behind false ts = pick member-keyed
+  abbrev pub member_after : (b : Bool) {c : Scope} → List TokenAndSpan → Choice F C K (MemberAfter b) c
+  member_after true ts = either (at_token is_brace (first ts)) member-static-block member-keyed
+  member_after false ts = pick member-keyed
 
   abbrev pub accessor : (b : Bool) {c : Scope} → List TokenAndSpan → Choice F C K (Accessor b) c
   accessor false ts = pick accessor-none
@@ -250,14 +250,14 @@ module _ {F C K : Type 0} where
       if at_token is_rbrace (first ts) then pick members-end else
       either (at_token is_semi (first ts)) members-semicolon members-more
   choose Member c ts = pick one-member
-  choose (MemberBehind b) c ts = member_behind b ts
+  choose (MemberAfter b) c ts = member_after b ts
   choose (Modified m) c ts = either (sees_two (is_modifier_here m) ts) modifier-some modifier-none
   choose (Accessor b) c ts = accessor b ts
   choose MemberKey c ts = either (at_token is_hash (first ts)) member-private-key member-key
   choose (MemberValue k a g p) c ts =
       if at_token is_lparen (first ts) then pick member-method else field_if k a g p
   choose ImportClause c ts = import_clause ts
-  choose ImportBehind c ts = either (at_token is_star (first ts)) import-star import-list
+  choose ImportAfter c ts = either (at_token is_star (first ts)) import-star import-list
   choose ImportNames c ts = either (at_token is_rbrace (first ts)) import-names-end import-names-more
   choose ImportNamesTail c ts = either (at_token is_rbrace (first ts)) import-tail-end import-tail-more
   choose ImportName c ts = either (sees_two is_renamed ts) import-renamed import-name

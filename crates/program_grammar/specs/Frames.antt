@@ -108,8 +108,8 @@ closed_by s ts [] = None
 closed_by s ts (a ∷ us) = if is_rbrace a.token then Some (code block (to s a.span) ts, us) else None
 
 -- clauses after those of a `switch` that were read
-abbrev pub behind_clauses : {F C K : Type 0} → Codes F C K → Code F C K → Code F C K
-behind_clauses before ks = list_s (place_of ks) (joined before (codes_of ks))
+abbrev pub after_clauses : {F C K : Type 0} → Codes F C K → Code F C K → Code F C K
+after_clauses before ks = list_s (place_of ks) (joined before (codes_of ks))
 
 module _ {F C K : Type 0} (hook : Hook F C K) where
   -- after the items of a list
@@ -118,7 +118,7 @@ module _ {F C K : Type 0} (hook : Hook F C K) where
   owned (braces s) c is us = closed_by s is us
   owned (clause s e before s' test) c is us =
       and_then (run hook Clauses c us)
-      (λ ks vs. Some (switch_s s e (behind_clauses (put_last before (clause_s s' test is)) ks), vs))
+      (λ ks vs. Some (switch_s s e (after_clauses (put_last before (clause_s s' test is)) ks), vs))
 
   abbrev pub is_module_list : Owner F C K → Bool
   is_module_list (whole m) = m

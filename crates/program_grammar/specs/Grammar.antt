@@ -14,13 +14,13 @@ use Rattle.swc_grammar.specs.Parts.{any_name, binding}
 use Rattle.swc_grammar.specs.{Arrows.is_of, ForHead.ForHead, ForHead.for_target, ForHead.for_expr, ForHead.is_semi}
 use Rattle.swc_grammar.specs.Tokens.{is_lparen, is_rparen, is_rbrace, is_comma, is_colon, is_import, is_equals, is_star, is_in, is_await}
 use Rattle.program_grammar.specs.Tree.{Form, list, Code, code, part, Codes, nothing, more, none_s, mark_s, list_s, place_of, codes_of, is_none, is_target, ended, ended_by, put_first, of_one, of_two, of_three, parts, VariableKind, Var, Let, Const, MethodKind, Constructor, Method, Get, Set, string, private_name, block as block_form, empty, expression, directive, debugger, if_else, do_while, while, for_parts, for_in, for_of, continue, break, return, with, switch, case, default, labelled, throw, try, catch, variables, declarator, target, fun, class as class_form, body, function as function_form, class_body, member, method, field, static_block as static_form, import, import_default, import_namespace, import_named, attribute, export_named, export_name, export_all, export_declaration, export_default}
-use Rattle.program_grammar.specs.Tokens.{is_if, is_else, is_do, is_while, is_for, is_with, is_continue, is_break, is_return, is_throw, is_debugger, is_switch, is_case, is_default, is_try, is_catch, is_finally, is_var, is_let, is_const, is_extends, is_export, is_as, is_from, is_str, ends_list, may_end_at, may_end_member, ends_value, ends_here, goes_on, is_async_function, is_let_declaration, is_let_here, begins_other, begins_other_two, is_import_declaration, is_renamed, label, string_of, name_s, export_name_of, is_string, strict_behind, is_name, Modifier, Static, Async, Getter, Setter, is_modifier, is_modifier_here}
-use Rattle.program_grammar.specs.Symbols.{Symbol, Side, Directives, Items, Item, Statement, Block, End, FieldEnd, DoEnd, Else, Declarators, DeclaratorsTail, Declarator, Value, Await, Head, HeadDeclaration, HeadDeclarator, HeadValue, Each, Three, Maybe, Label, Returned, Clauses, Clause, Handlers, CatchParam, Finally, Function, IsAsync, Star, FunctionName, FunctionBlock, StaticBlock, Class, ClassName, Heritage, Members, Member, MemberBehind, Modified, Accessor, MemberKey, MemberValue, ImportClause, ImportBehind, ImportNames, ImportNamesTail, ImportName, Attributes, AttributeList, AttributesTail, Attribute, Export, ExportNames, ExportNamesTail, ExportName, As, From, DefaultExport, expr, assign, heritage, pat, params, key, head, function, class, block}
+use Rattle.program_grammar.specs.Tokens.{is_if, is_else, is_do, is_while, is_for, is_with, is_continue, is_break, is_return, is_throw, is_debugger, is_switch, is_case, is_default, is_try, is_catch, is_finally, is_var, is_let, is_const, is_extends, is_export, is_as, is_from, is_str, ends_list, may_end_at, may_end_member, ends_value, ends_here, goes_on, is_async_function, is_let_declaration, is_let_here, begins_other, begins_other_two, is_import_declaration, is_renamed, label, string_of, name_s, export_name_of, is_string, strict_after, is_name, Modifier, Static, Async, Getter, Setter, is_modifier, is_modifier_here}
+use Rattle.program_grammar.specs.Symbols.{Symbol, Side, Directives, Items, Item, Statement, Block, End, FieldEnd, DoEnd, Else, Declarators, DeclaratorsTail, Declarator, Value, Await, Head, HeadDeclaration, HeadDeclarator, HeadValue, Each, Three, Maybe, Label, Returned, Clauses, Clause, Handlers, CatchParam, Finally, Function, IsAsync, Star, FunctionName, FunctionBlock, StaticBlock, Class, ClassName, Heritage, Members, Member, MemberAfter, Modified, Accessor, MemberKey, MemberValue, ImportClause, ImportAfter, ImportNames, ImportNamesTail, ImportName, Attributes, AttributeList, AttributesTail, Attribute, Export, ExportNames, ExportNamesTail, ExportName, As, From, DefaultExport, expr, assign, heritage, pat, params, key, head, function, class, block}
 
 -- what follows a string at the beginning of a program: more directives, or items, after one that is no directive
-abbrev pub behind_string : Bool → Bool → Symbol
-behind_string m true = Directives m
-behind_string m false = Items m
+abbrev pub after_string : Bool → Bool → Symbol
+after_string m true = Directives m
+after_string m false = Items m
 
 -- ---- what productions give
 
@@ -112,8 +112,8 @@ module _ {F C K : Type 0} where
   is_declaration (code (class_form v) s ts) = true
   is_declaration t = false
 
-abbrev pub behind_head : {F C K : Type 0} → Bool → Code F C K → Symbol
-behind_head a d = if is_target d then Each a else Three a
+abbrev pub after_head : {F C K : Type 0} → Bool → Code F C K → Symbol
+after_head a d = if is_target d then Each a else Three a
 
 abbrev pub name_scope : Scope → Scope
 name_scope c = in_context (λ x. record x { in_async = false; in_generator = false; in_static_block = false }) c
@@ -128,7 +128,7 @@ pub data Production {F C K : Type 0} : (s : Symbol) → Scope → Side F C K s �
     (e, s) ← other expr c
     ahead (goes_on c e)
     z ← symbol End c
-    is ← symbol (behind_string m (is_string e)) (strict_behind e c)
+    is ← symbol (after_string m (is_string e)) (strict_after e c)
     gives (put_first (of_one (string_form (is_string e)) (ended s z) (part e)) is))
   no-string : {c : Scope} {m : Bool} → Production (Directives m) c (do
     ahead (λ t. is_str t.token)
@@ -274,7 +274,7 @@ pub data Production {F C K : Type 0} : (s : Symbol) → Scope → Side F C K s �
     gives none_s)
   head-declared : {c : Scope} {a : Bool} → Production (Head a) c (do
     d ← symbol HeadDeclaration (no_in c)
-    r ← symbol (behind_head a d) c
+    r ← symbol (after_head a d) c
     gives (head_s d r))
   head-empty : {c : Scope} {a : Bool} → Production (Head a) c (do
     ahead (λ t. not (is_semi t.token))
@@ -284,7 +284,7 @@ pub data Production {F C K : Type 0} : (s : Symbol) → Scope → Side F C K s �
     ahead (λ t. is_semi t.token || (is_var t.token || is_const t.token))
     ahead_two is_let_declaration
     (h, s) ← other (head a) c
-    r ← symbol (behind_head a (head_code h)) c
+    r ← symbol (after_head a (head_code h)) c
     gives (head_s (head_code h) r))
   head-var : {c : Scope} → Production HeadDeclaration c (do
     s ← token is_var
@@ -534,7 +534,7 @@ pub data Production {F C K : Type 0} : (s : Symbol) → Scope → Side F C K s �
     gives (put_first m ms))
   one-member : {c : Scope} → Production Member c (do
     w ← symbol (Modified Static) c
-    m ← symbol (MemberBehind (not (is_none w))) c
+    m ← symbol (MemberAfter (not (is_none w))) c
     gives (of_one (member (not (is_none w))) (to (begun w (place_of m)) (place_of m)) m))
   -- `static`, `async`, `get` and `set`, where they are no keys
   modifier-some : {c : Scope} {m : Modifier} → Production (Modified m) c (do
@@ -544,11 +544,11 @@ pub data Production {F C K : Type 0} : (s : Symbol) → Scope → Side F C K s �
   modifier-none : {c : Scope} {m : Modifier} → Production (Modified m) c (do
     ahead_two (is_modifier_here m)
     gives none_s)
-  member-static-block : {c : Scope} → Production (MemberBehind true) c (do
+  member-static-block : {c : Scope} → Production (MemberAfter true) c (do
     ahead (λ t. not (is_brace t.token))
     (b, s) ← other block (in_context static_context c)
     gives (of_one static_form s (code (body b) s nothing)))
-  member-keyed : {c : Scope} {b : Bool} → Production (MemberBehind b) c (do
+  member-keyed : {c : Scope} {b : Bool} → Production (MemberAfter b) c (do
     ahead (λ t. b && is_brace t.token)
     a ← symbol (Modified Async) c
     g ← symbol Star c
@@ -598,7 +598,7 @@ pub data Production {F C K : Type 0} : (s : Symbol) → Scope → Side F C K s �
     ahead (λ t. not (is_str t.token))
     gives none_s)
   import-names : {c : Scope} → Production ImportClause c (do
-    ns ← symbol ImportBehind c
+    ns ← symbol ImportAfter c
     token is_from
     gives ns)
   import-first : {c : Scope} → Production ImportClause c (do
@@ -609,15 +609,15 @@ pub data Production {F C K : Type 0} : (s : Symbol) → Scope → Side F C K s �
   import-first-more : {c : Scope} → Production ImportClause c (do
     n ← one (binding c)
     token is_comma
-    ns ← symbol ImportBehind c
+    ns ← symbol ImportAfter c
     token is_from
     gives (put_first (of_one import_default n.at (name_s n)) ns))
-  import-star : {c : Scope} → Production ImportBehind c (do
+  import-star : {c : Scope} → Production ImportAfter c (do
     s ← token is_star
     token is_as
     n ← one (binding c)
     gives (list_s (to s n.at) (more (of_one import_namespace (to s n.at) (name_s n)) nothing)))
-  import-list : {c : Scope} → Production ImportBehind c (do
+  import-list : {c : Scope} → Production ImportAfter c (do
     token is_brace
     symbol ImportNames c)
   import-names-end : {c : Scope} → Production ImportNames c (do

@@ -81,8 +81,8 @@ module _ {F C K : Type 0} (hook : Hook F C K) where
   declarators_from k before c ts =
       and_then (run hook (Declarators k) c ts) (λ ds us. Some (listed (joined before (codes_of ds)), us))
 
-  abbrev pub declarators_behind : VariableKind → Codes F C K → Scope → List TokenAndSpan → Out (Code F C K)
-  declarators_behind k before c ts =
+  abbrev pub declarators_after : VariableKind → Codes F C K → Scope → List TokenAndSpan → Out (Code F C K)
+  declarators_after k before c ts =
       and_then (run hook (DeclaratorsTail k) c ts) (λ ds us. Some (listed (joined before (codes_of ds)), us))
 
   -- a list that a brace closes, as the symbol reads the rest of it: names that are imported or exported, attributes,

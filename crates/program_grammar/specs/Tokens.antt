@@ -277,8 +277,8 @@ is_use_strict t = false
 abbrev pub make_strict : Context → Context
 make_strict c = record c { strict = true }
 
-abbrev pub strict_behind : {F C K : Type 0} → Tree F C K → Scope → Scope
-strict_behind e c = if is_use_strict e then in_context make_strict c else c
+abbrev pub strict_after : {F C K : Type 0} → Tree F C K → Scope → Scope
+strict_after e c = if is_use_strict e then in_context make_strict c else c
 
 -- whether a pattern is a name
 abbrev pub is_name : {F C K : Type 0} → Tree F C K → Bool
