@@ -69,13 +69,11 @@ impl<'a> Place<'a> {
     /// The line and the column of a place, both counted from 1, the column in UTF-16 units.
     pub fn at(&self, at: BytePos) -> (usize, usize) {
         let found = self.lines.position(at.0 as usize);
-        let is_marked = self.has_mark && found.line == 1 && found.units > 0;
-        let column = if is_marked {
-            found.units
-        } else {
-            found.units.saturating_add(1)
-        };
-        (found.line, column)
+        let is_marked = self.has_mark && found.line == 1 && found.column > 1;
+        (
+            found.line,
+            found.column.saturating_sub(usize::from(is_marked)),
+        )
     }
 
     /// How many UTF-16 units are before a place.

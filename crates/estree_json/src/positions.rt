@@ -30,7 +30,7 @@ impl<'a> Positions<'a> {
         match &self.lines {
             Some(lines) => {
                 let found = lines.position(at.0 as usize);
-                (found.line, found.units)
+                (found.line, found.column.saturating_sub(1))
             }
             None => (1, at.0 as usize),
         }

@@ -192,14 +192,6 @@ headline-in {sure = sure} {hook = hook} {s = s} {tree = tree} {ts = ts} {read = 
     → Headline sure hook s tree v.context v.syntax ts read nodes recorded in
     subst P is (told ts) lists
 
--- memory ran out
-pub headline-lost : {N F C K : Type 0} {fg : Ghosts F} {cg : Ghosts C} {kg : Ghosts K} {sure : Bool} {hook : Hook F C K}
-    {s : Symbol} {tree : Nodes F C K fg cg kg → N → Tree F C K}
-    {c : Context} {x : Syntax} {ts : List TokenAndSpan} {nodes : Nodes F C K fg cg kg} {recorded : List Error}
-    (e : Error) → e.kind ≡ OutOfMemory
-    → Headline sure hook s tree c x ts (Err e) nodes recorded
-headline-lost e m = record { sound = tt; one_tree = tt; complete = λ y t d. m }
-
 none-added : {es fs gs : List Error} → Keeps es fs → Keeps fs gs → gs ≡ es → fs ≡ es
 none-added {es} {fs} {gs} h k e =
     let a = ap length h.added in

@@ -1,40 +1,50 @@
-// A text, read as one expression, or as one binding pattern.
-ghost use Rattle.std.specs.Prelude.{◌≡◌, true, false, [], string_bytes, IfOk};
-ghost use Rattle.swc_lexer.specs.Inputs.{coming, new_state, text_state};
+// A text, or a part of one, read as one expression or as one binding pattern.
+ghost use Rattle.std.specs.Prelude.{◌≡◌, ◌≤◌, ◌↔◌, true, false, [], length, take, IfOk, IsSome, IfSome};
 ghost use Rattle.swc_grammar.specs.Symbols.{Expr, Pat};
-ghost use Rattle.swc_nodes.specs.{NodeParts.expr_part, NodeParts.pat_part, GrowingNodes.From};
+ghost use Rattle.swc_ast.specs.Tree.{span_of};
+ghost use Rattle.swc_nodes.specs.{NodeParts.expr_part, NodeParts.pat_part, GrowingNodes.From, GrowingNodes.tree_at};
 ghost use Rattle.swc_steps.specs.Params.{pat_at};
 ghost use Rattle.swc_steps.specs.Parsing.{tree_of};
-ghost use Rattle.swc_ecma_parser.specs.{TextList.text_tokens, TextList.IsModern, WholeList.IsHeeded, WholeList.Headline, WholeList.ReadsFront, Calls.wants_memory};
+ghost use Rattle.swc_ecma_parser.specs.{TextList.IsModern, TextList.IsModernAt, TextList.IsPart, TextList.StopsAt, TextList.text_tokens, TextList.tokens_at, WholeList.IsHeeded, WholeList.Headline, WholeList.ReadsFront, Calls.wants_memory};
+ghost use Rattle.swc_ecma_parser.specs.TextList as text_list;
 
 use crate::whole::{Whole, read_whole_expr, read_whole_pat};
-use std::alloc::{AllocError, Global};
-use swc_bodies::bodies::Bodies;
+use std::alloc::Global;
+use swc_bodies::bodies::{Bodies, BodyForms};
 use swc_context::context::{Context, EsVersion, Syntax};
+use swc_context::span::BytePos;
 use swc_lexer::input::TextInput;
-use swc_lexer::read::out_of_memory;
 use swc_lexer::reader::End;
 use swc_lexer::stack::Start;
+use swc_lexical::blank::blanks_len;
 use swc_nodes::node::{ExprId, PatId};
-use swc_nodes::nodes::Nodes;
+
+/// The result of reading a part of a text.
+#[derive(Drop)]
+pub struct TextPart<N, B: BodyForms> {
+    /// What was read. Spans are in bytes of the whole text.
+    pub whole: Whole<N, B>,
+    /// Where reading stopped, in bytes of the whole text: after what was read, with blanks and comments after it, so
+    /// where the first token begins that doesn't go on, or the part ends. For a refusal: where this begins.
+    pub stop: usize,
+}
 
 /// Reads a text in UTF-8 as one expression (ECMA-262, 13.16), in the context and by the syntax, with a parser of its
 /// own, which `levels` bounds (`Parser::limit_nesting`; `usize::MAX` is no bound).
 ///
 /// Tokens are read as the parser asks for them (`TextInput`). An invalid token is refused with its kind and span
 /// (`UnterminatedStrLit`, ..) when the parser reaches it. Legacy octal numbers and escapes, as `010`, are recorded in
-/// strict code and modules. Other refusals are those of `Parser::parse_expr`; and `OutOfMemory` at 0..0, if the text
-/// couldn't be copied. Spans are in bytes of the text.
+/// strict code and modules. Other refusals are those of `Parser::parse_expr`. Spans are in bytes of the text.
 ///
 /// The promise holds where early errors are on and not ignored. A tree returned with no fault recorded is the only one
 /// that the written grammar derives from the tokens read, which are all of the text's tokens, or the first of them where
 /// some are left (`front`). With a faithful hook each tree that it derives from all tokens of a text that has no legacy
 /// octal number or escape is returned so, unless memory runs out or it is nested too deeply (`headline`). The text's
-/// tokens are those of the written lexical grammar. Where the syntax is pedantic, this holds for trees in which no property `name = value` of an object
-/// literal is left (ECMA-262, 13.2.5.1).
-pub fn parse_text_expr<B: Bodies<TextInput>>(
+/// tokens are those of the written lexical grammar. Where the syntax is pedantic, this holds for trees in which no
+/// property `name = value` of an object literal is left (ECMA-262, 13.2.5.1).
+pub fn parse_text_expr<'t, B: Bodies<TextInput<'t>>>(
     alloc: Global,
-    text: &str,
+    text: &'t str,
     ctx: Context,
     syntax: Syntax,
     target: EsVersion,
@@ -50,23 +60,57 @@ pub fn parse_text_expr<B: Bodies<TextInput>>(
     ensures deep { wants_memory result.read ≡ false → result.too_deep ≡ false }
     ensures unbounded { levels ≡ usize.MAX → result.too_deep ≡ false }
 {
-    match text_source(alloc, text, ctx, syntax, target) {
-        Ok(source) => read_whole_expr(alloc, source, bodies, levels),
-        Err(_) => Whole {
-            read: Err(out_of_memory()),
-            nodes: Nodes::new(alloc),
-            recorded: Vec::new(alloc),
-            too_deep: false,
-        },
+    expr_from(alloc, text, 0, ctx, syntax, target, bodies, levels)
+}
+
+/// Reads a part of a text as one expression, as `parse_text_expr` reads a whole text: the part between the bytes `at`
+/// and `end`. The text isn't copied, and spans are in the whole text. Tokens that are left after the expression are no
+/// fault: so an expression ends at the first token that doesn't go on (`stop`), as the `}` of a text with holes.
+///
+/// `None` if `end` is before `at` or after the text's end, or either is within a character.
+pub fn parse_text_expr_at<'t, B: Bodies<TextInput<'t>>>(
+    alloc: Global,
+    text: &'t str,
+    at: usize,
+    end: usize,
+    ctx: Context,
+    syntax: Syntax,
+    target: EsVersion,
+    bodies: B,
+    levels: usize,
+) -> Option<TextPart<ExprId, B>>
+    ensures found { IsSome result ↔ IsPart text.now at end }
+    ensures stands { IfSome result (λ p. IfOk p.whole.read (λ r. From 0 p.whole.nodes (expr_part r.0))) }
+    ensures headline { IsHeeded ctx syntax → IsModernAt at ctx (take end text.now) → IfSome result
+        (λ p. Headline B.is_faithful B.forms Expr tree_of ctx syntax (tokens_at at ctx (take end text.now))
+        p.whole.read p.whole.nodes p.whole.recorded.items) }
+    ensures front { IsHeeded ctx syntax → IfSome result (λ p. IfOk p.whole.read (λ r. p.whole.recorded.items ≡ []
+        → ReadsFront B.forms Expr ctx syntax (tokens_at at ctx (take end text.now)) r.1
+        (tree_of p.whole.nodes r.0))) }
+    ensures stop { IfSome result (λ p. StopsAt (take end text.now)
+        (λ r. span_of (tree_at p.whole.nodes r.0.0)) p.whole.read p.stop) }
+    ensures deep { IfSome result (λ p. wants_memory p.whole.read ≡ false → p.whole.too_deep ≡ false) }
+    ensures unbounded { levels ≡ usize.MAX → IfSome result (λ p. p.whole.too_deep ≡ false) }
+{
+    match front_of(text, at, end) {
+        Some(front) => {
+            let whole = expr_from(alloc, front, at, ctx, syntax, target, bodies, levels);
+            let stop = match &whole.read {
+                Ok((expr, _)) => next_place(front, whole.nodes.extent(*expr).hi),
+                Err(fault) => fault.span().lo.0 as usize,
+            };
+            Some(TextPart { whole, stop })
+        }
+        None => None,
     }
 }
 
 /// Reads a text in UTF-8 as one binding pattern (ECMA-262, 14.3.3), as `parse_text_expr` reads an expression.
 ///
 /// Refused as `Parser::parse_pat`. `headline` is that of `parse_text_expr`.
-pub fn parse_text_pat<B: Bodies<TextInput>>(
+pub fn parse_text_pat<'t, B: Bodies<TextInput<'t>>>(
     alloc: Global,
-    text: &str,
+    text: &'t str,
     ctx: Context,
     syntax: Syntax,
     target: EsVersion,
@@ -82,29 +126,138 @@ pub fn parse_text_pat<B: Bodies<TextInput>>(
     ensures deep { wants_memory result.read ≡ false → result.too_deep ≡ false }
     ensures unbounded { levels ≡ usize.MAX → result.too_deep ≡ false }
 {
-    match text_source(alloc, text, ctx, syntax, target) {
-        Ok(source) => read_whole_pat(alloc, source, bodies, levels),
-        Err(_) => Whole {
-            read: Err(out_of_memory()),
-            nodes: Nodes::new(alloc),
-            recorded: Vec::new(alloc),
-            too_deep: false,
-        },
-    }
+    pat_from(alloc, text, 0, ctx, syntax, target, bodies, levels)
 }
 
-/// A source of the text's tokens, which has a copy of the text.
-fn text_source(
+/// Reads a part of a text as one binding pattern, as `parse_text_expr_at` reads an expression.
+pub fn parse_text_pat_at<'t, B: Bodies<TextInput<'t>>>(
     alloc: Global,
-    text: &str,
+    text: &'t str,
+    at: usize,
+    end: usize,
     ctx: Context,
     syntax: Syntax,
     target: EsVersion,
-) -> Result<TextInput, AllocError>
-    ensures state { IfOk result
-        (λ s. text_state s ≡ new_state End.Whole 0 Start.Operand text.now ctx syntax target) }
-    ensures coming { IfOk result (λ s. coming s ≡ text_tokens ctx text.now) }
+    bodies: B,
+    levels: usize,
+) -> Option<TextPart<PatId, B>>
+    ensures found { IsSome result ↔ IsPart text.now at end }
+    ensures stands { IfSome result (λ p. IfOk p.whole.read (λ r. From 0 p.whole.nodes (pat_part r.0))) }
+    ensures headline { IsHeeded ctx syntax → IsModernAt at ctx (take end text.now) → IfSome result
+        (λ p. Headline B.is_faithful B.forms Pat pat_at ctx syntax (tokens_at at ctx (take end text.now))
+        p.whole.read p.whole.nodes p.whole.recorded.items) }
+    ensures front { IsHeeded ctx syntax → IfSome result (λ p. IfOk p.whole.read (λ r. p.whole.recorded.items ≡ []
+        → ReadsFront B.forms Pat ctx syntax (tokens_at at ctx (take end text.now)) r.1
+        (pat_at p.whole.nodes r.0))) }
+    ensures stop { IfSome result (λ p. StopsAt (take end text.now)
+        (λ r. span_of (tree_at p.whole.nodes r.0.0)) p.whole.read p.stop) }
+    ensures deep { IfSome result (λ p. wants_memory p.whole.read ≡ false → p.whole.too_deep ≡ false) }
+    ensures unbounded { levels ≡ usize.MAX → IfSome result (λ p. p.whole.too_deep ≡ false) }
 {
-    let copy = text.to_string(alloc)?;
-    Ok(TextInput::new(alloc, copy, Start::Operand, End::Whole, ctx, syntax, target))
+    match front_of(text, at, end) {
+        Some(front) => {
+            let whole = pat_from(alloc, front, at, ctx, syntax, target, bodies, levels);
+            let stop = match &whole.read {
+                Ok((pat, _)) => next_place(front, whole.nodes.pat_extent(*pat).hi),
+                Err(fault) => fault.span().lo.0 as usize,
+            };
+            Some(TextPart { whole, stop })
+        }
+        None => None,
+    }
+}
+
+/// Reads a text from a byte on as one expression.
+fn expr_from<'t, B: Bodies<TextInput<'t>>>(
+    alloc: Global,
+    text: &'t str,
+    at: usize,
+    ctx: Context,
+    syntax: Syntax,
+    target: EsVersion,
+    bodies: B,
+    levels: usize,
+) -> Whole<ExprId, B>
+    requires { at ≤ length text.now }
+    ensures stands { IfOk result.read (λ r. From 0 result.nodes (expr_part r.0)) }
+    ensures headline { IsHeeded ctx syntax → IsModernAt at ctx text.now
+        → Headline B.is_faithful B.forms Expr tree_of ctx syntax (tokens_at at ctx text.now)
+        result.read result.nodes result.recorded.items }
+    ensures front { IsHeeded ctx syntax → IfOk result.read (λ r. result.recorded.items ≡ []
+        → ReadsFront B.forms Expr ctx syntax (tokens_at at ctx text.now) r.1 (tree_of result.nodes r.0)) }
+    ensures deep { wants_memory result.read ≡ false → result.too_deep ≡ false }
+    ensures unbounded { levels ≡ usize.MAX → result.too_deep ≡ false }
+{
+    let source = TextInput::new_at(
+        alloc,
+        text,
+        at,
+        Start::Operand,
+        End::Whole,
+        ctx,
+        syntax,
+        target,
+    );
+    read_whole_expr(alloc, source, bodies, levels)
+}
+
+/// Reads a text from a byte on as one binding pattern.
+fn pat_from<'t, B: Bodies<TextInput<'t>>>(
+    alloc: Global,
+    text: &'t str,
+    at: usize,
+    ctx: Context,
+    syntax: Syntax,
+    target: EsVersion,
+    bodies: B,
+    levels: usize,
+) -> Whole<PatId, B>
+    requires { at ≤ length text.now }
+    ensures stands { IfOk result.read (λ r. From 0 result.nodes (pat_part r.0)) }
+    ensures headline { IsHeeded ctx syntax → IsModernAt at ctx text.now
+        → Headline B.is_faithful B.forms Pat pat_at ctx syntax (tokens_at at ctx text.now)
+        result.read result.nodes result.recorded.items }
+    ensures front { IsHeeded ctx syntax → IfOk result.read (λ r. result.recorded.items ≡ []
+        → ReadsFront B.forms Pat ctx syntax (tokens_at at ctx text.now) r.1 (pat_at result.nodes r.0)) }
+    ensures deep { wants_memory result.read ≡ false → result.too_deep ≡ false }
+    ensures unbounded { levels ≡ usize.MAX → result.too_deep ≡ false }
+{
+    let source = TextInput::new_at(
+        alloc,
+        text,
+        at,
+        Start::Operand,
+        End::Whole,
+        ctx,
+        syntax,
+        target,
+    );
+    read_whole_pat(alloc, source, bodies, levels)
+}
+
+/// The text up to where a part of it ends; `None` where that is no part.
+fn front_of(text: &str, at: usize, end: usize) -> Option<&str>
+    ensures found { IsSome result ↔ IsPart text.now at end }
+    ensures front { IfSome result (λ front. front.now ≡ take end text.now) }
+    ensures within { IfSome result (λ front. at ≤ length front.now) }
+{
+    if end < at || !text.is_char_boundary(at) {
+        return None;
+    }
+    match text.split_at_checked(end) {
+        Some((front, _)) => Some(front),
+        None => None,
+    }
+}
+
+/// Where the first thing after a place begins, but for blanks and comments.
+fn next_place(text: &str, from: BytePos) -> usize
+    ensures { result ≡ text_list.next_place text.now from.0 }
+{
+    let from = from.0 as usize;
+    if from <= text.len() {
+        from + blanks_len(&text.as_bytes()[from..])
+    } else {
+        from
+    }
 }

@@ -62,40 +62,20 @@ point_more bs n p q is next =
     ∙ ap (λ x. record {
       lines = x;
       start = (if ends_line bs n then n + 1 else line_start bs n);
-      chars =
-          count (begins_char bs) n + one_if (begins_char bs n);
       units =
           count (begins_char bs) n + count (is_long bs) n + one_if (begins_char bs n) + one_if (is_long bs n);
     }) (sym l)
     ∙ ap (λ x. record {
       lines = count (ends_line bs) (suc n);
       start = x;
-      chars =
-          count (begins_char bs) n + one_if (begins_char bs n);
       units =
           count (begins_char bs) n + count (is_long bs) n + one_if (begins_char bs n) + one_if (is_long bs n);
     }) (sym s)
-    ∙ ap (λ x. record {
-      lines = count (ends_line bs) (suc n);
-      start = line_start bs (suc n);
-      chars = x;
-      units =
-          count (begins_char bs) n + count (is_long bs) n + one_if (begins_char bs n) + one_if (is_long bs n);
-    }) (sym c)
-    ∙ ap (λ x. record {
-      lines = count (ends_line bs) (suc n);
-      start = line_start bs (suc n);
-      chars =
-          count (begins_char bs) (suc n);
-      units = x;
-    }) (sym u)
+    ∙ ap (λ x. record { lines = count (ends_line bs) (suc n); start = line_start bs (suc n); units = x }) (sym u)
     ∙ ap (point_of bs) (sym one)
 
 pub lines_most : (bs : List ℕ) (n : ℕ) (p : Point) → p ≡ point_of bs n → p.lines ≤ n
 lines_most bs n p is = let e = ap (λ x. x.lines) is in let c = count_most (ends_line bs) n in omega (arith, e, c)
-
-pub chars_most : (bs : List ℕ) (n : ℕ) (p : Point) → p ≡ point_of bs n → p.chars ≤ n
-chars_most bs n p is = let e = ap (λ x. x.chars) is in let c = count_most (begins_char bs) n in omega (arith, e, c)
 
 pub units_most : (bs : List ℕ) (n : ℕ) (p : Point) → p ≡ point_of bs n → p.units ≤ 2 * n
 units_most bs n p is =
@@ -107,12 +87,12 @@ units_most bs n p is =
 not_lt : (a b : ℕ) → nat_lt a b ≡ false → b ≤ a
 not_lt a b h = grind (arith, nat_tests)
 
-origin_is : (bs : List ℕ) (p : Point) → p ≡ record { lines = 0; start = 0; chars = 0; units = 0 } → p ≡ point_of bs 0
+origin_is : (bs : List ℕ) (p : Point) → p ≡ record { lines = 0; start = 0; units = 0 } → p ≡ point_of bs 0
 unfolding count line_start
 origin_is bs p h = h
 
 pub MarkedTo_begin : (bs : List ℕ) (ms : List Point) (p : Point) → ms ≡ []
-    → p ≡ record { lines = 0; start = 0; chars = 0; units = 0 } → MarkedTo bs ms 0 p
+    → p ≡ record { lines = 0; start = 0; units = 0 } → MarkedTo bs ms 0 p
 MarkedTo_begin bs ms p none is =
     let n = ap length none in
     record {

@@ -1,5 +1,5 @@
 -- A text as a source: a listed one, whose list is the tokens of the text, where no token has a fault of strict code.
-use Rattle.std.specs.Prelude.{◌≡◌, ℕ, ◌+◌, ◌<◌, ◌≤◌, Bool, true, false, not, ◌&&◌, ◌||◌, if◌then◌else◌, List, [], ◌∷◌, ◌++◌, Option, Some, None, map, length, string_bytes}
+use Rattle.std.specs.Prelude.{◌≡◌, ℕ, ◌+◌, ◌<◌, ◌≤◌, Bool, true, false, not, ◌&&◌, ◌||◌, if◌then◌else◌, List, [], ◌∷◌, ◌++◌, Option, Some, None, map, length}
 use Rattle.std.specs.Option.{is_some}
 use Rattle.std.proofs.lemmas.List.Elements.{All-cons, All-nil}
 use Rattle.std.proofs.Common.{refl, ap, sym, ◌∙◌, append_assoc, arith, subst}
@@ -14,7 +14,7 @@ use Rattle.swc_lexer.specs.Coming.{from_next, from_end, next_ended, bound_ended}
 use Rattle.swc_input.specs.declared.token.Token.TheVariants as token
 
 abbrev pub bytes_of : TextInput → List ℕ
-bytes_of s = string_bytes s.text
+bytes_of s = s.text.now
 
 abbrev pub reading : TextInput → Reading
 reading s = reading_of s.reader

@@ -1,7 +1,8 @@
 -- Lines and columns of a text in UTF-8. A line ends with LF, CR, CR and LF, LS or PS (ECMA-262, 12.3).
 use Rattle.std.specs.Prelude.{◌≡◌, ℕ, zero, suc, ◌+◌, ◌-◌, ◌*◌, ◌/◌, ◌<◌, ◌≤◌, Bool, not, ◌&&◌, ◌||◌, if◌then◌else◌, nat_le, List, length, min, slice_index_or}
 use Rattle.swc_lexical.specs.Runs.{is_at, test_at}
-use Rattle.swc_lexer.specs.{declared.lines.Point.Point, declared.lines.Position.Position}
+use Rattle.swc_context.specs.declared.span.LineColumn.{LineColumn}
+use Rattle.swc_lexer.specs.declared.lines.Point.{Point}
 use Rattle.swc_lexer.specs.Readings as readings
 
 -- of how many places below n it holds
@@ -28,10 +29,7 @@ begins_char bs n = test_at readings.begins_char bs n
 abbrev pub is_long : List ℕ → ℕ → Bool
 is_long bs n = test_at (λ b. nat_le 240 b) bs n
 
--- how many characters begin before the place, and how many units of UTF-16 these take
-abbrev pub chars : List ℕ → ℕ → ℕ
-chars bs n = count (begins_char bs) n
-
+-- how many units of UTF-16 the characters before the place take
 abbrev pub units : List ℕ → ℕ → ℕ
 units bs n = count (begins_char bs) n + count (is_long bs) n
 
@@ -40,9 +38,7 @@ abbrev pub point_of : List ℕ → ℕ → Point
 point_of bs n = record {
   lines = count (ends_line bs) n;
   start = line_start bs n;
-  chars = chars bs n;
-  units =
-      units bs n;
+  units = units bs n;
 }
 
 abbrev pub one_if : Bool → ℕ
@@ -53,17 +49,15 @@ abbrev pub step : Point → List ℕ → ℕ → Point
 step p bs n = record {
   lines = p.lines + one_if (ends_line bs n);
   start = if ends_line bs n then n + 1 else p.start;
-  chars = p.chars + one_if (begins_char bs n);
   units = p.units + one_if (begins_char bs n) + one_if (is_long bs n);
 }
 
--- the line is one more than how many end before the place, and the columns are how much of it is before the place
-abbrev pub position_of : List ℕ → ℕ → Position
+-- the line is one more than how many end before the place, and the column one more than how much of it is before the
+-- place, in units of UTF-16
+abbrev pub position_of : List ℕ → ℕ → LineColumn
 position_of bs n = record {
   line = count (ends_line bs) n + 1;
-  bytes = n - line_start bs n;
-  chars = chars bs n - chars bs (line_start bs n);
-  units = units bs n - units bs (line_start bs n);
+  column = units bs n - units bs (line_start bs n) + 1;
 }
 
 -- a place of the text, also where it is after the end

@@ -1,5 +1,5 @@
 //! A text as a source of the parser, which reads its tokens as they are asked for.
-ghost use Rattle.std.specs.Prelude.{◌≡◌, ◌≤◌, false, length, string_bytes, OnOk, OnErr, Some, None};
+ghost use Rattle.std.specs.Prelude.{◌≡◌, ◌≤◌, false, length, OnOk, OnErr, Some, None};
 ghost use Rattle.swc_input.specs.Listed.{listed_state};
 ghost use Rattle.swc_lexer.specs.Legacy.{noted};
 
@@ -14,14 +14,14 @@ use swc_input::listed::TokensInput;
 use swc_input::token::TokenAndSpan;
 use swc_input::tokens::Tokens;
 
-/// A source that gives the tokens of a text as they are asked for. It holds no list of them, and owns its text. A fault
+/// A source that gives the tokens of a text as they are asked for. It holds no list of them, and borrows the text. A fault
 /// of the text is an error token, after which nothing comes. A number or an escape of old scripts, as `010` or `"\1"`,
 /// is recorded where it is read in strict code or a module, and elsewhere waits for the text to turn out a module. The
 /// source fails only when it is out of memory.
 #[derive(Drop)]
-pub struct TextInput {
+pub struct TextInput<'t> {
     alloc: Global,
-    text: String,
+    text: &'t str,
     end: End,
     begin: usize,
     reader: Reader,
@@ -32,7 +32,7 @@ pub struct TextInput {
     legacy: bool,
     /// The token that wasn't given, since there was no memory to record its fault.
     held: Option<TokenAndSpan>,
-    ghost within: { reader.at ≤ length (string_bytes text) },
+    ghost within: { reader.at ≤ length text.now },
     ghost none_held: { failed ≡ false → held ≡ None },
 }
 
@@ -49,22 +49,22 @@ fn note(notes: &mut TokensInput, fault: Error) -> Result<(), AllocError>
     }
 }
 
-impl TextInput {
+impl<'t> TextInput<'t> {
     ghost use Rattle.swc_lexer.specs.Inputs as inputs;
 
     /// A source of the tokens of this text, of a program or of an expression. Takes no memory.
     pub fn new(
         alloc: Global,
-        text: String,
+        text: &'t str,
         start: Start,
         end: End,
         context: Context,
         syntax: Syntax,
         target: EsVersion,
-    ) -> TextInput
+    ) -> TextInput<'t>
         ensures state { inputs.text_state result
-            ≡ inputs.new_state end 0 start (string_bytes text) context syntax target }
-        ensures coming { inputs.coming result ≡ inputs.all_of end 0 start (string_bytes text) context }
+            ≡ inputs.new_state end 0 start text.now context syntax target }
+        ensures coming { inputs.coming result ≡ inputs.all_of end 0 start text.now context }
     {
         TextInput::new_at(alloc, text, 0, start, end, context, syntax, target)
     }
@@ -73,20 +73,20 @@ impl TextInput {
     /// The places of tokens are in the whole text. A hashbang is read at the beginning of the whole text alone.
     pub fn new_at(
         alloc: Global,
-        text: String,
+        text: &'t str,
         at: usize,
         start: Start,
         end: End,
         context: Context,
         syntax: Syntax,
         target: EsVersion,
-    ) -> TextInput
-        requires { at ≤ length (string_bytes text) }
+    ) -> TextInput<'t>
+        requires { at ≤ length text.now }
         ensures state { inputs.text_state result
-            ≡ inputs.new_state end at start (string_bytes text) context syntax target }
-        ensures coming { inputs.coming result ≡ inputs.all_of end at start (string_bytes text) context }
+            ≡ inputs.new_state end at start text.now context syntax target }
+        ensures coming { inputs.coming result ≡ inputs.all_of end at start text.now context }
     {
-        let reader = Reader::new(alloc, text.as_str().as_bytes(), at, start, kind_in(context));
+        let reader = Reader::new(alloc, text.as_bytes(), at, start, kind_in(context));
         TextInput {
             alloc,
             end,
@@ -133,7 +133,7 @@ impl TextInput {
     }
 }
 
-impl Iterator for TextInput {
+impl Iterator for TextInput<'_> {
     ghost use Rattle.std.specs.Iterator.{at_most};
     ghost use Rattle.swc_lexer.specs.Inputs.{NextText, left};
 
@@ -148,7 +148,7 @@ impl Iterator for TextInput {
         if self.failed {
             return None;
         }
-        match self.reader.next(self.alloc, self.end, self.text.as_str()) {
+        match self.reader.next(self.alloc, self.end, self.text) {
             Ok(Some(token)) => self.hand(token),
             Ok(None) => None,
             Err(AllocError) => {
@@ -159,7 +159,7 @@ impl Iterator for TextInput {
     }
 }
 
-impl Tokens for TextInput {
+impl Tokens for TextInput<'_> {
     ghost use Rattle.std.proofs.Common.{refl};
     ghost use Rattle.swc_lexer.specs.Inputs.{text_model, with_contexts, text_laws, text_unmoved, text_asked};
 

@@ -3,28 +3,16 @@ ghost use Rattle.std.specs.Prelude.{◌≡◌, ◌+◌, ◌*◌, ◌≤◌, ◌<
 ghost use Rattle.swc_lexer.specs.Lines as lines;
 
 use std::alloc::{AllocError, Global};
+use swc_context::span::LineColumn;
 use swc_lexical::bytes::is_at;
 
-/// What is known of a place of a text: how many lines end before it, where its line begins, and how many characters and
-/// units of UTF-16 are before it.
+/// What is known of a place of a text: how many lines end before it, where its line begins, and how many units of UTF-16
+/// are before it.
 #[derive(Clone, Copy, PartialEq, Eq, Debug)]
 pub struct Point {
     lines: usize,
     start: usize,
-    chars: usize,
     units: usize,
-}
-
-/// A place of a text by its line, of which the first is 1, and its column, of which the first is 0.
-#[derive(Clone, Copy, PartialEq, Eq, Debug)]
-pub struct Position {
-    pub line: usize,
-    /// The column in bytes.
-    pub bytes: usize,
-    /// The column in characters.
-    pub chars: usize,
-    /// The column in units of UTF-16.
-    pub units: usize,
 }
 
 /// Whether LS or PS ends with this byte.
@@ -78,22 +66,19 @@ fn one_if(holds: bool) -> usize
 fn step(point: Point, text: &[u8], at: usize) -> Point
     requires within { at < length text.now }
     requires lines { point.lines ≤ at }
-    requires chars { point.chars ≤ at }
     requires units { point.units ≤ 2 * at }
     ensures { result ≡ lines.step point text.now at }
 {
     let ends = ends_line(text, at);
-    let begins = one_if(begins_char(text, at));
     Point {
         lines: point.lines + one_if(ends),
         start: if ends { at + 1 } else { point.start },
-        chars: point.chars + begins,
-        units: point.units + begins + one_if(is_long(text, at)),
+        units: point.units + one_if(begins_char(text, at)) + one_if(is_long(text, at)),
     }
 }
 
 /// What is known of a later place.
-#[tactic(auto, using(crate::proofs::Counting::lines_most, crate::proofs::Counting::chars_most, crate::proofs::Counting::units_most))]
+#[tactic(auto, using(crate::proofs::Counting::lines_most, crate::proofs::Counting::units_most))]
 fn advance(begin: Point, text: &[u8], from: usize, to: usize) -> Point
     requires from { from ≤ to }
     requires to { to ≤ length text.now }
@@ -122,7 +107,6 @@ fn marks_of(alloc: Global, text: &[u8]) -> Result<Vec<Point>, AllocError>
     let mut point = Point {
         lines: 0,
         start: 0,
-        chars: 0,
         units: 0,
     };
     while GAP <= text.len() - at {
@@ -165,19 +149,17 @@ impl<'t> Lines<'t> {
         advance(self.marks[mark], self.text, mark * GAP, at)
     }
 
-    /// The line and the column of a place, in bytes. A place after the end counts as the end.
+    /// The line and the column of a place, which is given in bytes. A place after the end counts as the end.
     #[tactic(auto, using(crate::proofs::Counting::start_most, crate::proofs::Counting::count_monotone))]
-    pub fn position(&self, at: usize) -> Position
+    pub fn position(&self, at: usize) -> LineColumn
         ensures { result ≡ lines.position_of self.now.text.now (lines.place_in self.now.text.now at) }
     {
         let at = at.min(self.text.len());
         let here = self.point(at);
         let start = self.point(here.start);
-        Position {
+        LineColumn {
             line: here.lines + 1,
-            bytes: at - here.start,
-            chars: here.chars - start.chars,
-            units: here.units - start.units,
+            column: here.units - start.units + 1,
         }
     }
 
