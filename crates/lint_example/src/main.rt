@@ -1,12 +1,12 @@
 //! Reads a script, and reports each `==` and each call of `eval` in it, within functions too.
 #![tactic(auto)]
 
-use reporting::lines::Lines;
 use reporting::{LEVELS, report};
 use statement_trees::read_program;
 use statement_trees::tree::{Goal, Program};
 use std::io;
 use std::process::ExitCode;
+use swc_ecma_parser::lexer::lines::Lines;
 use swc_ecma_parser::prelude::*;
 
 /// What is wrong with an expression, and where.
@@ -35,7 +35,7 @@ fn finding(program: &Program, text: &str, expr: ExprId) -> Option<(Span, &'stati
 
 /// Reports what is wrong, in the order of the text. Answers the status.
 fn lint(rt: &HostRuntime, program: &Program, text: &str) -> io::Result<u8> {
-    let lines = Lines::new(rt.alloc(), text.as_bytes())?;
+    let lines = Lines::new(rt.alloc(), text)?;
     let mut found = Vec::new(rt.alloc());
     for number in 0..program.nodes.len() {
         if let Some(wrong) = finding(program, text, ExprId(number)) {
@@ -44,7 +44,7 @@ fn lint(rt: &HostRuntime, program: &Program, text: &str) -> io::Result<u8> {
     }
     found.sort_by_key(|wrong: &(Span, &str)| wrong.0.lo.0)?;
     for (span, message) in &found {
-        println!(rt; "{}: {message}", lines.place(span.lo))?;
+        println!(rt; "{}: {message}", lines.position(span.lo.0 as usize))?;
     }
     Ok(if found.is_empty() { 0 } else { 1 })
 }

@@ -26,17 +26,30 @@ pub fn tokens_of(
     text: &str,
     is_module: bool,
 ) -> Result<Vec<TokenAndSpan>, AllocError> {
+    tokens_from(alloc, text, 0, Start::Statements, is_module)
+}
+
+/// The tokens of the text from a byte on, as `tokens_of` answers those of all of it: statements begin there, or an
+/// operand does. A byte after the text's end counts as the end.
+pub fn tokens_from(
+    alloc: Global,
+    text: &str,
+    at: usize,
+    start: Start,
+    is_module: bool,
+) -> Result<Vec<TokenAndSpan>, AllocError> {
     let kind = Kind {
         awaits: is_module,
         yields: false,
     };
     let has_html = !is_module && may_have_html(text);
     let mut tokens = Vec::new(alloc);
-    let mut reader = Reader::new(alloc, text.as_bytes(), 0, Start::Statements, kind);
+    let mut reader = Reader::new(alloc, text.as_bytes(), at.min(text.len()), start, kind);
     // Each token but the text of a template takes a byte at least.
     for _ in 0..u64::MAX {
         if has_html {
-            skip_html(&mut reader, text.as_bytes(), tokens.is_empty());
+            let is_first = at == 0 && tokens.is_empty();
+            skip_html(&mut reader, text.as_bytes(), is_first);
         }
         if reader.at() > text.len() {
             break;

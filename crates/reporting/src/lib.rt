@@ -4,15 +4,14 @@
 
 pub mod expr;
 pub mod input;
-pub mod lines;
 pub mod openers;
 
-use std::alloc::AllocError;
+use std::alloc::{AllocError, AllocFailed};
 use std::io::Read;
-use std::{io, str};
+use std::{fmt, io, str};
 use swc_ecma_parser::context::error::{Error, SyntaxError};
 use swc_ecma_parser::context::frame::Frame;
-use swc_ecma_parser::context::span::{BytePos, LineColumn, Span};
+use swc_ecma_parser::context::span::{LineColumn, Span};
 
 /// How deeply an expression may be nested (`Parser::limit_nesting`). So deep it takes at most two thirds of a stack of
 /// 8 MB (docs/SPEED.md).
@@ -44,10 +43,30 @@ impl From<Error> for Refusal {
     }
 }
 
+// So that `?` refuses where the memory for a caller's own value is refused.
+
 impl From<AllocError> for Refusal {
-    fn from(_failure: AllocError) -> Refusal {
-        let nowhere = Span::new(BytePos(0), BytePos(0));
-        Refusal::Fault(Error::new(nowhere, SyntaxError::OutOfMemory))
+    fn from(failure: AllocError) -> Refusal {
+        Refusal::Fault(Error::from(failure))
+    }
+}
+
+impl<T: Drop> From<AllocFailed<T>> for Refusal {
+    fn from(failure: AllocFailed<T>) -> Refusal {
+        Refusal::Fault(Error::from(failure))
+    }
+}
+
+/// What is wrong, without its place: `span` tells that. A place that is named is in bytes.
+impl fmt::Display for Refusal {
+    fn fmt<W: fmt::Write>(&self, f: &mut fmt::Formatter<W>) -> fmt::Result {
+        match self {
+            Refusal::Fault(fault) => write!(f, "{fault}"),
+            Refusal::TooDeep(_) => f.write_str("nested too deeply"),
+            Refusal::Unclosed { fault, opener } => {
+                write!(f, "{fault}; what opens at {opener} isn't closed")
+            }
+        }
     }
 }
 

@@ -1,5 +1,5 @@
 // All faults of a text, where its brackets pair.
-use crate::program::{Passes, place_of, read_program, span_of, tokens_of};
+use crate::program::{Form, Passes, place_of, read_program, span_of, tokens_of};
 use reporting::Refusal;
 use std::alloc::{AllocError, Global};
 use swc_ecma_parser::context::error::{Error, SyntaxError};
@@ -38,7 +38,7 @@ pub fn read_with_faults(
     let are_paired = list.are_paired(alloc)?;
     let mut passes = Passes::new(alloc, list, goal, levels);
     passes.recorded = Some(Vec::new(alloc));
-    match passes.in_order() {
+    match passes.in_order(Form::Program) {
         Ok(body) => {
             let recorded = passes.recorded.take().unwrap_or(Vec::new(alloc));
             if recorded.iter().any(|fault: &Error| leaves_no_tree(fault)) {

@@ -23,6 +23,7 @@
 
 mod body;
 mod calls;
+mod expression;
 pub mod faults;
 mod frame;
 mod member;
@@ -34,5 +35,6 @@ mod statement;
 mod variables;
 mod words;
 
+pub use expression::read_expression;
 pub use program::read_program;
 pub use tree_types::tree;

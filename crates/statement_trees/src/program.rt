@@ -10,16 +10,18 @@ use program_tokens::hook::ProgramBodies;
 use program_tokens::source::ProgramInput;
 use program_tokens::texts;
 use reporting::Refusal;
+use reporting::expr::position;
 use reporting::openers::{Ending, end_for};
 use std::alloc::{AllocError, Global};
 use swc_ecma_parser::bodies::deferred::Waiting;
 use swc_ecma_parser::context::context::{Context, ExpressionContext, Syntax};
-use swc_ecma_parser::context::error::{Error, PResult, SyntaxError};
+use swc_ecma_parser::context::error::{Error, PResult, SyntaxError, Wanted};
 use swc_ecma_parser::context::span::{BytePos, Span};
 use swc_ecma_parser::input::buffer::Buffer;
 use swc_ecma_parser::input::token::TokenAndSpan;
 use swc_ecma_parser::parser::Parser;
 use swc_lexer::read::out_of_memory;
+use swc_lexer::stack::Start;
 use tree_types::tree::{Goal, Program, StatementId};
 
 /// The context of a program.
@@ -43,14 +45,32 @@ fn syntax() -> Syntax {
     }
 }
 
+/// What a text is read as: a program, or one expression.
+#[derive(Clone, Copy, PartialEq, Eq)]
+pub(crate) enum Form {
+    Program,
+    Expression,
+}
+
 /// The tokens of the text with its brackets, and how they end.
 pub(crate) fn tokens_of(
     alloc: Global,
     text: &str,
     goal: Goal,
 ) -> Result<(Bracketed, Ending), AllocError> {
-    let tokens = texts::tokens_of(alloc, text, goal.is_module())?;
-    let ending = Ending::new(alloc, &tokens, BytePos(0), false)?;
+    tokens_from(alloc, text, 0, Start::Statements, goal)
+}
+
+/// The tokens of the text from a byte on.
+pub(crate) fn tokens_from(
+    alloc: Global,
+    text: &str,
+    at: usize,
+    start: Start,
+    goal: Goal,
+) -> Result<(Bracketed, Ending), AllocError> {
+    let tokens = texts::tokens_from(alloc, text, at, start, goal.is_module())?;
+    let ending = Ending::new(alloc, &tokens, position(at), false)?;
     Ok((Bracketed::new(alloc, tokens)?, ending))
 }
 
@@ -90,7 +110,7 @@ pub fn read_program(
         return Err(Refusal::Fault(out_of_memory()));
     };
     let mut passes = Passes::new(alloc, list, goal, levels);
-    match passes.read() {
+    match passes.read(Form::Program) {
         Ok(body) => Ok(passes.into_program(span_of(text), goal, body)),
         Err(Refusal::Fault(fault)) => Err(ending.refusal(fault, false)),
         Err(refusal) => Err(refusal),
@@ -121,23 +141,28 @@ impl Passes {
         }
     }
 
-    /// Reads the program with all its bodies, and answers its statements. The refusal is the first fault of the text.
-    fn read(&mut self) -> Result<Vec<StatementId>, Refusal>
+    /// Reads the program or the expression with all its bodies, and answers its statements. The refusal is the first
+    /// fault of the text.
+    pub(crate) fn read(&mut self, form: Form) -> Result<Vec<StatementId>, Refusal>
         requires first { self.old.bodies.items ≡ [] }
         ensures order { OnOk result (InOrder self.new.bodies.items) }
     {
-        match self.in_order() {
+        match self.in_order(form) {
             Ok(body) => Ok(body),
             Err(fault) => Err(self.earliest(fault)),
         }
     }
 
-    /// Reads the program, and then its bodies, in the order in which they begin, up to the first pass that is refused.
-    pub(crate) fn in_order(&mut self) -> Result<Vec<StatementId>, Refusal>
+    /// Reads the program or the expression, and then its bodies, in the order in which they begin, up to the first pass
+    /// that is refused.
+    pub(crate) fn in_order(&mut self, form: Form) -> Result<Vec<StatementId>, Refusal>
         requires first { self.old.bodies.items ≡ [] }
         ensures order { OnOk result (InOrder self.new.bodies.items) }
     {
-        let body = self.program()?;
+        let body = match form {
+            Form::Program => self.program()?,
+            Form::Expression => self.expression()?,
+        };
         self.read_all()?;
         Ok(body)
     }
@@ -196,6 +221,21 @@ impl Passes {
         let body = self.end_pass(answer)?;
         if self.reader.parser.buffer().cur().is_some() {
             let left = self.reader.parser.buffer().unexpected(SyntaxError::TS1109);
+            return Err(Refusal::Fault(left));
+        }
+        Ok(body)
+    }
+
+    /// Reads an expression, to the end of the text, as the one statement.
+    fn expression(&mut self) -> Result<Vec<StatementId>, Refusal>
+        ensures none { OnOk result (kept_bodies self.new.reader ≡ []) }
+        ensures read { self.new.bodies ≡ self.old.bodies }
+    {
+        let answer = self.reader.only_expression();
+        let body = self.end_pass(answer)?;
+        if self.reader.parser.buffer().cur().is_some() {
+            let comma = SyntaxError::Unexpected(Wanted::Comma);
+            let left = self.reader.parser.buffer().unexpected(comma);
             return Err(Refusal::Fault(left));
         }
         Ok(body)

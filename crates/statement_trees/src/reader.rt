@@ -268,6 +268,17 @@ impl Reader {
         Ok(true)
     }
 
+    /// Reads an expression as the one statement of a list.
+    pub(crate) fn only_expression(&mut self) -> PResult<Vec<StatementId>> {
+        let start = self.start();
+        let expr = self.expr()?;
+        self.finish(start, StatementKind::Expr(expr))?;
+        let mut list = Vec::new(self.alloc);
+        let pushed = list.push(self.last);
+        self.kept(pushed)?;
+        Ok(list)
+    }
+
     /// Ends a statement that began there.
     pub(crate) fn finish(&mut self, start: BytePos, kind: StatementKind) -> PResult<()>
         ensures context { context_of self.new ≡ context_of self.old }

@@ -235,8 +235,9 @@ fn pat_from<'t, B: Bodies<TextInput<'t>>>(
     read_whole_pat(alloc, source, bodies, levels)
 }
 
-/// The text up to where a part of it ends; `None` where that is no part.
-fn front_of(text: &str, at: usize, end: usize) -> Option<&str>
+/// The text up to `end`, where the bytes from `at` to `end` are a part of it; `None` if `end` is before `at` or after the
+/// text's end, or either is within a character.
+pub fn front_of(text: &str, at: usize, end: usize) -> Option<&str>
     ensures found { IsSome result ↔ IsPart text.now at end }
     ensures front { IfSome result (λ front. front.now ≡ take end text.now) }
     ensures within { IfSome result (λ front. at ≤ length front.now) }
