@@ -10,7 +10,6 @@ use program_names::names::{Name, Use};
 use serde_json::{Value, json};
 use statement_trees::tree::Program;
 use std::alloc::{AllocError, Global};
-use swc_ecma_parser::context::span::Span;
 
 /// The program of a document.
 pub(crate) fn program_of(
@@ -35,23 +34,6 @@ pub(crate) fn name_at(names: &[Name<'_>], at: usize) -> Option<usize> {
         Some(number)
     } else {
         None
-    }
-}
-
-/// The first declaration of a name: its own place, if it is one; none if it is free.
-pub(crate) fn declared(name: &Name<'_>) -> Option<Span> {
-    match name.how {
-        Use::Bound => Some(name.first.unwrap_or(name.span)),
-        _ => name.binding,
-    }
-}
-
-/// Whether two names are one: both have the same declaration, or are free and have the same text.
-pub(crate) fn is_same(one: &Name<'_>, other: &Name<'_>) -> bool {
-    match (declared(one), declared(other)) {
-        (Some(place), Some(another)) => place == another,
-        (None, None) => one.text == other.text,
-        _ => false,
     }
 }
 
@@ -89,7 +71,7 @@ pub(crate) fn answer(
     }
     let mut found = Vec::new(alloc);
     for other in &names {
-        if is_same(name, other) && is_asked(name, other, asked) {
+        if name.is_same(other) && is_asked(name, other, asked) {
             json::add(&mut found, place(alloc, document, other, asked, &lines)?)?;
         }
     }
@@ -99,7 +81,7 @@ pub(crate) fn answer(
 /// Whether a place of the name is asked for.
 fn is_asked(name: &Name<'_>, other: &Name<'_>, asked: Asked) -> bool {
     match asked {
-        Asked::Definition => declared(name) == Some(other.span),
+        Asked::Definition => name.declaration() == Some(other.span),
         Asked::Uses => other.how != Use::Bound,
         _ => true,
     }
@@ -130,7 +112,7 @@ fn hover(
     lines: &LineIndex<'_>,
 ) -> Result<Value, AllocError> {
     let mut said = String::new(alloc);
-    match declared(name) {
+    match name.declaration() {
         None => write!(said, "`{}`: free, bound nowhere in this file", name.text)?,
         Some(place) => {
             let at = lines.position(place.lo.0 as usize);

@@ -2,19 +2,17 @@
 use crate::documents::Document;
 use crate::json;
 use crate::lines::LineIndex;
-use crate::names::{declared, is_same, name_at, program_of};
+use crate::names::{name_at, program_of};
 use crate::places::Position;
 use crate::settings::Settings;
 use ecma_commands::faults::{Job, faults_in};
 use ecma_commands::findings::Place;
 use ecma_commands::goals::{NoProgram, read_program};
-use program_names::names::{Name, Use, names};
+use program_names::names::{Name, names};
 use serde_json::{Value, json};
-use statement_trees::tree::{ImportKind, Program, StatementKind};
+use statement_trees::tree::{Program, StatementKind};
 use std::alloc::{AllocError, Global};
-use swc_ecma_parser::ast::ident::ModuleExportName;
 use swc_ecma_parser::context::span::Span;
-use swc_ecma_parser::nodes::node::{ExprId, Node, PatPropNode, PropNode};
 use text_edits::edit::{Edit, edited};
 
 /// What comes of a wish to rename.
@@ -24,25 +22,6 @@ pub(crate) enum Renamed {
     Edits(Vec<Value>),
     /// Why it can't be.
     Refused(String),
-}
-
-/// How a name is spelled where it stands for a property, an import or an export too.
-#[derive(Clone, Copy, PartialEq, Eq)]
-enum Spelling {
-    /// By itself.
-    Name,
-    /// `{ a }`, which becomes `{ a: b }`.
-    Property,
-    /// `import { a }`, which becomes `import { a as b }`.
-    Import,
-    /// `export { a }`, which becomes `export { b as a }`.
-    Export,
-}
-
-/// Where a name isn't spelled by itself alone.
-#[derive(Drop)]
-struct Spellings {
-    places: Vec<(u32, Spelling)>,
 }
 
 /// The range and the text of the name at a position; null where there is none that can be renamed.
@@ -58,7 +37,7 @@ pub(crate) fn prepare(
     match name_at(&names, document.place(position, settings.units)).and_then(|number| names.get(
         number,
     )) {
-        Some(name) if declared(name).is_some() => {
+        Some(name) if name.declaration().is_some() => {
             let range = json::range_json(alloc, lines.range(name.span))?;
             let text = name.text;
             Ok(json!(in alloc; {"range": range, "placeholder": text})?)
@@ -85,14 +64,13 @@ pub(crate) fn rename(
     let Some(name) = names.get(number) else {
         return refused(alloc, "there is no name here");
     };
-    if declared(name).is_none() {
+    if name.declaration().is_none() {
         return refused(alloc, "the name is bound nowhere in this file");
     }
     if is_exported(&program, name) {
         return refused(alloc, "the name is exported by its declaration");
     }
-    let spellings = Spellings::new(alloc, &program)?;
-    let changed = Changed::new(alloc, document.text.as_str(), &names, name, new, &spellings)?;
+    let changed = Changed::new(alloc, document.text.as_str(), &names, name, new)?;
     if let Some(why) = changed.fault(alloc, document, &program, &names, &lines, settings)? {
         return Ok(Renamed::Refused(why));
     }
@@ -106,7 +84,7 @@ pub(crate) fn rename(
 
 /// Whether the declaration of a name is exported, so that others import it by this name.
 fn is_exported(program: &Program, name: &Name<'_>) -> bool {
-    let Some(place) = declared(name) else {
+    let Some(place) = name.declaration() else {
         return false;
     };
     for statement in &program.statements {
@@ -162,14 +140,13 @@ impl Changed {
         names: &[Name<'_>],
         name: &Name<'_>,
         new: &str,
-        spellings: &Spellings,
     ) -> Result<Changed, AllocError> {
         let mut edits = Vec::new(alloc);
         let mut past = 0;
         for other in names {
             let (start, end) = (other.span.lo.0 as usize, other.span.hi.0 as usize);
-            if is_same(name, other) && past <= start {
-                let text = spelled(alloc, name.text, new, spellings.of(other.span.lo.0))?;
+            if name.is_same(other) && past <= start {
+                let text = other.renamed(alloc, new)?;
                 edits.push(Edit { start, end, text })?;
                 past = end;
             }
@@ -232,7 +209,7 @@ fn other_binding(
         return Ok(before.first().map(|name| name.span));
     }
     for (was, is) in before.iter().zip(after) {
-        let (old, new) = (declared(was), declared(is));
+        let (old, new) = (was.declaration(), is.declaration());
         if number_of(before, old) != number_of(after, new) || was.how != is.how {
             return Ok(Some(was.span));
         }
@@ -244,92 +221,4 @@ fn other_binding(
 fn number_of(names: &[Name<'_>], place: Option<Span>) -> Option<usize> {
     let at = place?.lo.0;
     Some(names.partition_point(|name| name.span.lo.0 < at))
-}
-
-/// How a name is written where another one was.
-fn spelled(alloc: Global, old: &str, new: &str, spelling: Spelling) -> Result<String, AllocError> {
-    match spelling {
-        Spelling::Name => String::from_str(alloc, new),
-        Spelling::Property => format!(in alloc; "{old}: {new}"),
-        Spelling::Import => format!(in alloc; "{old} as {new}"),
-        Spelling::Export => format!(in alloc; "{new} as {old}"),
-    }
-}
-
-impl Spellings {
-    /// The places of a program. The only error is out of memory.
-    fn new(alloc: Global, program: &Program) -> Result<Spellings, AllocError> {
-        let mut spellings = Spellings {
-            places: Vec::new(alloc),
-        };
-        for number in 0..program.nodes.len() {
-            spellings.add_node(program, ExprId(number))?;
-        }
-        for statement in &program.statements {
-            spellings.add_statement(&statement.kind)?;
-        }
-        spellings
-            .places
-            .sort_by_key(|(at, _): &(u32, Spelling)| *at)?;
-        Ok(spellings)
-    }
-
-    fn of(&self, at: u32) -> Spelling {
-        let number = self.places.partition_point(|(place, _)| *place < at);
-        match self.places.get(number) {
-            Some((place, spelling)) if *place == at => *spelling,
-            _ => Spelling::Name,
-        }
-    }
-
-    fn add(&mut self, place: Span, spelling: Spelling) -> Result<(), AllocError> {
-        self.places.push((place.lo.0, spelling))?;
-        Ok(())
-    }
-
-    fn add_node(&mut self, program: &Program, expr: ExprId) -> Result<(), AllocError> {
-        match program.nodes.node(expr) {
-            Some(Node::Object { props, .. }) => {
-                for prop in props {
-                    if let PropNode::Shorthand(name) = prop {
-                        self.add(name.span, Spelling::Property)?;
-                    }
-                }
-                Ok(())
-            }
-            Some(Node::PatObject { props, .. }) => {
-                for prop in props {
-                    if let PatPropNode::Assign { key, .. } = prop {
-                        self.add(key.id.span, Spelling::Property)?;
-                    }
-                }
-                Ok(())
-            }
-            _ => Ok(()),
-        }
-    }
-
-    fn add_statement(&mut self, kind: &StatementKind) -> Result<(), AllocError> {
-        match kind {
-            StatementKind::Import(import) => {
-                for specifier in &import.specifiers {
-                    if matches!(specifier.kind, ImportKind::Named(None)) {
-                        self.add(specifier.local.span, Spelling::Import)?;
-                    }
-                }
-                Ok(())
-            }
-            StatementKind::ExportNamed(exports) if exports.source.is_none() => {
-                for specifier in &exports.specifiers {
-                    if specifier.exported.is_none()
-                        && let ModuleExportName::Ident(name) = &specifier.local
-                    {
-                        self.add(name.span, Spelling::Export)?;
-                    }
-                }
-                Ok(())
-            }
-            _ => Ok(()),
-        }
-    }
 }

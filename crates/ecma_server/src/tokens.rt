@@ -109,8 +109,8 @@ fn mark_of(
 fn of_name(name: &Name<'_>, kinds: &Kinds) -> Marked {
     use statement_trees::tree::VariableKind;
     let declaration = if name.how == Use::Bound { 1 } else { 0 };
-    let kind = declared(name).and_then(|place| kinds.of(place));
-    let (kind, bits) = match (declared(name), kind) {
+    let kind = name.declaration().and_then(|place| kinds.of(place));
+    let (kind, bits) = match (name.declaration(), kind) {
         (None, _) => (0, 4),
         (_, Some(Kind::Parameter | Kind::Caught)) => (1, 0),
         (_, Some(Kind::Function)) => (2, 0),

@@ -31,19 +31,20 @@ fn event_at(at: u32, what: What, number: usize) -> Event {
 
 /// A binding whose scope was found.
 #[derive(Clone, Copy)]
-struct Known<'a> {
-    text: &'a str,
-    place: Span,
-    scope: usize,
+pub(crate) struct Known<'a> {
+    pub(crate) text: &'a str,
+    pub(crate) place: Span,
+    pub(crate) scope: usize,
 }
 
 /// Finds the bindings that names refer to: the first one in the innermost scope around the name that binds its text.
+/// Answers the bindings by their scopes, and within one in the order of the text.
 pub(crate) fn bind<'a>(
     alloc: Global,
     scopes: &[Scope],
     bindings: &[Binding<'a>],
     names: &mut [Name<'a>],
-) -> Result<(), AllocError> {
+) -> Result<Vec<Known<'a>>, AllocError> {
     let known = known_of(alloc, scopes, bindings)?;
     let mut open: HashMap<&'a str, Vec<Known<'a>>> = HashMap::new(alloc);
     let mut again = Vec::new(alloc);
@@ -73,7 +74,7 @@ pub(crate) fn bind<'a>(
     for (at, first) in again {
         note_first(names, at, first);
     }
-    Ok(())
+    Ok(known)
 }
 
 /// Notes the first declaration of the name that is declared there, if that is another one.

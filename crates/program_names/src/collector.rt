@@ -1,5 +1,5 @@
 // What is found in a program: its scopes, what they bind, and its names.
-use crate::names::{Name, Use};
+use crate::names::{Name, Spelling, Use};
 use crate::scope::{Binding, Home, Role, Scope, ScopeId, ScopeKind};
 use std::alloc::{AllocError, Global};
 use std::collections::BTreeSet;
@@ -65,8 +65,18 @@ impl<'a> Collector<'a> {
         Ok(())
     }
 
-    /// Adds a name, with which this is done.
+    /// Adds a name that is written by itself, with which this is done.
     pub(crate) fn add_name(&mut self, name: &'a Ident, role: Role) -> Result<(), AllocError> {
+        self.add_spelled(name, role, Spelling::Plain)
+    }
+
+    /// Adds a name, which is written so, with which this is done.
+    pub(crate) fn add_spelled(
+        &mut self,
+        name: &'a Ident,
+        role: Role,
+        spelling: Spelling,
+    ) -> Result<(), AllocError> {
         let (text, span) = (name.sym.as_str(), name.span);
         let how = match role {
             Role::Used(how) => how,
@@ -79,6 +89,7 @@ impl<'a> Collector<'a> {
             text,
             span,
             how,
+            spelling,
             binding: None,
             first: None,
         })?;

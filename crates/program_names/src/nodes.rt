@@ -1,6 +1,6 @@
 // Expressions and patterns (ECMA-262, 13).
 use crate::collector::Collector;
-use crate::names::Use;
+use crate::names::{Spelling, Use};
 use crate::scope::{Home, Role, ScopeKind};
 use std::alloc::AllocError;
 use swc_ast::expr::BlockStmtOrExpr;
@@ -45,7 +45,7 @@ impl<'a> Collector<'a> {
     fn add_shorthands(&mut self, props: &'a [PropNode<Span>]) -> Result<(), AllocError> {
         for prop in props {
             if let PropNode::Shorthand(name) = prop {
-                self.add_name(name, Role::Used(Use::Read))?;
+                self.add_spelled(name, Role::Used(Use::Read), Spelling::Property)?;
             }
         }
         Ok(())
@@ -59,7 +59,7 @@ impl<'a> Collector<'a> {
     ) -> Result<(), AllocError> {
         for prop in props {
             if let PatPropNode::Assign { key, .. } = prop {
-                self.add_name(&key.id, role)?;
+                self.add_spelled(&key.id, role, Spelling::Property)?;
             }
         }
         Ok(())

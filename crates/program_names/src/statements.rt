@@ -1,13 +1,13 @@
 // Statements and declarations, and items of modules (ECMA-262, 14 and 16).
 use crate::collector::Collector;
-use crate::names::Use;
+use crate::names::{Spelling, Use};
 use crate::scope::{Home, Role};
 use std::alloc::AllocError;
 use swc_ast::ident::ModuleExportName;
 use swc_context::span::Span;
 use tree_types::tree::{
-    CatchClause, DefaultExport, ForInit, ForTarget, ImportSpecifier, NamedExports, Statement,
-    StatementId, StatementKind, SwitchCase, VariableDeclaration, VariableKind,
+    CatchClause, DefaultExport, ForInit, ForTarget, ImportKind, ImportSpecifier, NamedExports,
+    Statement, StatementId, StatementKind, SwitchCase, VariableDeclaration, VariableKind,
 };
 
 impl<'a> Collector<'a> {
@@ -116,7 +116,11 @@ impl<'a> Collector<'a> {
 
     fn add_imports(&mut self, specifiers: &'a [ImportSpecifier]) -> Result<(), AllocError> {
         for specifier in specifiers {
-            self.add_name(&specifier.local, Role::Bound(Home::Innermost))?;
+            let spelling = match specifier.kind {
+                ImportKind::Named(None) => Spelling::Import,
+                _ => Spelling::Plain,
+            };
+            self.add_spelled(&specifier.local, Role::Bound(Home::Innermost), spelling)?;
         }
         Ok(())
     }
@@ -128,7 +132,11 @@ impl<'a> Collector<'a> {
         }
         for specifier in &exports.specifiers {
             if let ModuleExportName::Ident(name) = &specifier.local {
-                self.add_name(name, Role::Used(Use::Read))?;
+                let spelling = match specifier.exported {
+                    None => Spelling::Export,
+                    Some(_) => Spelling::Plain,
+                };
+                self.add_spelled(name, Role::Used(Use::Read), spelling)?;
             }
         }
         Ok(())
