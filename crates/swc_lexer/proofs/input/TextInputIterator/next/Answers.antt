@@ -5,6 +5,6 @@ use Rattle.swc_lexer.proofs.input.TextInputIterator.next.Goals as goal
 pub returns-in-Ok-Some-clause-goes : goal.returns-in-Ok-Some-clause-goes
 returns-in-Ok-Some-clause-goes c =
     progress _ _ _ _ _ _ _ refl refl tt
-    (hands_lower c.args.self.now _ _ _ _ _ _ c.in-Ok-Some.token _ _ _ c.as_str.ensures.value c.in-Ok-Some.ensures.given
+    (hands_lower c.args.self.now _ _ _ _ _ _ c.in-Ok-Some.token _ _ _ refl c.in-Ok-Some.ensures.given
     c.in-Ok-Some.field-0-is
     c.hand.ensures.reading c.hand.ensures.same.text c.hand.ensures.hands)
