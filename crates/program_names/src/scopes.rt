@@ -115,9 +115,9 @@ impl<'a> Scopes<'a> {
     /// What the text means in all scopes that declare it.
     fn of_text(&self, text: &str) -> &[Meaning<'a>] {
         let from = self.meanings.partition_point(|meaning| meaning.text < text);
-        let rest = self.meanings.get(from..).unwrap_or(&[]);
+        let rest = &self.meanings[from..];
         let count = rest.partition_point(|meaning| meaning.text == text);
-        rest.get(..count).unwrap_or(&[])
+        &rest[..count]
     }
 
     /// The names that mean what is declared first at a place, declarations included, in the order of the text. The only
