@@ -9,6 +9,7 @@ use std::alloc::{AllocError, Global};
 use swc_ecma_parser::context::context::Context;
 use swc_ecma_parser::context::span::Span;
 use swc_ecma_parser::input::token::{Token, TokenAndSpan};
+use swc_ecma_parser::printing::print::PrintNodes;
 use template_pieces::template::{Piece, parse_within};
 
 /// Writes each name of a program: its place, how it is used, and where it is bound.
@@ -118,6 +119,11 @@ fn put_piece(out: &mut String, text: &str, piece: &Piece) -> Result<(), AllocErr
             let part = text_at(text, *at);
             write!(out, "text {part:?}\n")
         }
-        Piece::Hole(tree) => write!(out, "hole {tree}\n"),
+        Piece::Hole(hole) => {
+            let Ok(tree) = hole.nodes().print_expr(hole.expr()) else {
+                return Err(AllocError);
+            };
+            write!(out, "hole {tree}\n")
+        }
     }
 }

@@ -235,7 +235,12 @@ fn show_pieces(out: &mut String, template: &Template) -> Result<(), AllocError> 
         begin_part(out, at, "; ")?;
         match piece {
             Piece::Text(span) => write!(out, "text {span}")?,
-            Piece::Hole(tree) => write!(out, "hole {tree}")?,
+            Piece::Hole(hole) => {
+                let Ok(tree) = hole.nodes().print_expr(hole.expr()) else {
+                    return Err(AllocError);
+                };
+                write!(out, "hole {tree}")?
+            }
         }
     }
     show_none(out, template.pieces.is_empty())?;

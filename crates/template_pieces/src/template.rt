@@ -1,11 +1,14 @@
 // A template: a text with expressions in it.
-use reporting::expr::{Part, parse_part_within, position, read_part};
+ghost use Rattle.std.specs.Prelude.{◌≡◌, IfOk};
+ghost use Rattle.swc_nodes.specs.{NodeParts.expr_part, GrowingNodes.From};
+
+use reporting::expr::{Nodes, Part, parse_part_within, position, read_part};
 use reporting::{LEVELS, Refusal};
 use std::alloc::{AllocError, Global};
 use swc_ecma_parser::context::context::Context;
 use swc_ecma_parser::context::error::{Error, SyntaxError, Wanted};
 use swc_ecma_parser::context::span::Span;
-use swc_ecma_parser::printing::print::PrintNodes;
+use swc_ecma_parser::nodes::node::ExprId;
 use swc_lexer::reader::End;
 use swc_lexical::blank::blanks_len;
 
@@ -14,8 +17,41 @@ use swc_lexical::blank::blanks_len;
 pub enum Piece {
     /// A text: what the source has at this place.
     Text(Span),
-    /// What is between `{{` and `}}`: an expression, as its printed tree.
-    Hole(String),
+    /// An expression between `{{` and `}}`.
+    Hole(Hole),
+}
+
+/// An expression in a template. Its places are in the whole text.
+#[derive(Drop)]
+pub struct Hole {
+    nodes: Nodes,
+    expr: ExprId,
+    span: Span,
+    ghost stands: { From 0 nodes (expr_part expr) },
+}
+
+impl Hole {
+    /// The nodes of its tree. Functions, classes and blocks in it are kept as their tokens.
+    pub fn nodes(&self) -> &Nodes
+        ensures { result.now ≡ self.now.nodes }
+    {
+        &self.nodes
+    }
+
+    /// The number of the expression, which is one of the nodes'.
+    pub fn expr(&self) -> ExprId
+        ensures value { result ≡ self.now.expr }
+        ensures stands { From 0 self.now.nodes (expr_part result) }
+    {
+        self.expr
+    }
+
+    /// From `{{` to `}}`, with both.
+    pub fn span(&self) -> Span
+        ensures { result ≡ self.now.span }
+    {
+        self.span
+    }
 }
 
 /// The pieces of a text, in their order, and what is wrong with its holes.
@@ -43,6 +79,8 @@ struct HoleEnd {
 /// it, as the lexer tells: so strings, regular expressions, templates and comments may have any braces. An expression
 /// is read in the context.
 ///
+/// `\{{` is the text `{{`, and opens no hole: the backslash is in no piece. `\\{{` is a backslash before a hole.
+///
 /// A hole that has a fault is left out, and the text goes on after the next `}}`, or is over if there is none: then the
 /// fault tells where the hole opens. The only error is out of memory.
 pub fn parse(alloc: Global, text: &str, context: Context) -> Result<Template, AllocError> {
@@ -65,12 +103,27 @@ pub fn parse_within(
     let mut done = 0;
     for open in 0..bytes.len() {
         if done <= open && bytes[open..].starts_with(b"{{") {
-            push_text(&mut template, done, open)?;
-            done = push_hole(alloc, text, open, context, levels, &mut template)?;
+            let slashes = slashes_before(&bytes[done..open]);
+            push_text(&mut template, done, open.saturating_sub(slashes.min(1)))?;
+            if slashes == 1 {
+                done = open.saturating_add(2);
+                push_text(&mut template, open, done)?;
+            } else {
+                done = push_hole(alloc, text, open, context, levels, &mut template)?;
+            }
         }
     }
     push_text(&mut template, done, bytes.len())?;
     Ok(template)
+}
+
+/// How many backslashes a text ends with, but at most 2.
+fn slashes_before(text: &[u8]) -> usize {
+    match text {
+        [.., b'\\', b'\\'] => 2,
+        [.., b'\\'] => 1,
+        _ => 0,
+    }
 }
 
 /// Adds what is between two positions, if they aren't the same.
@@ -94,7 +147,12 @@ fn push_hole(
     let part = read_part(alloc, text, from, End::BeforeBrace, context)?;
     let end = hole_end(text, part.end);
     match read_hole(alloc, part, end, context, levels) {
-        Ok(tree) => template.pieces.push(Piece::Hole(tree))?,
+        Ok((nodes, expr)) => {
+            let span = span(open, end.found.hi.0 as usize);
+            template
+                .pieces
+                .push(Piece::Hole(Hole { nodes, expr, span }))?
+        }
         Err(refusal) if end.goes_on.is_none() => {
             template.faults.push(refusal.with_opener(span(open, from)))?
         }
@@ -126,20 +184,22 @@ fn hole_end(text: &str, last: usize) -> HoleEnd {
     }
 }
 
-/// The tree of a hole's expression, printed.
+/// The tree of a hole's expression.
 fn read_hole(
     alloc: Global,
     part: Part,
     end: HoleEnd,
     context: Context,
     levels: usize,
-) -> Result<String, Refusal> {
+) -> Result<(Nodes, ExprId), Refusal>
+    ensures stands { IfOk result (λ read. From 0 read.0 (expr_part read.1)) }
+{
     let (nodes, expr) = match parse_part_within(alloc, part, context, levels) {
         Ok(read) => read,
         Err(refusal) => return Err(in_hole(refusal, end)),
     };
     if end.closes {
-        return Ok(nodes.print_expr(expr)?);
+        return Ok((nodes, expr));
     }
     Err(Refusal::Fault(Error::new(end.after, SyntaxError::Expected(Wanted::RBrace))))
 }
