@@ -85,6 +85,7 @@ fn advance(begin: Point, text: &[u8], from: usize, to: usize) -> Point
     requires begin { begin ≡ lines.point_of text.now from }
     ensures value { result ≡ lines.point_of text.now to }
     ensures small { result.lines ≤ to }
+    ensures units { result.units ≤ 2 * to }
 {
     let mut point = begin;
     let mut at = from;
@@ -144,6 +145,7 @@ impl<'t> Lines<'t> {
         requires { at ≤ length self.now.text.now }
         ensures value { result ≡ lines.point_of self.now.text.now at }
         ensures small { result.lines ≤ at }
+        ensures units { result.units ≤ 2 * at }
     {
         let mark = at / GAP;
         advance(self.marks[mark], self.text, mark * GAP, at)

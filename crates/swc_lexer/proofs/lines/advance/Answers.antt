@@ -1,6 +1,6 @@
 use Rattle.std.proofs.Common.{arith, ap, ◌≡◌, ◌∙◌}
 use Rattle.swc_lexer.specs.Lines.{point_of}
-use Rattle.swc_lexer.proofs.Counting.{point_more, lines_most}
+use Rattle.swc_lexer.proofs.Counting.{point_more, lines_most, units_most}
 use Rattle.swc_lexer.proofs.lines.advance.Goals as goal
 
 pub loop-at-preserved : goal.loop-at-preserved
@@ -19,3 +19,7 @@ returns-clause-value c =
 pub returns-clause-small : goal.returns-clause-small
 returns-clause-small c =
     let b = c.loop-at.invariant.below in let m = lines_most _ _ _ c.loop-at.invariant.is in omega (arith, b, m)
+
+pub returns-clause-units : goal.returns-clause-units
+returns-clause-units c =
+    let b = c.loop-at.invariant.below in let m = units_most _ _ _ c.loop-at.invariant.is in omega (arith, b, m)
