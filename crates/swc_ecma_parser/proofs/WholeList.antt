@@ -19,6 +19,7 @@ use Rattle.swc_ecma_parser.specs.Promise.{EndsAt, Finished, Unmarred, covers_don
 use Rattle.swc_ecma_parser.specs.WholeList.{plain_list, IsHeeded, Headline, Lists, ReadsFront, ReadsGiven, Tries, tried, refused, lost}
 use Rattle.swc_ecma_parser.specs.declared.parser.Parser.{Parser}
 use Rattle.swc_lexer.specs.Inputs.{coming, has_legacy, known_some, none_left as text_over, text_model, text_state}
+use Rattle.swc_lexer.specs.declared.input.SourceText as text
 use Rattle.swc_lexer.specs.declared.input.TextInput.{TextInput}
 
 was_not : (v : Bool) → not v ≡ false → v ≡ true
@@ -343,7 +344,8 @@ module _ {S H N F C K : Type 0} {fg : Ghosts F} {cg : Ghosts C} {kg : Ghosts K} 
   tries-shallow (lost h c) runs enough = c.shallow (h.fails runs) enough
 
 -- of a new text, whether it has numbers of old scripts or not
-module _ {F C K : Type 0} {hook : Hook F C K} {s : Symbol} {input : TextInput} {c : Context} {x : Syntax}
+module _ {T F C K : Type 0} {g : text.Ghosts T} {hook : Hook F C K} {s : Symbol} {input : TextInput T g} {c : Context}
+    {x : Syntax}
     {unread : Bool} {t : Tree F C K} where
   front-text : (ts : List TokenAndSpan) → coming input ≡ ts → (text_state input).context ≡ c
       → (text_state input).syntax ≡ x → ReadsGiven text_model hook s input unread t
@@ -352,8 +354,8 @@ module _ {F C K : Type 0} {hook : Hook F C K} {s : Symbol} {input : TextInput} {
       (λ xs gave. sym all ∙ gave.list) (λ e. text_over g.last e)
       (λ m h. (known_some (has_legacy g.last) (coming g.last) m h).1)
 
-pub front-new-text : {N F C K : Type 0} {fg : Ghosts F} {cg : Ghosts C} {kg : Ghosts K}
-    (hook : Hook F C K) (s : Symbol) (input : TextInput) (tree : Nodes F C K fg cg kg → N → Tree F C K)
+pub front-new-text : {N T F C K : Type 0} {g : text.Ghosts T} {fg : Ghosts F} {cg : Ghosts C} {kg : Ghosts K}
+    (hook : Hook F C K) (s : Symbol) (input : TextInput T g) (tree : Nodes F C K fg cg kg → N → Tree F C K)
     (read : Result (N × Bool) Error) (nodes : Nodes F C K fg cg kg) (recorded : List Error)
     (ts : List TokenAndSpan) (new : Source) → text_state input ≡ new → new.errors ≡ [] → coming input ≡ ts
     → (IsHeeded (text_state input).context (text_state input).syntax

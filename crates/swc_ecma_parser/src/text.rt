@@ -42,7 +42,7 @@ pub struct TextPart<N, B: BodyForms> {
 /// octal number or escape is returned so, unless memory runs out or it is nested too deeply (`headline`). The text's
 /// tokens are those of the written lexical grammar. Where the syntax is pedantic, this holds for trees in which no
 /// property `name = value` of an object literal is left (ECMA-262, 13.2.5.1).
-pub fn parse_text_expr<'t, B: Bodies<TextInput<'t>>>(
+pub fn parse_text_expr<'t, B: Bodies<TextInput<&'t str>>>(
     alloc: Global,
     text: &'t str,
     ctx: Context,
@@ -68,7 +68,7 @@ pub fn parse_text_expr<'t, B: Bodies<TextInput<'t>>>(
 /// fault: so an expression ends at the first token that doesn't go on (`stop`), as the `}` of a text with holes.
 ///
 /// `None` if `end` is before `at` or after the text's end, or either is within a character.
-pub fn parse_text_expr_at<'t, B: Bodies<TextInput<'t>>>(
+pub fn parse_text_expr_at<'t, B: Bodies<TextInput<&'t str>>>(
     alloc: Global,
     text: &'t str,
     at: usize,
@@ -108,7 +108,7 @@ pub fn parse_text_expr_at<'t, B: Bodies<TextInput<'t>>>(
 /// Reads a text in UTF-8 as one binding pattern (ECMA-262, 14.3.3), as `parse_text_expr` reads an expression.
 ///
 /// Refused as `Parser::parse_pat`. `headline` is that of `parse_text_expr`.
-pub fn parse_text_pat<'t, B: Bodies<TextInput<'t>>>(
+pub fn parse_text_pat<'t, B: Bodies<TextInput<&'t str>>>(
     alloc: Global,
     text: &'t str,
     ctx: Context,
@@ -130,7 +130,7 @@ pub fn parse_text_pat<'t, B: Bodies<TextInput<'t>>>(
 }
 
 /// Reads a part of a text as one binding pattern, as `parse_text_expr_at` reads an expression.
-pub fn parse_text_pat_at<'t, B: Bodies<TextInput<'t>>>(
+pub fn parse_text_pat_at<'t, B: Bodies<TextInput<&'t str>>>(
     alloc: Global,
     text: &'t str,
     at: usize,
@@ -168,7 +168,7 @@ pub fn parse_text_pat_at<'t, B: Bodies<TextInput<'t>>>(
 }
 
 /// Reads a text from a byte on as one expression.
-fn expr_from<'t, B: Bodies<TextInput<'t>>>(
+fn expr_from<'t, B: Bodies<TextInput<&'t str>>>(
     alloc: Global,
     text: &'t str,
     at: usize,
@@ -202,7 +202,7 @@ fn expr_from<'t, B: Bodies<TextInput<'t>>>(
 }
 
 /// Reads a text from a byte on as one binding pattern.
-fn pat_from<'t, B: Bodies<TextInput<'t>>>(
+fn pat_from<'t, B: Bodies<TextInput<&'t str>>>(
     alloc: Global,
     text: &'t str,
     at: usize,

@@ -1,6 +1,7 @@
 pub mod Stacks
 pub mod Readings
 pub mod Covers
+pub mod SameInputs
 pub mod Sums
 pub mod Slashes
 pub mod Lists

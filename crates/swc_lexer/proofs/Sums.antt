@@ -3,7 +3,7 @@ use Rattle.std.proofs.Common.{◌≡◌, ℕ, ◌<◌, ◌≤◌, List, [], ◌�
 use Rattle.std.specs.Prelude.{IfSome, Result, Ok, Err, IfOk, All}
 use Rattle.std.specs.Iterator.{Count, IsFinite, MakesProgress, at_most, size}
 use Rattle.swc_input.specs.{declared.token.TokenAndSpan.TokenAndSpan, Source.Source}
-use Rattle.swc_lexer.specs.{declared.input.TextInput.TextInput, declared.reader.End.End, Covers.Covers, declared.place.Kind.Kind, declared.stack.Start.Start, Coming.from_next, Coming.from_end}
+use Rattle.swc_lexer.specs.{declared.input.SourceText.Ghosts, declared.input.TextInput.TextInput, declared.reader.End.End, Covers.Covers, declared.place.Kind.Kind, declared.stack.Start.Start, Coming.from_next, Coming.from_end}
 use Rattle.swc_lexer.specs.Inputs.{bytes_of, reading, left, held_list, Hands, handed}
 use Rattle.swc_lexer.proofs.Covers.{covers_of}
 use Rattle.swc_lexer.specs.Readings.{Reading, Gives, gave, stopped, bound, begin, first, tokens_from, tokens_of}
@@ -111,7 +111,7 @@ answer_covers e b bs s k r (Ok v) is begins reads =
     read_covers e bs s k v (reads.0 ∙ ap (λ z. tokens_from e bs z) f) reads.1
 
 -- a token that was handed out leaves less
-pub hands_lower : (s : TextInput) (t : TextInput) (e : End) (b : List ℕ) (d : Reading) (l : Bool) (n : Source)
+pub hands_lower : {T : Type 0} {g : Ghosts T} (s t : TextInput T g) (e : End) (b : List ℕ) (d : Reading) (l : Bool) (n : Source)
     (x z : TokenAndSpan) (o r : Option TokenAndSpan) →
     b ≡ bytes_of s → Gives e b (reading s) o d → o ≡ Some x → reading t ≡ d → bytes_of t ≡ bytes_of s
     → Hands l n z r t →

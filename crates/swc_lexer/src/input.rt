@@ -1,5 +1,5 @@
 //! A text as a source of the parser, which reads its tokens as they are asked for.
-ghost use Rattle.std.specs.Prelude.{◌≡◌, ◌≤◌, false, length, OnOk, OnErr, Some, None};
+ghost use Rattle.std.specs.Prelude.{◌≡◌, ◌≤◌, false, length, List, ℕ, OnOk, OnErr, Some, None, string_bytes};
 ghost use Rattle.swc_input.specs.Listed.{listed_state};
 ghost use Rattle.swc_lexer.specs.Legacy.{noted};
 
@@ -14,14 +14,39 @@ use swc_input::listed::TokensInput;
 use swc_input::token::TokenAndSpan;
 use swc_input::tokens::Tokens;
 
-/// A source that gives the tokens of a text as they are asked for. It holds no list of them, and borrows the text. A fault
+/// What is or has a text.
+pub trait SourceText: Drop {
+    ghost bytes: { Self → List ℕ };
+
+    fn as_text(&self) -> &str
+        ensures { result.now ≡ bytes self.now };
+}
+
+impl SourceText for &str {
+    ghost bytes = { λ text. text.now };
+
+    fn as_text(&self) -> &str {
+        self
+    }
+}
+
+impl SourceText for String {
+    ghost bytes = { string_bytes };
+
+    fn as_text(&self) -> &str {
+        self.as_str()
+    }
+}
+
+/// A source that gives the tokens of a text as they are asked for. It holds no list of them, and has the text or borrows it. A
+/// fault
 /// of the text is an error token, after which nothing comes. A number or an escape of old scripts, as `010` or `"\1"`,
 /// is recorded where it is read in strict code or a module, and elsewhere waits for the text to turn out a module. The
 /// source fails only when it is out of memory.
 #[derive(Drop)]
-pub struct TextInput<'t> {
+pub struct TextInput<T: SourceText> {
     alloc: Global,
-    text: &'t str,
+    text: T,
     end: End,
     begin: usize,
     reader: Reader,
@@ -32,7 +57,7 @@ pub struct TextInput<'t> {
     legacy: bool,
     /// The token that wasn't given, since there was no memory to record its fault.
     held: Option<TokenAndSpan>,
-    ghost within: { reader.at ≤ length text.now },
+    ghost within: { reader.at ≤ length (T.bytes text) },
     ghost none_held: { failed ≡ false → held ≡ None },
 }
 
@@ -49,22 +74,22 @@ fn note(notes: &mut TokensInput, fault: Error) -> Result<(), AllocError>
     }
 }
 
-impl<'t> TextInput<'t> {
+impl<T: SourceText> TextInput<T> {
     ghost use Rattle.swc_lexer.specs.Inputs as inputs;
 
     /// A source of the tokens of this text, of a program or of an expression. Takes no memory.
     pub fn new(
         alloc: Global,
-        text: &'t str,
+        text: T,
         start: Start,
         end: End,
         context: Context,
         syntax: Syntax,
         target: EsVersion,
-    ) -> TextInput<'t>
+    ) -> TextInput<T>
         ensures state { inputs.text_state result
-            ≡ inputs.new_state end 0 start text.now context syntax target }
-        ensures coming { inputs.coming result ≡ inputs.all_of end 0 start text.now context }
+            ≡ inputs.new_state end 0 start (T.bytes text) context syntax target }
+        ensures coming { inputs.coming result ≡ inputs.all_of end 0 start (T.bytes text) context }
     {
         TextInput::new_at(alloc, text, 0, start, end, context, syntax, target)
     }
@@ -73,20 +98,26 @@ impl<'t> TextInput<'t> {
     /// The places of tokens are in the whole text. A hashbang is read at the beginning of the whole text alone.
     pub fn new_at(
         alloc: Global,
-        text: &'t str,
+        text: T,
         at: usize,
         start: Start,
         end: End,
         context: Context,
         syntax: Syntax,
         target: EsVersion,
-    ) -> TextInput<'t>
-        requires { at ≤ length text.now }
+    ) -> TextInput<T>
+        requires { at ≤ length (T.bytes text) }
         ensures state { inputs.text_state result
-            ≡ inputs.new_state end at start text.now context syntax target }
-        ensures coming { inputs.coming result ≡ inputs.all_of end at start text.now context }
+            ≡ inputs.new_state end at start (T.bytes text) context syntax target }
+        ensures coming { inputs.coming result ≡ inputs.all_of end at start (T.bytes text) context }
     {
-        let reader = Reader::new(alloc, text.as_bytes(), at, start, kind_in(context));
+        let reader = Reader::new(
+            alloc,
+            text.as_text().as_bytes(),
+            at,
+            start,
+            kind_in(context),
+        );
         TextInput {
             alloc,
             end,
@@ -133,7 +164,7 @@ impl<'t> TextInput<'t> {
     }
 }
 
-impl Iterator for TextInput<'_> {
+impl<T: SourceText> Iterator for TextInput<T> {
     ghost use Rattle.std.specs.Iterator.{at_most};
     ghost use Rattle.swc_lexer.specs.Inputs.{NextText, left};
 
@@ -148,7 +179,7 @@ impl Iterator for TextInput<'_> {
         if self.failed {
             return None;
         }
-        match self.reader.next(self.alloc, self.end, self.text) {
+        match self.reader.next(self.alloc, self.end, self.text.as_text()) {
             Ok(Some(token)) => self.hand(token),
             Ok(None) => None,
             Err(AllocError) => {
@@ -159,7 +190,7 @@ impl Iterator for TextInput<'_> {
     }
 }
 
-impl Tokens for TextInput<'_> {
+impl<T: SourceText> Tokens for TextInput<T> {
     ghost use Rattle.std.proofs.Common.{refl};
     ghost use Rattle.swc_lexer.specs.Inputs.{text_model, with_contexts, text_laws, text_unmoved, text_asked};
 

@@ -15,6 +15,15 @@ pub struct Edit {
     pub text: String,
 }
 
+impl Edit {
+    /// The text in place of the bytes from `start` to before `end`.
+    pub fn new(start: usize, end: usize, text: String) -> Edit
+        ensures { result ≡ record { start = start; end = end; text = text } }
+    {
+        Edit { start, end, text }
+    }
+}
+
 /// Why no text comes of edits: the number of the first edit that can't be made, from 0, or out of memory.
 #[derive(Clone, Copy, Debug, PartialEq, Eq)]
 pub enum BadEdit {
