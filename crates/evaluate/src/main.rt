@@ -4,10 +4,12 @@
 
 use literal_values::number::{number, number_text};
 use literal_values::string::string_text;
-use reporting::{LEVELS, Refusal, report};
+use reporting::expr::read_expr;
+use reporting::{Refusal, report};
 use std::alloc::{AllocError, Global};
 use std::io;
 use std::process::ExitCode;
+use swc_ecma_parser::bodies::token_body::TokenBody;
 use swc_ecma_parser::prelude::*;
 
 #[derive(Drop)]
@@ -25,8 +27,8 @@ fn is_true(value: &Value) -> bool {
     }
 }
 
-fn is_text(value: &Value) -> bool {
-    matches!(value, Value::Text(_))
+fn has_text(left: &Value, right: &Value) -> bool {
+    matches!((left, right), (Value::Text(_), _) | (_, Value::Text(_)))
 }
 
 fn text_of(alloc: Global, value: &Value) -> Result<String, AllocError> {
@@ -71,7 +73,7 @@ fn of_numbers(op: BinaryOp, left: f64, right: f64) -> Option<Value> {
 /// The value of a node, by those of the nodes before it; `None` where it isn't one of constants.
 fn value_of(
     alloc: Global,
-    node: &Node<Span, Span, Span>,
+    node: &Node<TokenBody, TokenBody, TokenBody>,
     values: &[Option<Value>],
 ) -> Result<Option<Value>, AllocError> {
     let at = |id: ExprId| values.get(id.0)?.as_ref();
@@ -99,7 +101,7 @@ fn value_of(
             (_, Some(Value::Number(left)), Some(Value::Number(right))) => {
                 return Ok(of_numbers(*op, *left, *right));
             }
-            (BinaryOp::Add, Some(left), Some(right)) if is_text(left) || is_text(right) => {
+            (BinaryOp::Add, Some(left), Some(right)) if has_text(left, right) => {
                 let (left, right) = (text_of(alloc, left)?, text_of(alloc, right)?);
                 return Ok(Some(Value::Text(format!(in alloc; "{left}{right}")?)));
             }
@@ -112,27 +114,15 @@ fn value_of(
 
 /// The value of an expression, by those of its parts, which come before it.
 fn evaluate(alloc: Global, text: &str) -> Result<Option<Value>, Refusal> {
-    let (context, syntax, target) = (Context::script(), Syntax::default(), EsVersion::default());
-    let whole = parse_text_expr(alloc, text, context, syntax, target, NoBodies, LEVELS);
-    let (expr, is_left) = whole.read?;
-    if let Some(fault) = whole.recorded.into_iter().next() {
-        return Err(Refusal::Fault(fault));
-    }
+    let (nodes, expr) = read_expr(alloc, text, Context::script())?;
     let mut values = Vec::new(alloc);
-    for number in 0..whole.nodes.len() {
-        let known = match whole.nodes.node(ExprId(number)) {
-            Some(node) => value_of(alloc, node, &values)?,
-            None => None,
-        };
-        values.push(known)?;
+    for number in 0..nodes.len() {
+        if let Some(node) = nodes.node(ExprId(number)) {
+            let value = value_of(alloc, node, &values)?;
+            values.push(value)?;
+        }
     }
-    Ok(
-        values
-            .into_iter()
-            .nth(expr.0)
-            .flatten()
-            .filter(|_| !is_left),
-    )
+    Ok(values.into_iter().nth(expr.0).flatten())
 }
 
 fn main(rt: HostRuntime) -> io::Result<ExitCode> {
