@@ -23,8 +23,8 @@ WORDS = {
 }
 # Names of functions may hold one of these.
 NAMES = re.compile(r'`[^`]*`')
-# This file, and the table that tests/wrong_bodies.py writes of the first lines of edits.
-OTHERS = ('tests/words.py', 'tests/wrong/RESULTS.md')
+# This file, the table that tests/wrong_bodies.py writes of the first lines of edits, and what tests/api.py makes of comments.
+OTHERS = ('tests/words.py', 'tests/wrong/RESULTS.md', 'docs/API.md')
 READ = ('.rt', '.antt', '.md', '.sh', '.py', '.js', '.c', '.cpp', '.edit', '.txt', '.rows', '.trees', 'run')
 COMMENT = re.compile(r'^\s*(//|--|#)')
 

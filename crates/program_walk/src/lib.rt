@@ -14,7 +14,7 @@
 //!
 //! The loop counts, so that a proof sees its end.
 //!
-//! A walk goes over what the program reaches, and so not over nodes that a fault left behind. It takes no recursion, and
+//! A walk goes over what the program reaches, and so not over nodes that a fault left unreached. It takes no recursion, and
 //! memory in proportion to how deeply the program is nested and how long its lists are.
 #![tactic(auto)]
 

@@ -1,4 +1,5 @@
 // What the clients make of texts.
+use crate::base::show_base;
 use expr_layout::layout::{Nodes, layout};
 use layout_document::style::Style;
 use lower_rows::row::{Row, show_unread};
@@ -56,7 +57,10 @@ fn show_made_of(
         "CommonJS" => show_tree(out, tree_of(alloc, text, Goal::CommonJs)),
         place => match place.parse() {
             Ok(start) => show_tree(out, expr_tree(alloc, text, start, context)),
-            Err(_) => show_unread(out, "no such client"),
+            Err(_) => match show_base(alloc, out, client, text, context)? {
+                Some(()) => Ok(()),
+                None => show_unread(out, "no such client"),
+            },
         },
     }
 }

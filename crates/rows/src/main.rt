@@ -9,6 +9,7 @@
 //! is written on standard error.
 #![tactic(auto)]
 
+mod base;
 mod clients;
 mod file;
 mod long;

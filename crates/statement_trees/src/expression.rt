@@ -8,7 +8,7 @@ use reporting::Refusal;
 use reporting::expr::position;
 use std::alloc::Global;
 use swc_ecma_parser::context::span::Span;
-use swc_ecma_parser::text::front_of;
+use swc_ecma_parser::text::part_of;
 use swc_lexer::read::out_of_memory;
 use swc_lexer::stack::Start;
 use tree_types::tree::{Goal, Program};
@@ -32,7 +32,7 @@ pub fn read_expression(
     ensures order { IfSome result (λ read. IfOk read (λ program. InOrder program.bodies.items)) }
     ensures goal { IfSome result (λ read. IfOk read (λ program. program.goal ≡ goal)) }
 {
-    match front_of(text, at, end) {
+    match part_of(text, at, end) {
         Some(front) => Some(expression_of(alloc, front, at, goal, levels)),
         None => None,
     }

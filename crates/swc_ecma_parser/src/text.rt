@@ -13,7 +13,7 @@ use std::alloc::Global;
 use swc_bodies::bodies::{Bodies, BodyForms};
 use swc_context::context::{Context, EsVersion, Syntax};
 use swc_context::span::BytePos;
-use swc_lexer::input::TextInput;
+use swc_lexer::input::{SourceText, TextInput};
 use swc_lexer::reader::End;
 use swc_lexer::stack::Start;
 use swc_lexical::blank::blanks_len;
@@ -42,9 +42,9 @@ pub struct TextPart<N, B: BodyForms> {
 /// octal number or escape is returned so, unless memory runs out or it is nested too deeply (`headline`). The text's
 /// tokens are those of the written lexical grammar. Where the syntax is pedantic, this holds for trees in which no
 /// property `name = value` of an object literal is left (ECMA-262, 13.2.5.1).
-pub fn parse_text_expr<'t, B: Bodies<TextInput<&'t str>>>(
+pub fn parse_text_expr<T: SourceText, B: Bodies<TextInput<T>>>(
     alloc: Global,
-    text: &'t str,
+    text: T,
     ctx: Context,
     syntax: Syntax,
     target: EsVersion,
@@ -52,11 +52,11 @@ pub fn parse_text_expr<'t, B: Bodies<TextInput<&'t str>>>(
     levels: usize,
 ) -> Whole<ExprId, B>
     ensures stands { IfOk result.read (λ r. From 0 result.nodes (expr_part r.0)) }
-    ensures headline { IsHeeded ctx syntax → IsModern ctx text.now
-        → Headline B.is_faithful B.forms Expr tree_of ctx syntax (text_tokens ctx text.now)
+    ensures headline { IsHeeded ctx syntax → IsModern ctx (T.bytes text)
+        → Headline B.is_faithful B.forms Expr tree_of ctx syntax (text_tokens ctx (T.bytes text))
         result.read result.nodes result.recorded.items }
     ensures front { IsHeeded ctx syntax → IfOk result.read (λ r. result.recorded.items ≡ []
-        → ReadsFront B.forms Expr ctx syntax (text_tokens ctx text.now) r.1 (tree_of result.nodes r.0)) }
+        → ReadsFront B.forms Expr ctx syntax (text_tokens ctx (T.bytes text)) r.1 (tree_of result.nodes r.0)) }
     ensures deep { wants_memory result.read ≡ false → result.too_deep ≡ false }
     ensures unbounded { levels ≡ usize.MAX → result.too_deep ≡ false }
 {
@@ -68,9 +68,9 @@ pub fn parse_text_expr<'t, B: Bodies<TextInput<&'t str>>>(
 /// fault: so an expression ends at the first token that doesn't go on (`stop`), as the `}` of a text with holes.
 ///
 /// `None` if `end` is before `at` or after the text's end, or either is within a character.
-pub fn parse_text_expr_at<'t, B: Bodies<TextInput<&'t str>>>(
+pub fn parse_text_expr_at<T: SourceText + Copy, B: Bodies<TextInput<T>>>(
     alloc: Global,
-    text: &'t str,
+    text: T,
     at: usize,
     end: usize,
     ctx: Context,
@@ -79,24 +79,24 @@ pub fn parse_text_expr_at<'t, B: Bodies<TextInput<&'t str>>>(
     bodies: B,
     levels: usize,
 ) -> Option<TextPart<ExprId, B>>
-    ensures found { IsSome result ↔ IsPart text.now at end }
+    ensures found { IsSome result ↔ IsPart (T.bytes text) at end }
     ensures stands { IfSome result (λ p. IfOk p.whole.read (λ r. From 0 p.whole.nodes (expr_part r.0))) }
-    ensures headline { IsHeeded ctx syntax → IsModernAt at ctx (take end text.now) → IfSome result
-        (λ p. Headline B.is_faithful B.forms Expr tree_of ctx syntax (tokens_at at ctx (take end text.now))
+    ensures headline { IsHeeded ctx syntax → IsModernAt at ctx (take end (T.bytes text)) → IfSome result
+        (λ p. Headline B.is_faithful B.forms Expr tree_of ctx syntax (tokens_at at ctx (take end (T.bytes text)))
         p.whole.read p.whole.nodes p.whole.recorded.items) }
     ensures front { IsHeeded ctx syntax → IfSome result (λ p. IfOk p.whole.read (λ r. p.whole.recorded.items ≡ []
-        → ReadsFront B.forms Expr ctx syntax (tokens_at at ctx (take end text.now)) r.1
+        → ReadsFront B.forms Expr ctx syntax (tokens_at at ctx (take end (T.bytes text))) r.1
         (tree_of p.whole.nodes r.0))) }
-    ensures stop { IfSome result (λ p. StopsAt (take end text.now)
+    ensures stop { IfSome result (λ p. StopsAt (take end (T.bytes text))
         (λ r. span_of (tree_at p.whole.nodes r.0.0)) p.whole.read p.stop) }
     ensures deep { IfSome result (λ p. wants_memory p.whole.read ≡ false → p.whole.too_deep ≡ false) }
     ensures unbounded { levels ≡ usize.MAX → IfSome result (λ p. p.whole.too_deep ≡ false) }
 {
-    match front_of(text, at, end) {
+    match part_of(text, at, end) {
         Some(front) => {
             let whole = expr_from(alloc, front, at, ctx, syntax, target, bodies, levels);
             let stop = match &whole.read {
-                Ok((expr, _)) => next_place(front, whole.nodes.extent(*expr).hi),
+                Ok((expr, _)) => next_place(front.as_text(), whole.nodes.extent(*expr).hi),
                 Err(fault) => fault.span().lo.0 as usize,
             };
             Some(TextPart { whole, stop })
@@ -108,9 +108,9 @@ pub fn parse_text_expr_at<'t, B: Bodies<TextInput<&'t str>>>(
 /// Reads a text in UTF-8 as one binding pattern (ECMA-262, 14.3.3), as `parse_text_expr` reads an expression.
 ///
 /// Refused as `Parser::parse_pat`. `headline` is that of `parse_text_expr`.
-pub fn parse_text_pat<'t, B: Bodies<TextInput<&'t str>>>(
+pub fn parse_text_pat<T: SourceText, B: Bodies<TextInput<T>>>(
     alloc: Global,
-    text: &'t str,
+    text: T,
     ctx: Context,
     syntax: Syntax,
     target: EsVersion,
@@ -118,11 +118,11 @@ pub fn parse_text_pat<'t, B: Bodies<TextInput<&'t str>>>(
     levels: usize,
 ) -> Whole<PatId, B>
     ensures stands { IfOk result.read (λ r. From 0 result.nodes (pat_part r.0)) }
-    ensures headline { IsHeeded ctx syntax → IsModern ctx text.now
-        → Headline B.is_faithful B.forms Pat pat_at ctx syntax (text_tokens ctx text.now)
+    ensures headline { IsHeeded ctx syntax → IsModern ctx (T.bytes text)
+        → Headline B.is_faithful B.forms Pat pat_at ctx syntax (text_tokens ctx (T.bytes text))
         result.read result.nodes result.recorded.items }
     ensures front { IsHeeded ctx syntax → IfOk result.read (λ r. result.recorded.items ≡ []
-        → ReadsFront B.forms Pat ctx syntax (text_tokens ctx text.now) r.1 (pat_at result.nodes r.0)) }
+        → ReadsFront B.forms Pat ctx syntax (text_tokens ctx (T.bytes text)) r.1 (pat_at result.nodes r.0)) }
     ensures deep { wants_memory result.read ≡ false → result.too_deep ≡ false }
     ensures unbounded { levels ≡ usize.MAX → result.too_deep ≡ false }
 {
@@ -130,9 +130,9 @@ pub fn parse_text_pat<'t, B: Bodies<TextInput<&'t str>>>(
 }
 
 /// Reads a part of a text as one binding pattern, as `parse_text_expr_at` reads an expression.
-pub fn parse_text_pat_at<'t, B: Bodies<TextInput<&'t str>>>(
+pub fn parse_text_pat_at<T: SourceText + Copy, B: Bodies<TextInput<T>>>(
     alloc: Global,
-    text: &'t str,
+    text: T,
     at: usize,
     end: usize,
     ctx: Context,
@@ -141,24 +141,24 @@ pub fn parse_text_pat_at<'t, B: Bodies<TextInput<&'t str>>>(
     bodies: B,
     levels: usize,
 ) -> Option<TextPart<PatId, B>>
-    ensures found { IsSome result ↔ IsPart text.now at end }
+    ensures found { IsSome result ↔ IsPart (T.bytes text) at end }
     ensures stands { IfSome result (λ p. IfOk p.whole.read (λ r. From 0 p.whole.nodes (pat_part r.0))) }
-    ensures headline { IsHeeded ctx syntax → IsModernAt at ctx (take end text.now) → IfSome result
-        (λ p. Headline B.is_faithful B.forms Pat pat_at ctx syntax (tokens_at at ctx (take end text.now))
+    ensures headline { IsHeeded ctx syntax → IsModernAt at ctx (take end (T.bytes text)) → IfSome result
+        (λ p. Headline B.is_faithful B.forms Pat pat_at ctx syntax (tokens_at at ctx (take end (T.bytes text)))
         p.whole.read p.whole.nodes p.whole.recorded.items) }
     ensures front { IsHeeded ctx syntax → IfSome result (λ p. IfOk p.whole.read (λ r. p.whole.recorded.items ≡ []
-        → ReadsFront B.forms Pat ctx syntax (tokens_at at ctx (take end text.now)) r.1
+        → ReadsFront B.forms Pat ctx syntax (tokens_at at ctx (take end (T.bytes text))) r.1
         (pat_at p.whole.nodes r.0))) }
-    ensures stop { IfSome result (λ p. StopsAt (take end text.now)
+    ensures stop { IfSome result (λ p. StopsAt (take end (T.bytes text))
         (λ r. span_of (tree_at p.whole.nodes r.0.0)) p.whole.read p.stop) }
     ensures deep { IfSome result (λ p. wants_memory p.whole.read ≡ false → p.whole.too_deep ≡ false) }
     ensures unbounded { levels ≡ usize.MAX → IfSome result (λ p. p.whole.too_deep ≡ false) }
 {
-    match front_of(text, at, end) {
+    match part_of(text, at, end) {
         Some(front) => {
             let whole = pat_from(alloc, front, at, ctx, syntax, target, bodies, levels);
             let stop = match &whole.read {
-                Ok((pat, _)) => next_place(front, whole.nodes.pat_extent(*pat).hi),
+                Ok((pat, _)) => next_place(front.as_text(), whole.nodes.pat_extent(*pat).hi),
                 Err(fault) => fault.span().lo.0 as usize,
             };
             Some(TextPart { whole, stop })
@@ -168,9 +168,9 @@ pub fn parse_text_pat_at<'t, B: Bodies<TextInput<&'t str>>>(
 }
 
 /// Reads a text from a byte on as one expression.
-fn expr_from<'t, B: Bodies<TextInput<&'t str>>>(
+fn expr_from<T: SourceText, B: Bodies<TextInput<T>>>(
     alloc: Global,
-    text: &'t str,
+    text: T,
     at: usize,
     ctx: Context,
     syntax: Syntax,
@@ -178,13 +178,13 @@ fn expr_from<'t, B: Bodies<TextInput<&'t str>>>(
     bodies: B,
     levels: usize,
 ) -> Whole<ExprId, B>
-    requires { at ≤ length text.now }
+    requires { at ≤ length (T.bytes text) }
     ensures stands { IfOk result.read (λ r. From 0 result.nodes (expr_part r.0)) }
-    ensures headline { IsHeeded ctx syntax → IsModernAt at ctx text.now
-        → Headline B.is_faithful B.forms Expr tree_of ctx syntax (tokens_at at ctx text.now)
+    ensures headline { IsHeeded ctx syntax → IsModernAt at ctx (T.bytes text)
+        → Headline B.is_faithful B.forms Expr tree_of ctx syntax (tokens_at at ctx (T.bytes text))
         result.read result.nodes result.recorded.items }
     ensures front { IsHeeded ctx syntax → IfOk result.read (λ r. result.recorded.items ≡ []
-        → ReadsFront B.forms Expr ctx syntax (tokens_at at ctx text.now) r.1 (tree_of result.nodes r.0)) }
+        → ReadsFront B.forms Expr ctx syntax (tokens_at at ctx (T.bytes text)) r.1 (tree_of result.nodes r.0)) }
     ensures deep { wants_memory result.read ≡ false → result.too_deep ≡ false }
     ensures unbounded { levels ≡ usize.MAX → result.too_deep ≡ false }
 {
@@ -202,9 +202,9 @@ fn expr_from<'t, B: Bodies<TextInput<&'t str>>>(
 }
 
 /// Reads a text from a byte on as one binding pattern.
-fn pat_from<'t, B: Bodies<TextInput<&'t str>>>(
+fn pat_from<T: SourceText, B: Bodies<TextInput<T>>>(
     alloc: Global,
-    text: &'t str,
+    text: T,
     at: usize,
     ctx: Context,
     syntax: Syntax,
@@ -212,13 +212,13 @@ fn pat_from<'t, B: Bodies<TextInput<&'t str>>>(
     bodies: B,
     levels: usize,
 ) -> Whole<PatId, B>
-    requires { at ≤ length text.now }
+    requires { at ≤ length (T.bytes text) }
     ensures stands { IfOk result.read (λ r. From 0 result.nodes (pat_part r.0)) }
-    ensures headline { IsHeeded ctx syntax → IsModernAt at ctx text.now
-        → Headline B.is_faithful B.forms Pat pat_at ctx syntax (tokens_at at ctx text.now)
+    ensures headline { IsHeeded ctx syntax → IsModernAt at ctx (T.bytes text)
+        → Headline B.is_faithful B.forms Pat pat_at ctx syntax (tokens_at at ctx (T.bytes text))
         result.read result.nodes result.recorded.items }
     ensures front { IsHeeded ctx syntax → IfOk result.read (λ r. result.recorded.items ≡ []
-        → ReadsFront B.forms Pat ctx syntax (tokens_at at ctx text.now) r.1 (pat_at result.nodes r.0)) }
+        → ReadsFront B.forms Pat ctx syntax (tokens_at at ctx (T.bytes text)) r.1 (pat_at result.nodes r.0)) }
     ensures deep { wants_memory result.read ≡ false → result.too_deep ≡ false }
     ensures unbounded { levels ≡ usize.MAX → result.too_deep ≡ false }
 {
@@ -237,18 +237,15 @@ fn pat_from<'t, B: Bodies<TextInput<&'t str>>>(
 
 /// The text up to `end`, where the bytes from `at` to `end` are a part of it; `None` if `end` is before `at` or after the
 /// text's end, or either is within a character.
-pub fn front_of(text: &str, at: usize, end: usize) -> Option<&str>
-    ensures found { IsSome result ↔ IsPart text.now at end }
-    ensures front { IfSome result (λ front. front.now ≡ take end text.now) }
-    ensures within { IfSome result (λ front. at ≤ length front.now) }
+pub fn part_of<T: SourceText>(text: T, at: usize, end: usize) -> Option<T>
+    ensures found { IsSome result ↔ IsPart (T.bytes text) at end }
+    ensures front { IfSome result (λ front. T.bytes front ≡ take end (T.bytes text)) }
+    ensures within { IfSome result (λ front. at ≤ length (T.bytes front)) }
 {
-    if end < at || !text.is_char_boundary(at) {
+    if end < at || !text.as_text().is_char_boundary(at) {
         return None;
     }
-    match text.split_at_checked(end) {
-        Some((front, _)) => Some(front),
-        None => None,
-    }
+    text.up_to(end)
 }
 
 /// Where the first thing after a place begins, but for blanks and comments.

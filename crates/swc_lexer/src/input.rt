@@ -16,10 +16,18 @@ use swc_input::tokens::Tokens;
 
 /// What is or has a text.
 pub trait SourceText: Drop {
+    ghost use Rattle.std.specs.Prelude.{◌↔◌, take, IsSome, IfSome};
+    ghost use Rattle.std.specs.Str.{IsCharBoundary};
+
     ghost bytes: { Self → List ℕ };
 
     fn as_text(&self) -> &str
         ensures { result.now ≡ bytes self.now };
+
+    /// The text up to a byte; `None` where that is after its end or within a character.
+    fn up_to(self, end: usize) -> Option<Self>
+        ensures found { IsSome result ↔ IsCharBoundary (bytes self) end }
+        ensures front { IfSome result (λ front. bytes front ≡ take end (bytes self)) };
 }
 
 impl SourceText for &str {
@@ -28,6 +36,13 @@ impl SourceText for &str {
     fn as_text(&self) -> &str {
         self
     }
+
+    fn up_to(self, end: usize) -> Option<Self> {
+        match self.split_at_checked(end) {
+            Some((front, _)) => Some(front),
+            None => None,
+        }
+    }
 }
 
 impl SourceText for String {
@@ -35,6 +50,14 @@ impl SourceText for String {
 
     fn as_text(&self) -> &str {
         self.as_str()
+    }
+
+    fn up_to(mut self, end: usize) -> Option<Self> {
+        if !self.as_str().is_char_boundary(end) {
+            return None;
+        }
+        self.truncate(end);
+        Some(self)
     }
 }
 

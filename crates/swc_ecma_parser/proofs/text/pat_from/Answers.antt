@@ -8,9 +8,9 @@ use Rattle.swc_ecma_parser.proofs.text.pat_from.Goals as goal
 
 pub returns-clause-headline : goal.returns-clause-headline
 returns-clause-headline g c = λ heeded modern. headline-in (text_state c.new_at-source.result)
-    (new_state Whole c.args.at Operand c.args.text.now c.args.ctx c.args.syntax c.args.target) c.new_at-source.ensures.state
+    (new_state Whole c.args.at Operand (g.T.SourceText.bytes c.args.text) c.args.ctx c.args.syntax c.args.target) c.new_at-source.ensures.state
     (record {
-      known = new_known Whole c.args.at Operand c.args.text.now c.args.ctx c.args.syntax c.args.target modern;
+      known = new_known Whole c.args.at Operand (g.T.SourceText.bytes c.args.text) c.args.ctx c.args.syntax c.args.target modern;
       clean =
           refl;
     })
@@ -19,5 +19,5 @@ returns-clause-headline g c = λ heeded modern. headline-in (text_state c.new_at
 pub returns-clause-front : goal.returns-clause-front
 returns-clause-front g c = front-new-text g.B.BodyForms.forms Pat c.new_at-source.result pat_at
     c.read_whole_pat.result.read c.read_whole_pat.result.nodes c.read_whole_pat.result.recorded.items _
-    (new_state Whole c.args.at Operand c.args.text.now c.args.ctx c.args.syntax c.args.target) c.new_at-source.ensures.state refl
+    (new_state Whole c.args.at Operand (g.T.SourceText.bytes c.args.text) c.args.ctx c.args.syntax c.args.target) c.new_at-source.ensures.state refl
     c.new_at-source.ensures.coming c.read_whole_pat.ensures.front
