@@ -8,6 +8,7 @@
 - Links, paths and names of files are those of the repository; commands of `rt` are those that its help names.
 - A name in backquotes is a word of the sources, and one with parentheses a function there. DIFFERENCES.md also has names of the Rust crate.
 - The lines of code in CONTRIBUTING.md are lines of the sources. GRAMMAR.md names each production of Grammar.antt and no other.
+  INDEX.md names functions of the files that it has beside them.
 - The ring has as many functions as the documents say. The README has at most 900 words, and docs/ 26,000 but for API.md,
   which tests/api.py makes.
 
@@ -107,6 +108,13 @@ def code_faults(path, text, sources):
             yield '%s: no source has the line %s' % (path, line)
 
 
+def index_faults(document):
+    """Rows of INDEX.md whose function isn't in their file."""
+    for name, file in re.findall(r'^\| .* \| `(\w+)` \| ([\w/.]+) \|$', document, re.M):
+        if not os.path.exists('crates/' + file) or not re.search(r'\bfn %s\b' % name, read('crates/' + file)):
+            yield 'docs/INDEX.md: there is no %s in %s' % (name, file)
+
+
 def grammar_faults(grammar, document):
     there = set(re.findall(r'^  (%s) :.*Production ' % NAME, grammar, re.M))
     table = document[document.index('    Primary '):document.index('`Lhs true` is')]
@@ -136,6 +144,7 @@ def main():
             if int(count) != sources.count('#[cycle(productions)]\n'):
                 faults.append('%s: the ring has not %s functions' % (path, count))
     faults += code_faults('docs/CONTRIBUTING.md', texts['docs/CONTRIBUTING.md'], sources)
+    faults += index_faults(texts['docs/INDEX.md'])
     faults += grammar_faults(read('crates/swc_grammar/specs/Grammar.antt'), texts['docs/GRAMMAR.md'])
     for path, limit, size in (('README.md', 900, len(texts['README.md'].split())), ('docs', 26000, sum(len(texts[p].split()) for p in DOCS if p != 'docs/API.md'))):
         if size > limit:
