@@ -16,7 +16,8 @@ use swc_ecma_parser::bodies::token_bodies::TokenBodies;
 use swc_ecma_parser::context::context::{Context, EsVersion, Syntax};
 use swc_ecma_parser::context::span::{BytePos, Span};
 use swc_ecma_parser::printing::print::PrintNodes;
-use swc_ecma_parser::text::parse_text_expr_at;
+use swc_ecma_parser::text::{TextPart, parse_text_expr_at};
+use swc_ecma_parser::whole::Whole;
 use text_edits::edit::{Edit, edited};
 
 /// Writes what is asked of a text by the words of a client's name; `None` where there is no such client.
@@ -63,17 +64,24 @@ fn show_part(
     ) else {
         return out.push_str("no part");
     };
-    match part.whole.read {
+    let TextPart { whole, stop } = part;
+    let Whole {
+        read,
+        nodes,
+        recorded: _,
+        too_deep: _,
+    } = whole;
+    match read {
         Ok((expr, is_left)) => {
-            let Ok(tree) = part.whole.nodes.print_expr(expr) else {
+            let Ok(tree) = nodes.print_expr(expr) else {
                 return Err(AllocError);
             };
             let left = if is_left { "more" } else { "over" };
-            write!(out, "{tree} {left} {}", part.stop)
+            write!(out, "{tree} {left} {stop}")
         }
         Err(fault) => {
             show_refused(out, &Refusal::Fault(fault))?;
-            write!(out, " {}", part.stop)
+            write!(out, " {stop}")
         }
     }
 }
