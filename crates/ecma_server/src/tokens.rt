@@ -2,7 +2,6 @@
 use crate::documents::Document;
 use crate::kinds::{Kind, Kinds};
 use crate::lines::LineIndex;
-use crate::names::declared;
 use crate::settings::Settings;
 use program_names::names::{Name, Use, names};
 use program_tokens::texts::tokens_of;
