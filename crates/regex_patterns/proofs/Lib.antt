@@ -1,0 +1,13 @@
+pub mod Shifts
+pub mod Walks
+pub mod Words
+pub mod Lengths
+pub mod Strings
+pub mod Nested
+pub mod Placing
+pub mod Stacks
+pub mod Accepting
+pub mod Bytes
+pub mod Distinct
+pub mod Counts
+pub mod Wholes

@@ -1,0 +1,13 @@
+pub mod Units
+pub mod Signs
+pub mod Escapes
+pub mod Properties
+pub mod Names
+pub mod Classes
+pub mod Sets
+pub mod Quantifiers
+pub mod Pieces
+pub mod Grammar
+pub mod Groups
+pub mod Conditions
+pub mod Patterns
