@@ -81,18 +81,26 @@ fn by_flags(rest: &[u32]) -> Result<(Piece, usize), Wrong>
 {
     match modifiers(tail(rest, 2)) {
         Some(len) => Ok((Piece::Open(Group::Plain), 2 + len)),
-        None => Err(Wrong::new(fault_of_group(tail(rest, 2)), 0)),
+        None => Err(fault_of_group(tail(rest, 2))),
     }
 }
 
-/// What is wrong after `(?`.
-fn fault_of_group(rest: &[u32]) -> PatternFault {
-    let first = Run::Flags.len(rest);
-    if first > 0 || is_at(rest, first, '-') {
-        PatternFault::Modifiers
-    } else {
-        PatternFault::GroupUnknown
+/// What is wrong with a group that begins with `(?` and these units: the flag that is there twice is at fault, if one is.
+fn fault_of_group(rest: &[u32]) -> Wrong {
+    if Run::Flags.len(rest) == 0 && !is_at(rest, 0, '-') {
+        return Wrong::new(PatternFault::GroupUnknown, 0);
     }
+    let mut at = 0;
+    while at < rest.len() {
+        if rest[at] != 45 && !Run::Flags.has(rest[at]) {
+            return Wrong::new(PatternFault::Modifiers, 0);
+        }
+        if rest[..at].contains(&rest[at]) {
+            return Wrong::new(PatternFault::Modifiers, at).after(2);
+        }
+        at += 1;
+    }
+    Wrong::new(PatternFault::Modifiers, 0)
 }
 
 /// What begins a group, and how many units it takes.

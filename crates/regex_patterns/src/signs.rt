@@ -75,7 +75,7 @@ pub(crate) enum Run {
 }
 
 impl Run {
-    fn has(self, unit: u32) -> bool
+    pub(crate) fn has(self, unit: u32) -> bool
         ensures { result ≡ signs.has self unit }
     {
         match self {
