@@ -18,6 +18,9 @@ TOP = os.path.dirname(os.path.dirname(os.path.abspath(__file__)))
 RULES = os.path.join(TOP, 'tests', 'early_error_rules.txt')
 TABLE = os.path.join(TOP, 'docs', 'TESTS.md')
 MARKS = ('<!-- early errors -->\n', '<!-- /early errors -->\n')
+# What the V8 of node 20 judges otherwise: a call that is assigned to is an error when the program runs, what a class extends may have old octals, and it
+# knows neither groups of one name in different alternatives nor groups that change flags yet.
+APART_IN_V8 = ('a()++;', 'a() = b;', 'for (a() of b);', 'class A extends (010) {}', '/(?<a>b)|(?<a>c)/;', '/(?i-m:a)/;')
 V8 = """
 const vm = require('vm');
 const texts = JSON.parse(require('fs').readFileSync(0, 'utf8'));
@@ -104,7 +107,7 @@ def main():
         program = os.path.abspath(named[0] if named else os.path.join(TOP, 'crates/ecma/out/ecma'))
         refused = refused_by_ecma(program, texts)
     for (clause, rule, breaks, goal, text), is_refused in zip(rows, refused):
-        if breaks != is_refused:
+        if breaks != is_refused and not ('--v8' in arguments and text in APART_IN_V8):
             shown = text.replace('\n', '⏎')
             faults.append(f'{clause}: {rule}: {goal} | {shown} | {"refused" if is_refused else "taken"}')
     page = open(TABLE, encoding='utf-8').read()

@@ -8,7 +8,7 @@ use Rattle.regex_patterns.specs.declared.piece.Piece.{Piece}
 use Rattle.regex_patterns.specs.declared.piece.Piece.TheVariants.{Open, Close, Bar, Assertion, Quantifier, Atom, Number, Name}
 use Rattle.regex_patterns.specs.declared.piece.Placed.{Placed}
 
--- whether a quantifier may be after a group: not after one that looks behind; after one that looks ahead in old scripts
+-- whether a quantifier may be after a group: not after a lookbehind; after a lookahead in old scripts alone
 abbrev pub repeats : Mode → Group → Bool
 repeats m Capture = true
 repeats m Named = true
