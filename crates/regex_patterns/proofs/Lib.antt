@@ -11,3 +11,5 @@ pub mod Bytes
 pub mod Distinct
 pub mod Counts
 pub mod Wholes
+pub mod Positive
+pub mod ByGrammar

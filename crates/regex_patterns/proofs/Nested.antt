@@ -10,7 +10,7 @@ use Rattle.regex_patterns.proofs.Lengths.{longer-0, longer-more, longer-suc}
 use Rattle.regex_patterns.proofs.Walks.{apart, same}
 
 module _ (m : Mode) (us : List Set) (s : Set) where
-  passed : (k at : ℕ) (xs : List ℕ) → k ≤ length xs
+  pub passed : (k at : ℕ) (xs : List ℕ) → k ≤ length xs
       → sets_from m us s at k xs ≡ longer_by k (sets_from m us s (at + k) 0 (drop k xs))
   unfolding sets_from
   passed zero at xs le =
@@ -23,7 +23,7 @@ module _ (m : Mode) (us : List Set) (s : Set) where
       ∙ (let same : suc at + k ≡ at + suc k = omega arith in ap (λ i. longer_by (suc k) (sets_from m us s i 0 (drop k xs))) same)
 
 -- where no class begins or ends
-part_at : (m : Mode) (us : List Set) (s : Set) (at x : ℕ) (xs : List ℕ) → (x ≡ 93 → ⊥) → (x ≡ 91 → ⊥)
+pub part_at : (m : Mode) (us : List Set) (s : Set) (at x : ℕ) (xs : List ℕ) → (x ≡ 93 → ⊥) → (x ≡ 91 → ⊥)
     → sets_from m us s at 0 (x ∷ xs) ≡ after_part (part m s (x ∷ xs)) (λ t k. sets_from m us t (suc at) k xs)
 unfolding sets_from
 part_at m us s at x xs off not =
@@ -34,7 +34,7 @@ part_at m us s at x xs off not =
     else after_part (part m s (x ∷ xs)) (λ t k. sets_from m us t (suc at) k xs)) (apart x 91 not)
 
 module _ (m : Mode) (us : List Set) (s : Set) where
-  first : (xs : List ℕ) (at n : ℕ) (t : Set) → (slice_index_or xs 0 0 ≡ 93 → ⊥) → (slice_index_or xs 0 0 ≡ 91 → ⊥)
+  pub first : (xs : List ℕ) (at n : ℕ) (t : Set) → (slice_index_or xs 0 0 ≡ 93 → ⊥) → (slice_index_or xs 0 0 ≡ 91 → ⊥)
       → part m s xs ≡ Some (t, n) → 0 < n → n ≤ length xs
       → sets_from m us s at 0 xs ≡ longer_by n (sets_from m us t (at + n) 0 (drop n xs))
   first [] at n t off not is some le = absurd (omega (arith, some, le))
@@ -48,7 +48,7 @@ module _ (m : Mode) (us : List Set) (s : Set) where
       ∙ longer-suc n (sets_from m us t (suc at + n) 0 (drop n xs))
       ∙ ap (λ i. longer_by (suc n) (sets_from m us t i 0 (drop n xs))) same)
 
-  begins : (xs : List ℕ) (at n : ℕ) → slice_index_or xs 0 0 ≡ 91 → n ≡ opening xs → 0 < n → n ≤ length xs
+  pub begins : (xs : List ℕ) (at n : ℕ) → slice_index_or xs 0 0 ≡ 91 → n ≡ opening xs → 0 < n → n ≤ length xs
       → sets_from m us s at 0 xs ≡ longer_by n (sets_from m (s ∷ us) (begun at xs) (at + n) 0 (drop n xs))
   unfolding sets_from
   begins [] at n is is-n some le = absurd (omega (arith, some, le))

@@ -5,6 +5,7 @@ pub mod Properties
 pub mod Names
 pub mod Classes
 pub mod Sets
+pub mod ClassGrammar
 pub mod Quantifiers
 pub mod Pieces
 pub mod Grammar
