@@ -132,7 +132,7 @@ def items_of(file, only):
             continue
         if only is None or (owner or found[3]) in only:
             end = index
-            while end < len(lines) and lines[end].strip() not in ('{', '}') and not lines[end].rstrip().endswith(('{', ';')) or '{ ' in lines[end]:
+            while end < len(lines) and lines[end].strip() not in ('{', '}', '{}') and not lines[end].rstrip().endswith(('{', ';')) or '{ ' in lines[end]:
                 end += 1
             yield Item(owner, comment_before(lines, index), lines[index:end + 1])
 
