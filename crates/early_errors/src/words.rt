@@ -1,4 +1,6 @@
 // Words that are reserved in some code (ECMA-262, 12.7.2 and 13.1).
+ghost use Rattle.std.specs.Prelude.{◌≡◌};
+
 use crate::fault::EarlyErrorKind;
 use crate::walk::Walk;
 use std::alloc::AllocError;
@@ -36,7 +38,10 @@ fn is_strict_target(word: &str) -> bool {
 
 impl<'a> Walk<'a> {
     /// Notes what is wrong with a name that is declared or assigned to.
-    pub(crate) fn check_target(&mut self, name: &Ident) -> Result<(), AllocError> {
+    pub(crate) fn check_target(&mut self, name: &Ident) -> Result<(), AllocError>
+        ensures code { self.new.code ≡ self.old.code }
+        ensures tasks { self.new.tasks ≡ self.old.tasks }
+    {
         if self.code.strict && is_strict_target(name.sym.as_str()) {
             return self.fault(EarlyErrorKind::StrictTarget, name.span);
         }
@@ -44,7 +49,10 @@ impl<'a> Walk<'a> {
     }
 
     /// Notes what is wrong with a name: one that is declared, or a reference, or a label.
-    pub(crate) fn check_name(&mut self, name: &Ident) -> Result<(), AllocError> {
+    pub(crate) fn check_name(&mut self, name: &Ident) -> Result<(), AllocError>
+        ensures code { self.new.code ≡ self.old.code }
+        ensures tasks { self.new.tasks ≡ self.old.tasks }
+    {
         let word = name.sym.as_str();
         if word == "await" && self.code.reserves_await() {
             return self.fault(EarlyErrorKind::AwaitNamed, name.span);
@@ -63,7 +71,10 @@ impl<'a> Walk<'a> {
     }
 
     /// Notes what is wrong with a name that is declared by `let`, `const` or `class`.
-    pub(crate) fn check_let(&mut self, name: &Ident) -> Result<(), AllocError> {
+    pub(crate) fn check_let(&mut self, name: &Ident) -> Result<(), AllocError>
+        ensures code { self.new.code ≡ self.old.code }
+        ensures tasks { self.new.tasks ≡ self.old.tasks }
+    {
         if name.sym.as_str() == "let" {
             return self.fault(EarlyErrorKind::LetNamed, name.span);
         }

@@ -578,16 +578,16 @@ module _ (m : Mode) where
     after-it = refl;
   }
 
-  no-third-minus : {ys zs : List ℕ} {t : Bool} → Reads m Operand ys zs t → is_at ys 0 45 ≡ false
-  no-third-minus (nested (class {xs = xs} begins' p e)) = by xs begins'
+  begins-no-minus : {ys zs : List ℕ} {t : Bool} → Reads m Operand ys zs t → is_at ys 0 45 ≡ false
+  begins-no-minus (nested (class {xs = xs} begins' p e)) = by xs begins'
     where
       by : (xs : List ℕ) → is_at xs 0 91 ≡ true → is_at xs 0 45 ≡ false
       by [] is = refl
       by (x ∷ xs) is = ap (λ y. nat_eq y 45) (eq-of x 91 is)
-  no-third-minus (an-atom {xs = xs} {v = v} a) = no-minus m xs v a.len a.here
+  begins-no-minus (an-atom {xs = xs} {v = v} a) = no-minus m xs v a.len a.here
 
   no-next : {ys zs : List ℕ} {t : Bool} → Reads m Operand ys zs t → minus-next ys ≡ false
-  no-next {ys = ys} o = ap (λ b. b && not (is_at ys 1 45)) (no-third-minus o)
+  no-next {ys = ys} o = ap (λ b. b && not (is_at ys 1 45)) (begins-no-minus o)
 
   no-next-range : {ys zs : List ℕ} → IsRange m ys zs → minus-next ys ≡ false
   no-next-range {ys = ys} r = ap (λ b. b && not (is_at ys 1 45)) (no-minus m ys r.low r.first.len r.first.here)

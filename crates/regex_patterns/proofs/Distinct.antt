@@ -8,7 +8,7 @@ use Rattle.std.proofs.lemmas.List.{at_drop_more, at_drop_all}
 use Rattle.std.proofs.lemmas.List.Folds.{list_all-append, list_any-append}
 use Rattle.regex_patterns.specs.declared.mode.Mode.{Mode}
 use Rattle.regex_patterns.specs.declared.piece.Group.{Group}
-use Rattle.regex_patterns.specs.declared.piece.Group.TheVariants.{Capture, Named, Plain, Ahead, Behind}
+use Rattle.regex_patterns.specs.declared.piece.Group.TheVariants.{Capture, Named, Plain, Lookahead, Lookbehind}
 use Rattle.regex_patterns.specs.declared.piece.Piece.{Piece}
 use Rattle.regex_patterns.specs.declared.piece.Piece.TheVariants.{Open, Close, Bar, Assertion, Quantifier, Atom, Number, Name}
 use Rattle.regex_patterns.specs.declared.piece.Placed.{Placed}
@@ -425,8 +425,8 @@ module _ (units : List ℕ) where
   any_group Capture x y t xs ys opens closes w = plain_group x y Capture t xs ys opens refl closes w
   any_group Named x y t xs ys opens closes w = named_group x y t xs ys opens closes w
   any_group Plain x y t xs ys opens closes w = plain_group x y Plain t xs ys opens refl closes w
-  any_group Ahead x y t xs ys opens closes w = plain_group x y Ahead t xs ys opens refl closes w
-  any_group Behind x y t xs ys opens closes w = plain_group x y Behind t xs ys opens refl closes w
+  any_group Lookahead x y t xs ys opens closes w = plain_group x y Lookahead t xs ys opens refl closes w
+  any_group Lookbehind x y t xs ys opens closes w = plain_group x y Lookbehind t xs ys opens refl closes w
 
   with_quantifier : {q : Placed} {t : Tree} {xs ys : List Placed} → q.piece ≡ Quantifier → Walk t xs (q ∷ ys) → Walk (repeated t) xs ys
   unfolding names are_distinct

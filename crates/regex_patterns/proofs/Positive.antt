@@ -170,9 +170,6 @@ pub part-some : (m : Mode) (s t : Set) (xs : List ℕ) (n : ℕ) → part m s xs
 part-some m s t xs n is = subst PosSet is (part-pos m s xs)
 
 -- with what units no atom begins
-pub none-at : (m : Mode) → (x : ℕ) (xs : List ℕ) → (atom m [] ≡ None)
-none-at m x xs = refl
-
 pub not-close : (m : Mode) (x : ℕ) (xs : List ℕ) → x ≡ 93 → atom m (x ∷ xs) ≡ None
 not-close m x xs is = ap (λ y. atom m (y ∷ xs)) is
 

@@ -3,7 +3,7 @@
 use Rattle.std.specs.Prelude.{ℕ, suc, ◌+◌, Bool, true, false, not, ◌&&◌, if◌then◌else◌, nat_le, List, [], ◌∷◌, ◌++◌, Option, Some, None, drop}
 use Rattle.std.specs.List.{list_all, list_any}
 use Rattle.std.specs.Str.{bytes_eq}
-use Rattle.regex_patterns.specs.declared.piece.Group.TheVariants.{Capture, Named, Plain, Ahead, Behind}
+use Rattle.regex_patterns.specs.declared.piece.Group.TheVariants.{Capture, Named, Plain, Lookahead, Lookbehind}
 use Rattle.regex_patterns.specs.declared.piece.Piece.{Piece}
 use Rattle.regex_patterns.specs.declared.piece.Piece.TheVariants.{Open, Close, Bar, Assertion, Quantifier, Atom, Number, Name}
 use Rattle.regex_patterns.specs.declared.piece.Placed.{Placed}
@@ -15,8 +15,8 @@ abbrev pub captures : Piece → Bool
 captures (Open Capture) = true
 captures (Open Named) = true
 captures (Open Plain) = false
-captures (Open Ahead) = false
-captures (Open Behind) = false
+captures (Open Lookahead) = false
+captures (Open Lookbehind) = false
 captures Close = false
 captures Bar = false
 captures Assertion = false
@@ -29,8 +29,8 @@ abbrev pub is_named : Piece → Bool
 is_named (Open Capture) = false
 is_named (Open Named) = true
 is_named (Open Plain) = false
-is_named (Open Ahead) = false
-is_named (Open Behind) = false
+is_named (Open Lookahead) = false
+is_named (Open Lookbehind) = false
 is_named Close = false
 is_named Bar = false
 is_named Assertion = false

@@ -3,7 +3,7 @@
 use Rattle.std.specs.Prelude.{◌≡◌, Bool, true, false, not, List, ◌∷◌}
 use Rattle.regex_patterns.specs.declared.mode.Mode.{Mode}
 use Rattle.regex_patterns.specs.declared.piece.Group.{Group}
-use Rattle.regex_patterns.specs.declared.piece.Group.TheVariants.{Capture, Named, Plain, Ahead, Behind}
+use Rattle.regex_patterns.specs.declared.piece.Group.TheVariants.{Capture, Named, Plain, Lookahead, Lookbehind}
 use Rattle.regex_patterns.specs.declared.piece.Piece.{Piece}
 use Rattle.regex_patterns.specs.declared.piece.Piece.TheVariants.{Open, Close, Bar, Assertion, Quantifier, Atom, Number, Name}
 use Rattle.regex_patterns.specs.declared.piece.Placed.{Placed}
@@ -13,8 +13,8 @@ abbrev pub repeats : Mode → Group → Bool
 repeats m Capture = true
 repeats m Named = true
 repeats m Plain = true
-repeats m Ahead = not m.unicode
-repeats m Behind = false
+repeats m Lookahead = not m.unicode
+repeats m Lookbehind = false
 
 -- an atom that is one piece
 abbrev pub is_atom : Piece → Bool

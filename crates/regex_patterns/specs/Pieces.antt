@@ -3,7 +3,7 @@ use Rattle.std.specs.Prelude.{ℕ, zero, suc, ◌+◌, ◌-◌, Bool, not, ◌&&
 use Rattle.swc_lexical.specs.Runs.{is_at}
 use Rattle.regex_patterns.specs.declared.escape.Meaning.{Meaning}
 use Rattle.regex_patterns.specs.declared.mode.Mode.{Mode}
-use Rattle.regex_patterns.specs.declared.piece.Group.TheVariants.{Capture, Named, Plain, Ahead, Behind}
+use Rattle.regex_patterns.specs.declared.piece.Group.TheVariants.{Capture, Named, Plain, Lookahead, Lookbehind}
 use Rattle.regex_patterns.specs.declared.piece.Piece.{Piece}
 use Rattle.regex_patterns.specs.declared.piece.Piece.TheVariants.{Open, Close, Bar, Assertion, Quantifier, Atom, Number, Name}
 use Rattle.regex_patterns.specs.declared.piece.Placed.{Placed}
@@ -43,9 +43,9 @@ modifiers xs = modifiers_of xs (while_len (has Flags) xs)
 abbrev pub opener : List ℕ → Option (Piece × ℕ)
 opener xs =
     if not (is_at xs 1 63) then Some (Open Capture, 1)
-    else if is_at xs 2 61 || is_at xs 2 33 then Some (Open Ahead, 3)
+    else if is_at xs 2 61 || is_at xs 2 33 then Some (Open Lookahead, 3)
     else if is_at xs 2 60
-    then (if is_at xs 3 61 || is_at xs 3 33 then Some (Open Behind, 4) else as_piece (Open Named) (longer_by 3 (name_len (drop 3 xs))))
+    then (if is_at xs 3 61 || is_at xs 3 33 then Some (Open Lookbehind, 4) else as_piece (Open Named) (longer_by 3 (name_len (drop 3 xs))))
     else as_piece (Open Plain) (longer_by 2 (modifiers (drop 2 xs)))
 
 abbrev pub class : Mode → List ℕ → Option ℕ

@@ -87,7 +87,7 @@ pub(crate) fn is_named(piece: Piece) -> bool
     match piece {
         Piece::Open(group) => match group {
             Group::Named => true,
-            Group::Capture | Group::Plain | Group::Ahead | Group::Behind => false,
+            Group::Capture | Group::Plain | Group::Lookahead | Group::Lookbehind => false,
         },
         _ => false,
     }

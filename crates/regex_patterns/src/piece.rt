@@ -30,9 +30,9 @@ pub(crate) enum Group {
     /// `(?:`, with flags or not.
     Plain,
     /// `(?=` or `(?!`
-    Ahead,
+    Lookahead,
     /// `(?<=` or `(?<!`
-    Behind,
+    Lookbehind,
 }
 
 /// A piece of a pattern.
@@ -112,11 +112,11 @@ fn opener(rest: &[u32]) -> Result<(Piece, usize), Wrong>
     if !is_at(rest, 1, '?') {
         Ok((Piece::Open(Group::Capture), 1))
     } else if is_at(rest, 2, '=') || is_at(rest, 2, '!') {
-        Ok((Piece::Open(Group::Ahead), 3))
+        Ok((Piece::Open(Group::Lookahead), 3))
     } else if !is_at(rest, 2, '<') {
         by_flags(rest)
     } else if is_at(rest, 3, '=') || is_at(rest, 3, '!') {
-        Ok((Piece::Open(Group::Behind), 4))
+        Ok((Piece::Open(Group::Lookbehind), 4))
     } else {
         by_name(Piece::Open(Group::Named), rest)
     }

@@ -18,7 +18,7 @@ fn captures(piece: Piece) -> bool
     match piece {
         Piece::Open(group) => match group {
             Group::Capture | Group::Named => true,
-            Group::Plain | Group::Ahead | Group::Behind => false,
+            Group::Plain | Group::Lookahead | Group::Lookbehind => false,
         },
         _ => false,
     }

@@ -1,0 +1,5 @@
+pub mod Bytes
+pub mod Founds
+pub mod Stacks
+pub mod Layered
+pub mod Opened

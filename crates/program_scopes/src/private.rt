@@ -1,0 +1,117 @@
+// Private names of classes (ECMA-262, 15.7).
+ghost use Rattle.std.specs.Prelude.{◌≡◌, ℕ, List, [], ◌∷◌, IfOk};
+ghost use Rattle.program_scopes.specs.Layers as layers;
+ghost use Rattle.program_scopes.specs.Private as private;
+ghost use Rattle.program_scopes.specs.Private.{AreAround};
+ghost use Rattle.program_scopes.specs.declared.private.Declaration.{Declaration};
+
+use crate::layers::Layers;
+use std::alloc::{AllocError, Global};
+use swc_context::span::Span;
+
+/// What declares a private name.
+#[derive(Clone, Copy, PartialEq, Eq)]
+pub enum Form {
+    Getter,
+    Setter,
+    /// A field or a method.
+    Other,
+}
+
+/// A declaration of a private name in a class.
+#[derive(Clone, Copy)]
+pub struct Declaration {
+    pub form: Form,
+    pub is_static: bool,
+    pub place: Span,
+    /// Whether it is the first one of its name in the class.
+    pub is_first: bool,
+}
+
+/// The private names that the classes around declare, class by class.
+#[derive(Drop)]
+pub struct PrivateNames<'a> {
+    names: Layers<'a, Declaration>,
+}
+
+/// Whether one of two forms is a getter and the other a setter.
+fn are_two(one: Form, other: Form) -> bool
+    ensures { result ≡ private.are_two one other }
+{
+    matches!(
+        (one, other),
+        (Form::Getter, Form::Setter) | (Form::Setter, Form::Getter)
+    )
+}
+
+impl Declaration {
+    /// Whether another one of its name may be beside it: if one is a getter and the other a setter, both static or
+    /// neither, and there is no third.
+    fn makes_pair(self, form: Form, is_static: bool) -> bool
+        ensures { result ≡ private.makes_pair form is_static self }
+    {
+        self.is_first && self.is_static == is_static && are_two(self.form, form)
+    }
+}
+
+impl<'a> PrivateNames<'a> {
+    /// No names, outside of all classes. Takes no memory.
+    pub fn new(alloc: Global) -> PrivateNames<'a>
+        ensures { AreAround result ([] ∷ []) }
+    {
+        PrivateNames {
+            names: Layers::new(alloc),
+        }
+    }
+
+    /// Begins a class. The only error is out of memory.
+    pub fn begin(&mut self) -> Result<(), AllocError>
+        ensures { IfOk result (λ _. (ls : List (List (List ℕ × Declaration))) → AreAround self.old ls → AreAround self.new ([] ∷ ls)) }
+    {
+        self.names.begin()
+    }
+
+    /// The innermost class declares a name. Answers the place of a declaration that it must not be beside. The only
+    /// error is out of memory.
+    pub fn declare(
+        &mut self,
+        name: &'a str,
+        form: Form,
+        is_static: bool,
+        place: Span,
+    ) -> Result<Option<Span>, AllocError>
+        ensures against { IfOk result (λ first. (ls : List (List (List ℕ × Declaration))) → AreAround self.old ls → first ≡ private.against form is_static name.now ls) }
+        ensures declared { IfOk result (λ _. (ls : List (List (List ℕ × Declaration))) → AreAround self.old ls → AreAround self.new (private.declared name.now form is_static place ls)) }
+    {
+        let last = self.names.find(name);
+        let is_first = last.is_none();
+        self.names.push(
+            name,
+            Declaration {
+                form,
+                is_static,
+                place,
+                is_first,
+            },
+        )?;
+        Ok(match last {
+            Some(last) if last.makes_pair(form, is_static) => None,
+            Some(last) => Some(last.place),
+            None => None,
+        })
+    }
+
+    /// Ends the innermost class: its names are known no more.
+    pub fn end(&mut self)
+        ensures { (ls : List (List (List ℕ × Declaration))) → AreAround self.old ls → AreAround self.new (layers.ended ls) }
+    {
+        self.names.end();
+    }
+
+    /// Whether a class around declares the name.
+    pub fn has(&self, name: &str) -> bool
+        ensures { (ls : List (List (List ℕ × Declaration))) → AreAround self.now ls → result ≡ layers.is_in_any name.now ls }
+    {
+        self.names.has(name)
+    }
+}
