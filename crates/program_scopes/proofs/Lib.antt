@@ -3,3 +3,4 @@ pub mod Founds
 pub mod Stacks
 pub mod Layered
 pub mod Opened
+pub mod ByTree

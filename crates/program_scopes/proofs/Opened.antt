@@ -13,7 +13,7 @@ use Rattle.program_scopes.specs.declared.names.Mark.{Mark}
 use Rattle.program_scopes.specs.declared.names.Names.{Names}
 use Rattle.program_scopes.specs.Stacks.{found, since}
 use Rattle.program_scopes.specs.Layers.{last}
-use Rattle.program_scopes.specs.Scopes.{Scope, Declared, excludes, blocking, against_var, against_parameter, against_in_block, is_declared, is_in_no_block, is_of_program, nothing, begun, ended, in_block, as_var}
+use Rattle.program_scopes.specs.Scopes.{Scope, Declared, excludes, blocking, against_var, var_beside, against_parameter, against_in_block, is_declared, is_in_no_block, is_of_program, nothing, begun, ended, in_block, as_var}
 use Rattle.program_scopes.specs.Scopes as scopes
 use Rattle.program_scopes.specs.Names as n
 use Rattle.program_scopes.specs.Names.{kept, kept_after, kept_in, kept_of, vars_of, before_function, mark_of, marks_of, AreOpen}
@@ -291,11 +291,11 @@ last-kept names q s ss are =
     ∙ ap (λ xs. since (length (kept_of ss)) (found q xs)) are.in_blocks ∙ last-of q (kept_in s.is_function ss s.lexical) (kept_of ss)
 
 pub against-block : (names : Names) (k : Lexical) (q : List ℕ) (ss : List Scope) → AreOpen names ss
-    → option_or (n.excluding k (since names.scope.in_blocks (found q names.in_blocks))) (since names.scope.vars (found q names.vars)) ≡ against_in_block k q ss
+    → option_or (n.excluding k (since names.scope.in_blocks (found q names.in_blocks))) (var_beside k (since names.scope.vars (found q names.vars))) ≡ against_in_block k q ss
 unfolding marks_of
 against-block names k q [] are = absurd (not-empty _ _ are.marks)
 against-block names k q (s ∷ ss) are =
-    ap2 option_or (ap (n.excluding k) (last-kept names q s ss are) ∙ picked s.is_function ss k q s.lexical) (against-parameter names q (s ∷ ss) are)
+    ap2 option_or (ap (n.excluding k) (last-kept names q s ss are) ∙ picked s.is_function ss k q s.lexical) (ap (var_beside k) (against-parameter names q (s ∷ ss) are))
 
 -- a name is declared
 pub has-block-name : (old new : Names) (k : Lexical) (q : List ℕ) (place : Span) (ss : List Scope) → AreOpen old ss

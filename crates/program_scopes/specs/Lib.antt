@@ -5,3 +5,4 @@ pub mod Scopes
 pub mod Names
 pub mod Labels
 pub mod Private
+pub mod Trees

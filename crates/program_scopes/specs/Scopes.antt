@@ -47,10 +47,14 @@ unfoldable pub blocking : List ℕ → List Declared → Option Span
 blocking q [] = None
 blocking q (d ∷ ds) = if bytes_eq q d.name && blocks_var d.kind then Some d.place else blocking q ds
 
+-- the `var` of a name, if there must not be one beside a declaration of that kind
+abbrev pub var_beside : Lexical → Option Span → Option Span
+var_beside kind var = if blocks_var kind then var else None
+
 -- what a name is against that the innermost scope declares: another one of that scope, or a `var` in it
 abbrev pub against_in_block : Lexical → List ℕ → List Scope → Option Span
 against_in_block kind q [] = None
-against_in_block kind q (s ∷ ss) = option_or (excluding kind q s.lexical) (last q s.vars)
+against_in_block kind q (s ∷ ss) = option_or (excluding kind q s.lexical) (var_beside kind (last q s.vars))
 
 -- what a `var` is against: a name of a scope around it, up to that of its function
 unfoldable pub against_var : List ℕ → List Scope → Option Span

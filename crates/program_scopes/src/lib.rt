@@ -12,6 +12,7 @@
 #![tactic(auto)]
 
 pub mod labels;
+pub mod laws;
 mod layers;
 pub mod name_stack;
 pub mod names;

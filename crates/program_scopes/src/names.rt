@@ -189,6 +189,16 @@ impl<'a> Names<'a> {
         since(self.vars.find(name), self.scope.vars)
     }
 
+    /// The same for a name of that kind, if there must not be both in one block.
+    fn var_beside(&self, name: &str, kind: Lexical) -> Option<Span>
+        ensures { (ss : List Scope) → AreOpen self.now ss → result ≡ scopes.var_beside kind (scopes.against_parameter name.now ss) }
+    {
+        match kind {
+            Lexical::Plain | Lexical::SloppyFunction => self.var_of(name),
+            Lexical::CatchName => None,
+        }
+    }
+
     /// What a `var` here is against.
     fn against_var(&self, name: &str) -> Option<Span>
         ensures { (ss : List Scope) → AreOpen self.now ss → result ≡ scopes.against_var name.now ss }
@@ -218,7 +228,7 @@ impl<'a> Names<'a> {
         let found = self.in_blocks.find(name);
         let last = since(found, self.scope.in_blocks);
         let innermost = since(found, self.scope.function);
-        let first = excluding(last, kind).or(self.var_of(name));
+        let first = excluding(last, kind).or(self.var_beside(name, kind));
         self.in_blocks
             .push(name, kept(place, kind, last, innermost))?;
         Ok(first)
