@@ -36,6 +36,7 @@ CRATES = [
     ('text_edits', 'edits of a text'),
     ('template_pieces', 'texts with expressions in them'),
     ('early_errors', 'early errors of programs'),
+    ('program_scopes', 'names, labels and private names of programs'),
     ('regex_patterns', 'patterns of regular expressions'),
     ('statement_outline', 'programs as text'),
     ('estree_json', 'programs as ESTree JSON'),

@@ -3,8 +3,7 @@ ghost use Rattle.std.specs.Prelude.{◌≡◌, ℕ, List, [], ◌∷◌, IfOk};
 ghost use Rattle.program_scopes.specs.Layers as layers;
 ghost use Rattle.program_scopes.specs.Layers.{AreLayers};
 
-use crate::name_stack::NameStack;
-use crate::since::since;
+use crate::name_stack::{NameStack, since};
 use std::alloc::{AllocError, Global};
 
 /// Things that have names, in layers. There is always one layer.

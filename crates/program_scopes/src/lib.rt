@@ -6,15 +6,13 @@
 //!
 //!     let mut names = Names::new(alloc);
 //!     names.begin_function()?;
-//!     names.declare_in_block("a", first, LexicalKind::Plain)?;
+//!     names.declare_in_block("a", first, Lexical::Plain)?;
 //!     let earlier = names.declare_in_function("a", second)?;
 //!     assert!(earlier == Some(first));
 #![tactic(auto)]
 
 pub mod labels;
-pub mod laws;
 mod layers;
 pub mod name_stack;
 pub mod names;
 pub mod private;
-mod since;

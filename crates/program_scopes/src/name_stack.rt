@@ -1,10 +1,9 @@
 // Things that have names, one on the other.
 ghost use Rattle.std.specs.Prelude.{◌≡◌, ℕ, List, [], ◌∷◌, IfOk, drop, length, ◌-◌, OnErr, IsSome};
-ghost use Rattle.program_scopes.specs.Stacks.{found};
+ghost use Rattle.program_scopes.specs.Stacks.{found, since};
 ghost use Rattle.program_scopes.specs.Linked.{place_in, Notes};
 ghost use Rattle.program_scopes.specs.Layers.{last};
 
-use crate::since::since;
 use std::alloc::{AllocError, Global};
 use std::collections::HashMap;
 use std::marker::Model;
@@ -36,6 +35,16 @@ fn note_again(last: &mut Last<'_>, name: &str, place: Option<usize>)
 {
     if let Some(known) = last.get_mut(name) {
         *known = place;
+    }
+}
+
+/// What was found, if at least so many things are under it.
+pub(crate) fn since<T: Copy>(found: Option<(usize, T)>, count: usize) -> Option<T>
+    ensures { result ≡ since count found }
+{
+    match found {
+        Some((index, value)) if count <= index => Some(value),
+        _ => None,
     }
 }
 

@@ -1,12 +1,12 @@
 // Which names are declared at the place that a walk over a program has reached (ECMA-262, 8.2).
-ghost use Rattle.std.specs.Prelude.{◌≡◌, true, false, if◌then◌else◌, List, [], ◌∷◌, IfOk};
+ghost use Rattle.std.specs.Prelude.{◌≡◌, ◌↔◌, true, false, if◌then◌else◌, List, [], ◌∷◌, IfOk};
 ghost use Rattle.program_scopes.specs.Scopes as scopes;
 ghost use Rattle.program_scopes.specs.Scopes.{Scope};
+ghost use Rattle.program_scopes.specs.Trees.{Tree, Passes, MeetsRules};
 ghost use Rattle.program_scopes.specs.Names as names;
 ghost use Rattle.program_scopes.specs.Names.{AreOpen};
 
-use crate::name_stack::NameStack;
-use crate::since::since;
+use crate::name_stack::{NameStack, since};
 use std::alloc::{AllocError, Global};
 use swc_context::span::Span;
 
@@ -264,3 +264,9 @@ impl<'a> Names<'a> {
         Ok(first)
     }
 }
+
+/// A walk over the scopes of a program, in the order of the text, finds nothing wrong if and only if the scopes meet the
+/// rules of ECMA-262.
+pub fn names_by_tree()
+    ensures law { (t : Tree) → Passes t (scopes.nothing true ∷ []) ↔ MeetsRules t }
+{}
