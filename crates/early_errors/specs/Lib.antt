@@ -1,1 +1,2 @@
 pub mod Strictness
+pub mod Faults
