@@ -18,6 +18,9 @@ module _ {T : Type 0} where
   abbrev pub is_in_any : List ℕ → List (List (List ℕ × T)) → Bool
   is_in_any q ls = list_any (λ l. list_any (λ x. bytes_eq q x.0) l) ls
 
+  abbrev pub begun : List (List (List ℕ × T)) → List (List (List ℕ × T))
+  begun ls = [] ∷ ls
+
   abbrev pub put : List ℕ → T → List (List (List ℕ × T)) → List (List (List ℕ × T))
   put q x [] = []
   put q x (l ∷ ls) = ((q, x) ∷ l) ∷ ls
@@ -45,3 +48,11 @@ module _ {T : Type 0} where
   pub record AreLayers (layers : Layers T) (ls : List (List (List ℕ × T))) : Type 0 where
     pub things : layers.things ≡ all_of ls
     pub marks : layers.under ∷ reverse layers.lower.items ≡ marks_of ls
+
+  -- the layers change so
+  abbrev pub Changes : Layers T → Layers T → (List (List (List ℕ × T)) → List (List (List ℕ × T))) → Type 0
+  Changes old new f = (ls : List (List (List ℕ × T))) → AreLayers old ls → AreLayers new (f ls)
+
+  -- this is so of the layers
+  abbrev pub Tells : {A : Type 0} → Layers T → (List (List (List ℕ × T)) → A) → A → Type 0
+  Tells layers f x = (ls : List (List (List ℕ × T))) → AreLayers layers ls → x ≡ f ls

@@ -70,3 +70,11 @@ pub record AreOpen (names : Names) (ss : List Scope) : Type 0 where
   pub in_blocks : names.in_blocks ≡ kept_of ss
   pub vars : names.vars ≡ vars_of ss
   pub marks : names.scope ∷ reverse names.around.items ≡ marks_of ss
+
+-- the scopes that are open change so
+abbrev pub Changes : Names → Names → (List Scope → List Scope) → Type 0
+Changes old new f = (ss : List Scope) → AreOpen old ss → AreOpen new (f ss)
+
+-- this is so of the scopes that are open
+abbrev pub Tells : {A : Type 0} → Names → (List Scope → A) → A → Type 0
+Tells names f x = (ss : List Scope) → AreOpen names ss → x ≡ f ss

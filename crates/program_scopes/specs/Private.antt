@@ -1,5 +1,5 @@
 -- The private names that the classes around declare, class by class, the innermost first (ECMA-262, 15.7.1).
-use Rattle.std.specs.Prelude.{ℕ, Bool, true, false, not, ◌&&◌, List, if◌then◌else◌, is_some, Option, None, Some}
+use Rattle.std.specs.Prelude.{◌≡◌, ℕ, Bool, true, false, not, ◌&&◌, List, if◌then◌else◌, is_some, Option, None, Some}
 use Rattle.swc_context.specs.declared.span.Span.{Span}
 use Rattle.program_scopes.specs.declared.private.Form.{Form}
 use Rattle.program_scopes.specs.declared.private.Form.TheVariants.{Getter, Setter, Other}
@@ -10,6 +10,14 @@ use Rattle.program_scopes.specs.Layers.{topmost, put, AreLayers}
 -- these names are declared, of each class
 abbrev pub AreAround : PrivateNames → List (List (List ℕ × Declaration)) → Type 0
 AreAround names ls = AreLayers names.names ls
+
+-- they change so
+abbrev pub Changes : PrivateNames → PrivateNames → (List (List (List ℕ × Declaration)) → List (List (List ℕ × Declaration))) → Type 0
+Changes old new f = (ls : List (List (List ℕ × Declaration))) → AreAround old ls → AreAround new (f ls)
+
+-- this is so of them
+abbrev pub Tells : {A : Type 0} → PrivateNames → (List (List (List ℕ × Declaration)) → A) → A → Type 0
+Tells all f x = (ls : List (List (List ℕ × Declaration))) → AreAround all ls → x ≡ f ls
 
 abbrev pub same : Bool → Bool → Bool
 same true b = b

@@ -1,9 +1,8 @@
 // Which labels are around a statement (ECMA-262, 14.13).
-ghost use Rattle.std.specs.Prelude.{◌≡◌, ℕ, List, [], ◌∷◌, IfOk};
+ghost use Rattle.std.specs.Prelude.{[], ◌∷◌, IfOk};
 ghost use Rattle.program_scopes.specs.Layers as layers;
 ghost use Rattle.program_scopes.specs.Labels as labels;
-ghost use Rattle.program_scopes.specs.Labels.{AreAround};
-ghost use Rattle.program_scopes.specs.declared.labels.Label.{Label};
+ghost use Rattle.program_scopes.specs.Labels.{AreAround, Changes, Tells};
 
 use crate::layers::Layers;
 use std::alloc::{AllocError, Global};
@@ -45,14 +44,14 @@ impl<'a> Labels<'a> {
 
     /// Begins a function, around whose statements are no labels yet. The only error is out of memory.
     pub fn begin_function(&mut self) -> Result<(), AllocError>
-        ensures { IfOk result (λ _. (ls : List (List (List ℕ × Label))) → AreAround self.old ls → AreAround self.new ([] ∷ ls)) }
+        ensures { IfOk result (λ _. Changes self.old self.new layers.begun) }
     {
         self.labels.begin()
     }
 
     /// Ends the innermost function.
     pub fn end_function(&mut self)
-        ensures { (ls : List (List (List ℕ × Label))) → AreAround self.old ls → AreAround self.new (layers.ended ls) }
+        ensures { Changes self.old self.new layers.ended }
     {
         self.labels.end();
     }
@@ -64,8 +63,8 @@ impl<'a> Labels<'a> {
         place: Span,
         is_loop: bool,
     ) -> Result<Option<Span>, AllocError>
-        ensures twice { IfOk result (λ first. (ls : List (List (List ℕ × Label))) → AreAround self.old ls → first ≡ labels.place name.now ls) }
-        ensures begun { IfOk result (λ _. (ls : List (List (List ℕ × Label))) → AreAround self.old ls → AreAround self.new (layers.put name.now (record { place = place; is_loop = is_loop }) ls)) }
+        ensures twice { IfOk result (λ first. Tells self.old (labels.place name.now) first) }
+        ensures begun { IfOk result (λ _. Changes self.old self.new (labels.begun name.now place is_loop)) }
     {
         let first = match self.labels.find(name) {
             Some(label) => Some(label.place),
@@ -77,21 +76,21 @@ impl<'a> Labels<'a> {
 
     /// Ends the statement of the last label.
     pub fn end(&mut self)
-        ensures { (ls : List (List (List ℕ × Label))) → AreAround self.old ls → AreAround self.new (layers.taken ls) }
+        ensures { Changes self.old self.new layers.taken }
     {
         self.labels.pop();
     }
 
     /// Whether a `break` may have the label.
     pub fn breaks(&self, name: &str) -> bool
-        ensures { (ls : List (List (List ℕ × Label))) → AreAround self.now ls → result ≡ labels.breaks name.now ls }
+        ensures { Tells self.now (labels.breaks name.now) result }
     {
         self.labels.find(name).is_some()
     }
 
     /// What a `continue` is to that has the label.
     pub fn continues(&self, name: &str) -> Target
-        ensures { (ls : List (List (List ℕ × Label))) → AreAround self.now ls → result ≡ labels.continues name.now ls }
+        ensures { Tells self.now (labels.continues name.now) result }
     {
         match self.labels.find(name) {
             Some(label) if label.is_loop => Target::Loop,

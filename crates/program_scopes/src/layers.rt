@@ -1,7 +1,7 @@
 // Things that have names, in layers: those of a function, say, on those of the functions around it.
-ghost use Rattle.std.specs.Prelude.{◌≡◌, ℕ, List, [], ◌∷◌, IfOk};
+ghost use Rattle.std.specs.Prelude.{[], ◌∷◌, IfOk};
 ghost use Rattle.program_scopes.specs.Layers as layers;
-ghost use Rattle.program_scopes.specs.Layers.{AreLayers};
+ghost use Rattle.program_scopes.specs.Layers.{AreLayers, Changes, Tells};
 
 use crate::name_stack::{NameStack, since};
 use std::alloc::{AllocError, Global};
@@ -30,7 +30,7 @@ impl<'a, T: Copy> Layers<'a, T> {
 
     /// Begins a layer. The only error is out of memory.
     pub fn begin(&mut self) -> Result<(), AllocError>
-        ensures { IfOk result (λ _. (ls : List (List (List ℕ × T))) → AreLayers self.old ls → AreLayers self.new ([] ∷ ls)) }
+        ensures { IfOk result (λ _. Changes self.old self.new layers.begun) }
     {
         self.lower.push(self.under)?;
         self.under = self.things.len();
@@ -39,7 +39,7 @@ impl<'a, T: Copy> Layers<'a, T> {
 
     /// Ends the topmost layer, if it is not the last.
     pub fn end(&mut self)
-        ensures { (ls : List (List (List ℕ × T))) → AreLayers self.old ls → AreLayers self.new (layers.ended ls) }
+        ensures { Changes self.old self.new layers.ended }
     {
         match self.lower.pop() {
             Some(under) => {
@@ -52,21 +52,21 @@ impl<'a, T: Copy> Layers<'a, T> {
 
     /// The topmost thing that has the name, if it is in the topmost layer.
     pub fn find(&self, name: &str) -> Option<T>
-        ensures { (ls : List (List (List ℕ × T))) → AreLayers self.now ls → result ≡ layers.topmost name.now ls }
+        ensures { Tells self.now (layers.topmost name.now) result }
     {
         since(self.things.find(name), self.under)
     }
 
     /// Whether a thing of any layer has the name.
     pub fn has(&self, name: &str) -> bool
-        ensures { (ls : List (List (List ℕ × T))) → AreLayers self.now ls → result ≡ layers.is_in_any name.now ls }
+        ensures { Tells self.now (layers.is_in_any name.now) result }
     {
         self.things.find(name).is_some()
     }
 
     /// Puts a thing on the topmost layer. The only error is out of memory.
     pub fn push(&mut self, name: &'a str, thing: T) -> Result<(), AllocError>
-        ensures { IfOk result (λ _. (ls : List (List (List ℕ × T))) → AreLayers self.old ls → AreLayers self.new (layers.put name.now thing ls)) }
+        ensures { IfOk result (λ _. Changes self.old self.new (layers.put name.now thing)) }
     {
         self.things.push(name, thing)?;
         Ok(())
@@ -74,7 +74,7 @@ impl<'a, T: Copy> Layers<'a, T> {
 
     /// Takes the last thing from the topmost layer, if it has one.
     pub fn pop(&mut self)
-        ensures { (ls : List (List (List ℕ × T))) → AreLayers self.old ls → AreLayers self.new (layers.taken ls) }
+        ensures { Changes self.old self.new layers.taken }
     {
         if self.things.len() > self.under {
             self.things.pop();

@@ -1,10 +1,9 @@
 // Which names are declared at the place that a walk over a program has reached (ECMA-262, 8.2).
-ghost use Rattle.std.specs.Prelude.{◌≡◌, ◌↔◌, true, false, if◌then◌else◌, List, [], ◌∷◌, IfOk};
+ghost use Rattle.std.specs.Prelude.{◌≡◌, ◌↔◌, true, false, if◌then◌else◌, [], ◌∷◌, IfOk};
 ghost use Rattle.program_scopes.specs.Scopes as scopes;
-ghost use Rattle.program_scopes.specs.Scopes.{Scope};
 ghost use Rattle.program_scopes.specs.Trees.{Tree, Passes, MeetsRules};
 ghost use Rattle.program_scopes.specs.Names as names;
-ghost use Rattle.program_scopes.specs.Names.{AreOpen};
+ghost use Rattle.program_scopes.specs.Names.{AreOpen, Changes, Tells};
 
 use crate::name_stack::{NameStack, since};
 use std::alloc::{AllocError, Global};
@@ -117,7 +116,7 @@ impl<'a> Names<'a> {
 
     /// Begins a scope.
     fn begin(&mut self, is_function: bool) -> Result<(), AllocError>
-        ensures { IfOk result (λ _. (ss : List Scope) → AreOpen self.old ss → AreOpen self.new (scopes.begun is_function ss)) }
+        ensures { IfOk result (λ _. Changes self.old self.new (scopes.begun is_function)) }
     {
         let in_blocks = self.in_blocks.len();
         let function = by_kind(is_function, in_blocks, self.scope.function);
@@ -133,14 +132,14 @@ impl<'a> Names<'a> {
 
     /// Begins the scope of a block. The only error is out of memory.
     pub fn begin_scope(&mut self) -> Result<(), AllocError>
-        ensures { IfOk result (λ _. (ss : List Scope) → AreOpen self.old ss → AreOpen self.new (scopes.begun false ss)) }
+        ensures { IfOk result (λ _. Changes self.old self.new (scopes.begun false)) }
     {
         self.begin(false)
     }
 
     /// Begins the scope of a function. The only error is out of memory.
     pub fn begin_function(&mut self) -> Result<(), AllocError>
-        ensures { IfOk result (λ _. (ss : List Scope) → AreOpen self.old ss → AreOpen self.new (scopes.begun true ss)) }
+        ensures { IfOk result (λ _. Changes self.old self.new (scopes.begun true)) }
     {
         self.begin(true)
     }
@@ -148,7 +147,7 @@ impl<'a> Names<'a> {
     /// Ends the innermost scope, if it is not that of the program. What was declared in a block as `var` does is then
     /// declared so in the scope around it.
     pub fn end(&mut self)
-        ensures { (ss : List Scope) → AreOpen self.old ss → AreOpen self.new (scopes.ended ss) }
+        ensures { Changes self.old self.new scopes.ended }
     {
         match self.around.pop() {
             Some(mark) => {
@@ -163,35 +162,35 @@ impl<'a> Names<'a> {
 
     /// Whether the innermost scope is that of the program.
     pub fn is_of_program(&self) -> bool
-        ensures { (ss : List Scope) → AreOpen self.now ss → result ≡ scopes.is_of_program ss }
+        ensures { Tells self.now scopes.is_of_program result }
     {
         self.around.is_empty()
     }
 
     /// Whether the innermost scope is that of a function or of the program.
     pub fn is_in_no_block(&self) -> bool
-        ensures { (ss : List Scope) → AreOpen self.now ss → result ≡ scopes.is_in_no_block ss }
+        ensures { Tells self.now scopes.is_in_no_block result }
     {
         self.scope.is_function
     }
 
     /// Whether an open scope declares the name.
     pub fn has(&self, name: &str) -> bool
-        ensures { (ss : List Scope) → AreOpen self.now ss → result ≡ scopes.is_declared name.now ss }
+        ensures { Tells self.now (scopes.is_declared name.now) result }
     {
         self.in_blocks.find(name).is_some() || self.vars.find(name).is_some()
     }
 
     /// Where the innermost scope declares the name as `var` does.
     fn var_of(&self, name: &str) -> Option<Span>
-        ensures { (ss : List Scope) → AreOpen self.now ss → result ≡ scopes.against_parameter name.now ss }
+        ensures { Tells self.now (scopes.against_parameter name.now) result }
     {
         since(self.vars.find(name), self.scope.vars)
     }
 
     /// The same for a name of that kind, if there must not be both in one block.
     fn var_beside(&self, name: &str, kind: Lexical) -> Option<Span>
-        ensures { (ss : List Scope) → AreOpen self.now ss → result ≡ scopes.var_beside kind (scopes.against_parameter name.now ss) }
+        ensures { Tells self.now (λ ss. scopes.var_beside kind (scopes.against_parameter name.now ss)) result }
     {
         match kind {
             Lexical::Plain | Lexical::SloppyFunction => self.var_of(name),
@@ -201,14 +200,14 @@ impl<'a> Names<'a> {
 
     /// What a `var` here is against.
     fn against_var(&self, name: &str) -> Option<Span>
-        ensures { (ss : List Scope) → AreOpen self.now ss → result ≡ scopes.against_var name.now ss }
+        ensures { Tells self.now (scopes.against_var name.now) result }
     {
         blocks(since(self.in_blocks.find(name), self.scope.function))
     }
 
     /// Declares a name as `var` does.
     fn put_var(&mut self, name: &'a str, place: Span) -> Result<(), AllocError>
-        ensures { IfOk result (λ _. (ss : List Scope) → AreOpen self.old ss → AreOpen self.new (scopes.as_var name.now place ss)) }
+        ensures { IfOk result (λ _. Changes self.old self.new (scopes.as_var name.now place)) }
     {
         self.vars.push(name, place)?;
         Ok(())
@@ -222,8 +221,8 @@ impl<'a> Names<'a> {
         place: Span,
         kind: Lexical,
     ) -> Result<Option<Span>, AllocError>
-        ensures against { IfOk result (λ first. (ss : List Scope) → AreOpen self.old ss → first ≡ scopes.against_in_block kind name.now ss) }
-        ensures declared { IfOk result (λ _. (ss : List Scope) → AreOpen self.old ss → AreOpen self.new (scopes.in_block name.now kind place ss)) }
+        ensures against { IfOk result (λ first. Tells self.old (scopes.against_in_block kind name.now) first) }
+        ensures declared { IfOk result (λ _. Changes self.old self.new (scopes.in_block name.now kind place)) }
     {
         let found = self.in_blocks.find(name);
         let last = since(found, self.scope.in_blocks);
@@ -241,8 +240,8 @@ impl<'a> Names<'a> {
         name: &'a str,
         place: Span,
     ) -> Result<Option<Span>, AllocError>
-        ensures against { IfOk result (λ first. (ss : List Scope) → AreOpen self.old ss → first ≡ scopes.against_var name.now ss) }
-        ensures declared { IfOk result (λ _. (ss : List Scope) → AreOpen self.old ss → AreOpen self.new (scopes.as_var name.now place ss)) }
+        ensures against { IfOk result (λ first. Tells self.old (scopes.against_var name.now) first) }
+        ensures declared { IfOk result (λ _. Changes self.old self.new (scopes.as_var name.now place)) }
     {
         let first = self.against_var(name);
         self.put_var(name, place)?;
@@ -256,8 +255,8 @@ impl<'a> Names<'a> {
         name: &'a str,
         place: Span,
     ) -> Result<Option<Span>, AllocError>
-        ensures against { IfOk result (λ first. (ss : List Scope) → AreOpen self.old ss → first ≡ scopes.against_parameter name.now ss) }
-        ensures declared { IfOk result (λ _. (ss : List Scope) → AreOpen self.old ss → AreOpen self.new (scopes.as_var name.now place ss)) }
+        ensures against { IfOk result (λ first. Tells self.old (scopes.against_parameter name.now) first) }
+        ensures declared { IfOk result (λ _. Changes self.old self.new (scopes.as_var name.now place)) }
     {
         let first = self.var_of(name);
         self.put_var(name, place)?;

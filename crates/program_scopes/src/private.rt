@@ -1,9 +1,8 @@
 // Private names of classes (ECMA-262, 15.7).
-ghost use Rattle.std.specs.Prelude.{◌≡◌, ℕ, List, [], ◌∷◌, IfOk};
+ghost use Rattle.std.specs.Prelude.{◌≡◌, [], ◌∷◌, IfOk};
 ghost use Rattle.program_scopes.specs.Layers as layers;
 ghost use Rattle.program_scopes.specs.Private as private;
-ghost use Rattle.program_scopes.specs.Private.{AreAround};
-ghost use Rattle.program_scopes.specs.declared.private.Declaration.{Declaration};
+ghost use Rattle.program_scopes.specs.Private.{AreAround, Changes, Tells};
 
 use crate::layers::Layers;
 use std::alloc::{AllocError, Global};
@@ -66,7 +65,7 @@ impl<'a> PrivateNames<'a> {
 
     /// Begins a class. The only error is out of memory.
     pub fn begin(&mut self) -> Result<(), AllocError>
-        ensures { IfOk result (λ _. (ls : List (List (List ℕ × Declaration))) → AreAround self.old ls → AreAround self.new ([] ∷ ls)) }
+        ensures { IfOk result (λ _. Changes self.old self.new layers.begun) }
     {
         self.names.begin()
     }
@@ -80,8 +79,8 @@ impl<'a> PrivateNames<'a> {
         is_static: bool,
         place: Span,
     ) -> Result<Option<Span>, AllocError>
-        ensures against { IfOk result (λ first. (ls : List (List (List ℕ × Declaration))) → AreAround self.old ls → first ≡ private.against form is_static name.now ls) }
-        ensures declared { IfOk result (λ _. (ls : List (List (List ℕ × Declaration))) → AreAround self.old ls → AreAround self.new (private.declared name.now form is_static place ls)) }
+        ensures against { IfOk result (λ first. Tells self.old (private.against form is_static name.now) first) }
+        ensures declared { IfOk result (λ _. Changes self.old self.new (private.declared name.now form is_static place)) }
     {
         let last = self.names.find(name);
         let is_first = last.is_none();
@@ -103,14 +102,14 @@ impl<'a> PrivateNames<'a> {
 
     /// Ends the innermost class: its names are known no more.
     pub fn end(&mut self)
-        ensures { (ls : List (List (List ℕ × Declaration))) → AreAround self.old ls → AreAround self.new (layers.ended ls) }
+        ensures { Changes self.old self.new layers.ended }
     {
         self.names.end();
     }
 
     /// Whether a class around declares the name.
     pub fn has(&self, name: &str) -> bool
-        ensures { (ls : List (List (List ℕ × Declaration))) → AreAround self.now ls → result ≡ layers.is_in_any name.now ls }
+        ensures { Tells self.now (layers.is_in_any name.now) result }
     {
         self.names.has(name)
     }
