@@ -33,3 +33,10 @@ pub record Notes (old new : Walk) (more : List EarlyError) : Type 0 where
   pub labels : new.labels ≡ old.labels
   pub private : new.private ≡ old.private
   pub exported : new.exported ≡ old.exported
+
+-- nothing that a walk knows of names is changed
+pub record Keeps (old new : Walk) : Type 0 where
+  pub names : new.names ≡ old.names
+  pub labels : new.labels ≡ old.labels
+  pub private : new.private ≡ old.private
+  pub exported : new.exported ≡ old.exported

@@ -1,2 +1,3 @@
 pub mod Strictness
 pub mod Faults
+pub mod Declarations

@@ -1,5 +1,6 @@
 // Words that are reserved in some code (ECMA-262, 12.7.2 and 13.1).
-ghost use Rattle.std.specs.Prelude.{◌≡◌};
+ghost use Rattle.std.specs.Prelude.{◌≡◌, IfOk};
+ghost use Rattle.early_errors.specs.Faults.{Keeps};
 
 use crate::fault::EarlyErrorKind;
 use crate::walk::Walk;
@@ -41,6 +42,7 @@ impl<'a> Walk<'a> {
     pub(crate) fn check_target(&mut self, name: &Ident) -> Result<(), AllocError>
         ensures code { self.new.code ≡ self.old.code }
         ensures tasks { self.new.tasks ≡ self.old.tasks }
+        ensures keeps { IfOk result (λ _. Keeps self.old self.new) }
     {
         if self.code.strict && is_strict_target(name.sym.as_str()) {
             return self.fault(EarlyErrorKind::StrictTarget, name.span);
@@ -52,6 +54,7 @@ impl<'a> Walk<'a> {
     pub(crate) fn check_name(&mut self, name: &Ident) -> Result<(), AllocError>
         ensures code { self.new.code ≡ self.old.code }
         ensures tasks { self.new.tasks ≡ self.old.tasks }
+        ensures keeps { IfOk result (λ _. Keeps self.old self.new) }
     {
         let word = name.sym.as_str();
         if word == "await" && self.code.reserves_await() {
@@ -74,6 +77,7 @@ impl<'a> Walk<'a> {
     pub(crate) fn check_let(&mut self, name: &Ident) -> Result<(), AllocError>
         ensures code { self.new.code ≡ self.old.code }
         ensures tasks { self.new.tasks ≡ self.old.tasks }
+        ensures keeps { IfOk result (λ _. Keeps self.old self.new) }
     {
         if name.sym.as_str() == "let" {
             return self.fault(EarlyErrorKind::LetNamed, name.span);
